@@ -1,0 +1,4 @@
+pub mod Number
+pub mod Bits
+pub mod Laws
+pub mod Pack
