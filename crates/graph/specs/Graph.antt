@@ -1,8 +1,11 @@
--- The state graph of a call plan, as the lists that a plan value stands for.
--- Document 01, "The plan and its edits". Assumes nothing.
-use Prim.Native.Nat.{ℕ}
+-- The state graph of a call plan, as the lists that a plan value stands for: its states and their marks, its transitions by number.
+-- Document 01, "The plan and its edits" and the first paragraph of "Routes and figures". Assumes nothing.
+use Prim.Native.Nat.{ℕ, _/_, _%_, _<_}
+use mathlib.Core.Path.{_≡_}
+use mathlib.Core.Bool.{Bool, true, false}
 use mathlib.Core.List.{List}
-use lib.ListN.{length}
+use lib.Dec.{eqb}
+use lib.ListN.{length, getD}
 
 -- "A transition has a from state, a to state, a low and a high duration in seconds"
 pub record Transition : Type 0 where
@@ -23,3 +26,64 @@ states g = length (g .marks)
 -- m, "the transition count"
 abbrev pub count : Graph → ℕ
 count g = length (g .transitions)
+
+-- the marks value of state s; 0, no mark, for a number that is no state's
+unfoldable pub marksOf : Graph → ℕ → ℕ
+marksOf g s = getD (g .marks) s 0
+
+-- "4 for start"
+unfoldable pub start : Graph → ℕ → Bool
+unfolding marksOf
+start g s = eqb (marksOf g s / 4 % 2) 1
+
+-- "2 for final (a person has answered)"
+unfoldable pub final : Graph → ℕ → Bool
+unfolding marksOf
+final g s = eqb (marksOf g s / 2 % 2) 1
+
+-- "1 for counted": which states count (E4 adds others, and the counts are over any yes-or-no on states)
+unfoldable pub counted : Graph → ℕ → Bool
+unfolding marksOf
+counted g s = eqb (marksOf g s % 2) 1
+
+-- the transition numbered t: "Transitions are numbered from 0 by place in the list"
+unfoldable pub transition : Graph → ℕ → Transition
+transition g t = getD (g .transitions) t (record { from = 0; to = 0; low = 0; high = 0 })
+
+unfoldable pub from : Graph → ℕ → ℕ
+unfolding transition
+from g t = (transition g t) .from
+
+unfoldable pub to : Graph → ℕ → ℕ
+unfolding transition
+to g t = (transition g t) .to
+
+unfoldable pub low : Graph → ℕ → ℕ
+unfolding transition
+low g t = (transition g t) .low
+
+unfoldable pub high : Graph → ℕ → ℕ
+unfolding transition
+high g t = (transition g t) .high
+
+-- t is one of the "transitions of the plan", and it departs from s
+pub record Departs (g : Graph) (s t : ℕ) : Type 0 where
+  pub listed : t < count g
+  pub source : from g t ≡ s
+
+-- a final state
+abbrev pub Final : Graph → ℕ → Type 0
+Final g s = final g s ≡ true
+
+-- "A state is unfinished when it isn't final."
+abbrev pub Unfinished : Graph → ℕ → Type 0
+Unfinished g s = final g s ≡ false
+
+-- "A dead end is an unfinished state that no transition leaves."
+pub record DeadEnd (g : Graph) (s : ℕ) : Type 0 where
+  pub unfinished : Unfinished g s
+  pub shut : (t : ℕ) → Departs g s t → ⊥
+
+-- what the theorems ask of a plan, and its limits give: every transition leads to a state of the plan ("a state number not below n" is refused)
+abbrev pub Closed : Graph → Type 0
+Closed g = (t : ℕ) → t < count g → to g t < states g

@@ -1,0 +1,106 @@
+-- The figures by computation, for any plan: list the walks of so many transitions and look among them.
+--
+-- This says what a figure IS in a form that can be computed, and not how to find one fast: the lists grow with the power of the transitions.
+-- A route that visits no state twice has fewer transitions than the plan has states, and n transitions in a row without an answer
+-- visit some state twice. So n is enough to look at. proofs/Least.antt and proofs/Greatest.antt show that what is computed here is what Figure.antt says.
+-- Assumes nothing.
+use Prim.Native.Nat.{ℕ, zero, suc, min, max}
+use mathlib.Core.Bool.{Bool, true, false, not, cond, _&&_}
+use mathlib.Core.List.{List, [], _∷_, _++_, map}
+use lib.Dec.{eqb}
+use Rattle.graph.specs.Graph.{Graph, states, count, start, final, from, to, counted}
+use Rattle.graph.specs.Route.{Cost, total}
+use Rattle.graph.specs.Figure.{Figure, number, NONE, STRANDED, ENDLESS, leastDelayCost, greatestDelayCost, countCost}
+
+module _ {A : Type 0} where
+  -- the list where the test says yes, and none of it where it says no
+  abbrev pub given : Bool → List A → List A
+  given true xs = xs
+  given false xs = []
+
+  -- f 0, f 1, .., f (n - 1), one after the other
+  abbrev pub gather : (ℕ → List A) → ℕ → List A
+  gather f zero = []
+  gather f (suc n) = gather f n ++ f n
+
+  abbrev pub nonempty : List A → Bool
+  nonempty [] = false
+  nonempty (x ∷ xs) = true
+
+-- the transitions that leave s
+unfoldable pub leaving : Graph → ℕ → List ℕ
+leaving g s = gather (λ t. given (eqb (from g t) s) (t ∷ [])) (count g)
+
+-- "A dead end is an unfinished state that no transition leaves."
+unfoldable pub deadEnd : Graph → ℕ → Bool
+unfolding leaving
+deadEnd g s = not (final g s) && not (nonempty (leaving g s))
+
+-- the walks of k transitions from s, through unfinished states to one where `stop` says yes
+unfoldable pub walks : Graph → (ℕ → Bool) → ℕ → ℕ → List (List ℕ)
+walks g stop zero s = given (stop s) ([] ∷ [])
+walks g stop (suc k) s =
+    given (not (final g s)) (gather (λ t. let rest = map (λ ts. t ∷ ts) (walks g stop k (to g t)) in given (eqb (from g t) s) rest) (count g))
+
+-- those that begin at a start, each with its start
+unfoldable pub begun : Graph → (ℕ → Bool) → ℕ → List (ℕ × List ℕ)
+unfolding walks
+begun g stop k = gather (λ s. let from-s = map (λ ts. (s, ts)) (walks g stop k s) in given (start g s) from-s) (states g)
+
+-- those of fewer than n transitions
+unfoldable pub within : Graph → (ℕ → Bool) → List (ℕ × List ℕ)
+unfolding begun
+within g stop = gather (begun g stop) (states g)
+
+-- what the routes of fewer than n transitions cost
+unfoldable pub costs : Graph → Cost → List ℕ
+unfolding within
+costs g c = map (λ r. total g c (r .0) (r .1)) (within g (final g))
+
+-- the smallest or largest of a list, for `pick` the smaller or larger of two; NONE of no number
+abbrev pub fold : (ℕ → ℕ → ℕ) → ℕ → List ℕ → ℕ
+fold pick x [] = x
+fold pick x (y ∷ ys) = pick y (fold pick x ys)
+
+abbrev pub extreme : (ℕ → ℕ → ℕ) → List ℕ → Figure
+extreme pick [] = NONE
+extreme pick (x ∷ xs) = number (fold pick x xs)
+
+-- is a state marked start; is there an endless walk; is there one to a dead end
+unfoldable pub anyStart : Graph → Bool
+anyStart g = nonempty (gather (λ s. given (start g s) (s ∷ [])) (states g))
+
+unfoldable pub anyEndless : Graph → Bool
+unfolding begun
+anyEndless g = nonempty (begun g (λ s. not (final g s)) (states g))
+
+unfoldable pub anyStranded : Graph → Bool
+unfolding within deadEnd
+anyStranded g = nonempty (within g (deadEnd g))
+
+-- "the smallest .. over all routes; NONE if there is no route"
+unfoldable pub least : Graph → Cost → Figure
+unfolding costs
+least g c = extreme min (costs g c)
+
+-- "first that applies"
+unfoldable pub greatest : Graph → Cost → Figure
+unfolding anyStart anyEndless anyStranded costs
+greatest g c = cond (not (anyStart g)) NONE (cond (anyEndless g) ENDLESS (cond (anyStranded g) STRANDED (extreme max (costs g c))))
+
+-- the four figures, "least delay, greatest delay, least count, greatest count in turn"
+unfoldable pub leastDelay : Graph → Figure
+unfolding least
+leastDelay g = least g (leastDelayCost g)
+
+unfoldable pub greatestDelay : Graph → Figure
+unfolding greatest
+greatestDelay g = greatest g (greatestDelayCost g)
+
+unfoldable pub leastCount : Graph → Figure
+unfolding least
+leastCount g = least g (countCost g)
+
+unfoldable pub greatestCount : Graph → Figure
+unfolding greatest
+greatestCount g = greatest g (countCost g)

@@ -1,0 +1,89 @@
+-- The figures: their kinds, when a figure is the least or the greatest one for a cost, and what is shown with it.
+-- Document 01, "Routes and figures", from "Least delay" on. Assumes nothing.
+use Prim.Native.Nat.{ℕ, zero, suc, _≤_, _<_}
+use mathlib.Core.Path.{_≡_}
+use mathlib.Core.Bool.{Bool, true, false}
+use mathlib.Core.List.{List, [], _∷_}
+use lib.ListN.{length, take}
+use Rattle.graph.specs.Graph.{Graph, start, counted}
+use Rattle.graph.specs.Walk.{Begins, visits, arrival, UnfinishedFrom, Different}
+use Rattle.graph.specs.Route.{Route, StrandedFrom, GoesOnForever, EndsUnanswered, Cost, total, lows, highs, counts}
+
+-- "its number or kind"
+pub data Figure : Type 0 where
+  number : ℕ → Figure
+  NONE STRANDED ENDLESS : Figure
+
+-- the record's kind: "0 number, 1 NONE, 2 STRANDED, 3 ENDLESS"
+abbrev pub kind : Figure → ℕ
+kind (number k) = 0
+kind NONE = 1
+kind STRANDED = 2
+kind ENDLESS = 3
+
+-- the record's figure: "zero unless the kind is 0"
+abbrev pub value : Figure → ℕ
+value (number k) = k
+value NONE = 0
+value STRANDED = 0
+value ENDLESS = 0
+
+-- k is what some route costs
+abbrev pub Attained : Graph → Cost → ℕ → Type 0
+Attained g c k = (s : ℕ) × (ts : List ℕ) × Route g s ts × (total g c s ts ≡ k)
+
+-- k is what some route costs, and every route's cost x is related to it
+pub record Extreme (before : ℕ → ℕ → Type 0) (g : Graph) (c : Cost) (k : ℕ) : Type 0 where
+  pub attained : Attained g c k
+  pub bound : (s : ℕ) (ts : List ℕ) → Route g s ts → before k (total g c s ts)
+
+-- "the smallest .. over all routes": no route costs less
+abbrev pub Smallest : Graph → Cost → ℕ → Type 0
+Smallest = Extreme (λ k x. k ≤ x)
+
+-- "the largest .. over all routes": no route costs more
+abbrev pub Largest : Graph → Cost → ℕ → Type 0
+Largest = Extreme (λ k x. x ≤ k)
+
+-- "the smallest sum of lows over all routes; NONE if there is no route", and so for the counts
+abbrev pub IsLeast : Graph → Cost → Figure → Type 0
+IsLeast g c (number k) = Smallest g c k
+IsLeast g c NONE = (s : ℕ) (ts : List ℕ) → Route g s ts → ⊥
+IsLeast g c STRANDED = ⊥
+IsLeast g c ENDLESS = ⊥
+
+-- "no state is marked start"
+abbrev pub NoStart : Graph → Type 0
+NoStart g = (s : ℕ) → start g s ≡ true → ⊥
+
+-- "first that applies: NONE if no state is marked start; ENDLESS if an endless walk of unfinished states exists; STRANDED if a walk of
+-- unfinished states ends in a dead end; else the largest .. over all routes"
+abbrev pub IsGreatest : Graph → Cost → Figure → Type 0
+IsGreatest g c NONE = NoStart g
+IsGreatest g c ENDLESS = (NoStart g → ⊥) × GoesOnForever g
+IsGreatest g c STRANDED = (NoStart g → ⊥) × (GoesOnForever g → ⊥) × EndsUnanswered g
+IsGreatest g c (number k) = (NoStart g → ⊥) × (GoesOnForever g → ⊥) × (EndsUnanswered g → ⊥) × Largest g c k
+
+-- the four figures, and the cost of each
+abbrev pub leastDelayCost : Graph → Cost
+leastDelayCost g = lows g
+
+abbrev pub greatestDelayCost : Graph → Cost
+greatestDelayCost g = highs g
+
+abbrev pub countCost : Graph → Cost
+countCost g = counts g (counted g)
+
+-- ---- what is shown
+
+-- the walk of transition numbers ts, k of them, with the place j, is as 01 asks for the figure:
+abbrev pub Shown : Graph → Cost → Figure → List ℕ → ℕ → Type 0
+-- "For a number: a route that attains the figure and visits no state twice."
+Shown g c (number k) ts j = (s : ℕ) × Route g s ts × (total g c s ts ≡ k) × Different (visits g s ts)
+-- "For STRANDED: an unfinished walk to a dead end, no state twice."
+Shown g c STRANDED ts j = (s : ℕ) × Begins g s × StrandedFrom g s ts × Different (visits g s ts)
+-- "For ENDLESS: an unfinished walk and a place j below k, where the state after k transitions is the state after j, and the first k states differ."
+Shown g c ENDLESS ts j =
+    (s : ℕ) × Begins g s × UnfinishedFrom g s ts × (j < length ts) × (arrival g s ts ≡ arrival g s (take j ts)) × Different (take (length ts) (visits g s ts))
+-- "For NONE: k is 0."
+Shown g c NONE ts j = length ts ≡ 0

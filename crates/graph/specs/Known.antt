@@ -1,0 +1,87 @@
+-- The plans with known figures, P1 to P9, and the plans that mislead: document 01, "Plans with known figures" and "What misleads people here".
+-- proofs/Known.antt proves `Holds` of every row. Assumes nothing.
+use Prim.Native.Nat.{ℕ}
+use mathlib.Core.List.{List, [], _∷_}
+use Rattle.graph.specs.Graph.{Graph, Transition}
+use Rattle.graph.specs.Figure.{Figure, number, NONE, STRANDED, ENDLESS, IsLeast, IsGreatest, leastDelayCost, greatestDelayCost, countCost}
+
+-- "a→b 1..9 is a transition with its durations"
+abbrev pub join : ℕ → ℕ → ℕ → ℕ → Transition
+join a b l h = record { from = a; to = b; low = l; high = h }
+
+-- a plan, and its "figures in record order"
+pub record Row : Type 0 where
+  pub plan : Graph
+  pub least-delay : Figure
+  pub greatest-delay : Figure
+  pub least-count : Figure
+  pub greatest-count : Figure
+
+abbrev pub row : List ℕ → List Transition → Figure → Figure → Figure → Figure → Row
+row ms ts ld gd lc gc = record { plan = record { marks = ms; transitions = ts }; least-delay = ld; greatest-delay = gd; least-count = lc; greatest-count = gc }
+
+-- the row's figures are the plan's, by the rules of Figure.antt
+pub record Holds (r : Row) : Type 0 where
+  pub least-delay : IsLeast (r .plan) (leastDelayCost (r .plan)) (r .least-delay)
+  pub greatest-delay : IsGreatest (r .plan) (greatestDelayCost (r .plan)) (r .greatest-delay)
+  pub least-count : IsLeast (r .plan) (countCost (r .plan)) (r .least-count)
+  pub greatest-count : IsGreatest (r .plan) (countCost (r .plan)) (r .greatest-count)
+
+-- the 28 octets of "Plans with known figures": four states, the first a start, two counted ones, and the last final
+abbrev pub P1-transitions : List Transition
+P1-transitions = join 0 1 5 20 ∷ join 1 2 3 15 ∷ join 1 3 2 30 ∷ join 2 3 4 25 ∷ []
+
+abbrev pub P1 : Row
+P1 = row (4 ∷ 1 ∷ 1 ∷ 2 ∷ []) P1-transitions (number 7) (number 60) (number 1) (number 2)
+
+-- "one state, marks 7: 0, 0, 1, 1"
+abbrev pub P2 : Row
+P2 = row (7 ∷ []) [] (number 0) (number 0) (number 1) (number 1)
+
+-- "two states, no transitions: NONE, STRANDED, NONE, STRANDED"
+abbrev pub P3 : Row
+P3 = row (4 ∷ 2 ∷ []) [] NONE STRANDED NONE STRANDED
+
+-- "0→0 0..0, 0→1 1..1: 1, ENDLESS, 0, ENDLESS"
+abbrev pub P4 : Row
+P4 = row (4 ∷ 2 ∷ []) (join 0 0 0 0 ∷ join 0 1 1 1 ∷ []) (number 1) ENDLESS (number 0) ENDLESS
+
+-- "P1 with no start: NONE four times"
+abbrev pub P5 : Row
+P5 = row (0 ∷ 1 ∷ 1 ∷ 2 ∷ []) P1-transitions NONE NONE NONE NONE
+
+-- "0→1 1..9, 0→1 3..4: 1, 9, 0, 0"
+abbrev pub P6 : Row
+P6 = row (4 ∷ 2 ∷ []) (join 0 1 1 9 ∷ join 0 1 3 4 ∷ []) (number 1) (number 9) (number 0) (number 0)
+
+-- "0→1 2..3, 2→2 1..1: 2, 3, 0, 0"
+abbrev pub P7 : Row
+P7 = row (4 ∷ 2 ∷ 0 ∷ []) (join 0 1 2 3 ∷ join 2 2 1 1 ∷ []) (number 2) (number 3) (number 0) (number 0)
+
+-- "0→1 1..2, 1→1 5..5: 1, 2, 0, 0"
+abbrev pub P8 : Row
+P8 = row (4 ∷ 2 ∷ []) (join 0 1 1 2 ∷ join 1 1 5 5 ∷ []) (number 1) (number 2) (number 0) (number 0)
+
+-- "state 1 unmarked, 0→0 1..1, 0→1 1..1: NONE, ENDLESS, NONE, ENDLESS"
+abbrev pub P9 : Row
+P9 = row (4 ∷ 0 ∷ []) (join 0 0 1 1 ∷ join 0 1 1 1 ∷ []) NONE ENDLESS NONE ENDLESS
+
+abbrev pub known : List Row
+known = P1 ∷ P2 ∷ P3 ∷ P4 ∷ P5 ∷ P6 ∷ P7 ∷ P8 ∷ P9 ∷ []
+
+-- ---- "What misleads people here": P8, P7 and P4 above, and three rows of our own
+
+-- "Letting a loop or dead end that no start reaches turn the greatest figure": P7 without its loop, so that state 2 is a dead end that nothing reaches
+abbrev pub unreached-dead-end : Row
+unreached-dead-end = row (4 ∷ 2 ∷ 0 ∷ []) (join 0 1 2 3 ∷ []) (number 2) (number 3) (number 0) (number 0)
+
+-- "Reading upper's result at a dead end as a delay: its walk has no answer": 9 seconds lead to the dead end 2, and the answer comes after 1
+abbrev pub reached-dead-end : Row
+reached-dead-end = row (4 ∷ 2 ∷ 0 ∷ []) (join 0 1 1 1 ∷ join 0 2 9 9 ∷ []) (number 1) STRANDED (number 0) STRANDED
+
+-- "Counting neither the first nor the last state": both are counted here, and they are all
+abbrev pub counted-ends : Row
+counted-ends = row (5 ∷ 3 ∷ []) (join 0 1 1 1 ∷ []) (number 1) (number 1) (number 2) (number 2)
+
+abbrev pub misleading : List Row
+misleading = unreached-dead-end ∷ reached-dead-end ∷ counted-ends ∷ []

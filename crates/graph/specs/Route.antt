@@ -1,0 +1,80 @@
+-- Routes, and what a route costs. Document 01, "Routes and figures", first and second paragraph.
+--
+-- A cost is one number for each transition and one for the last state. Delays and counts are costs, so whatever is said and proved of a
+-- cost holds of both. Assumes nothing.
+use Prim.Native.Nat.{ℕ, zero, suc, _+_, _≤_}
+use mathlib.Core.Path.{_≡_}
+use mathlib.Core.Bool.{Bool, true, false}
+use mathlib.Core.List.{List, [], _∷_, map}
+use Rattle.graph.specs.Graph.{Graph, from, to, low, high, counted, Final, Unfinished, DeadEnd}
+use Rattle.graph.specs.Walk.{Begins, WalkTo, visits, UnfinishedFrom, EndlessWalk}
+
+-- a "walk whose last state is final and no earlier one is", from any state
+abbrev pub RouteFrom : Graph → ℕ → List ℕ → Type 0
+RouteFrom g = WalkTo g (Unfinished g) (Final g)
+
+-- "A route is a finite walk whose last state is final and no earlier one is."
+abbrev pub Route : Graph → ℕ → List ℕ → Type 0
+Route g s ts = Begins g s × RouteFrom g s ts
+
+-- "A start leads to an answer when a route begins at it."
+abbrev pub LeadsToAnswer : Graph → ℕ → Type 0
+LeadsToAnswer g s = (ts : List ℕ) × Route g s ts
+
+-- "A telephone call can go on forever unanswered when an endless walk of unfinished states exists"
+abbrev pub GoesOnForever : Graph → Type 0
+GoesOnForever g = EndlessWalk g
+
+-- a walk of unfinished states that ends in a dead end, from any state
+abbrev pub StrandedFrom : Graph → ℕ → List ℕ → Type 0
+StrandedFrom g = WalkTo g (Unfinished g) (DeadEnd g)
+
+-- ".. and one can end unanswered when a walk of unfinished states ends in a dead end."
+abbrev pub EndsUnanswered : Graph → Type 0
+EndsUnanswered g = (s : ℕ) × (ts : List ℕ) × Begins g s × StrandedFrom g s ts
+
+-- ---- costs
+
+-- what the transition numbered t costs, and what the last state adds
+pub record Cost : Type 0 where
+  pub step : ℕ → ℕ
+  pub close : ℕ → ℕ
+
+-- the cost of the walk from s by ts
+abbrev pub total : Graph → Cost → ℕ → List ℕ → ℕ
+total g c s [] = c .close s
+total g c s (t ∷ ts) = c .step t + total g c (to g t) ts
+
+-- WHAT A TRANSITION COSTS (E2): "A route's delay is the sum of its lows for a least figure ..
+abbrev pub lows : Graph → Cost
+lows g = record { step = low g; close = λ s. 0 }
+
+-- .. and of its highs for a greatest one."
+abbrev pub highs : Graph → Cost
+highs g = record { step = high g; close = λ s. 0 }
+
+-- 1 for yes, 0 for no
+abbrev pub one : Bool → ℕ
+one true = 1
+one false = 0
+
+-- "Its count is the number of counted states on it, first and last included, one for each visit", over any yes-or-no on states:
+-- each transition counts the state that it leaves, and the last state is added
+abbrev pub counts : Graph → (ℕ → Bool) → Cost
+counts g p = record { step = λ t. one (p (from g t)); close = λ s. one (p s) }
+
+-- the same in 01's own words, to hold `total` against (`delay-is` and `count-is` of proofs/Cost.antt): the sum over the transitions,
+-- and the number of states on the walk of which p says yes
+abbrev pub sum : List ℕ → ℕ
+sum [] = 0
+sum (x ∷ xs) = x + sum xs
+
+abbrev pub tally : (ℕ → Bool) → List ℕ → ℕ
+tally p [] = 0
+tally p (s ∷ ss) = one (p s) + tally p ss
+
+abbrev pub delay : (ℕ → ℕ) → List ℕ → ℕ
+delay duration ts = sum (map duration ts)
+
+abbrev pub number-on : Graph → (ℕ → Bool) → ℕ → List ℕ → ℕ
+number-on g p s ts = tally p (visits g s ts)

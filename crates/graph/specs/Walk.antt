@@ -1,0 +1,47 @@
+-- Walks by transition numbers. Document 01, "Routes and figures", first paragraph.
+--
+-- A walk is a state, where it begins, and a list of transition numbers: the states on it follow. What a walk must meet is said of any state
+-- to begin at; `Begins` alone says at which states the walks of a plan do begin. Assumes nothing.
+use Prim.Native.Nat.{ℕ, zero, suc, _<_}
+use mathlib.Core.Path.{_≡_}
+use mathlib.Core.Bool.{true, false}
+use mathlib.Core.List.{List, [], _∷_}
+use lib.ListN.{length, getD}
+use Rattle.graph.specs.Graph.{Graph, start, final, to, Departs, Unfinished}
+
+-- HOW A WALK BEGINS: "A walk is a start state followed by .." (E5 changes this)
+abbrev pub Begins : Graph → ℕ → Type 0
+Begins g s = start g s ≡ true
+
+-- ".. transitions of the plan, each departing where the one before arrived": the list ts walked from s.
+-- `pass` holds of each state that the walk goes on from, and `stop` of the last one.
+abbrev pub WalkTo : Graph → (ℕ → Type 0) → (ℕ → Type 0) → ℕ → List ℕ → Type 0
+WalkTo g pass stop s [] = stop s
+WalkTo g pass stop s (t ∷ ts) = pass s × Departs g s t × WalkTo g pass stop (to g t) ts
+
+-- the states on the walk, first and last included, one for each visit
+abbrev pub visits : Graph → ℕ → List ℕ → List ℕ
+visits g s [] = s ∷ []
+visits g s (t ∷ ts) = s ∷ visits g (to g t) ts
+
+-- the last state of the walk
+abbrev pub arrival : Graph → ℕ → List ℕ → ℕ
+arrival g s [] = s
+arrival g s (t ∷ ts) = arrival g (to g t) ts
+
+-- "a walk of unfinished states", from any state
+abbrev pub UnfinishedFrom : Graph → ℕ → List ℕ → Type 0
+UnfinishedFrom g = WalkTo g (Unfinished g) (Unfinished g)
+
+-- "visits no state twice": no two places of the list hold the same
+abbrev pub Different : List ℕ → Type 0
+Different xs = (i j : ℕ) → i < j → j < length xs → getD xs i 0 ≡ getD xs j 0 → ⊥
+
+-- "an endless walk of unfinished states": a state and a transition for every number, so it never ends
+pub record EndlessWalk (g : Graph) : Type 0 where
+  pub state : ℕ → ℕ
+  pub taken : ℕ → ℕ
+  pub begins : Begins g (state 0)
+  pub departs : (i : ℕ) → Departs g (state i) (taken i)
+  pub arrives : (i : ℕ) → to g (taken i) ≡ state (suc i)
+  pub unfinished : (i : ℕ) → Unfinished g (state i)
