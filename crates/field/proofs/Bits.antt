@@ -9,7 +9,7 @@ use native.Mathlib.Nat.{lt-of-lt-of-le, min-le-left, mul-zero, zero-add, suc-add
 use native.Mathlib.Omega.{arith}
 use lib.ListN.{length, getD, take, drop, length-append, length-take, length-drop, take-append-drop}
 use lib.Pow.{pow-mono}
-use lib.Seq.{length-take-le, take-at, drop-at, drop-cons, drop-nil, take-nil}
+use lib.Seq.{length-take-le, take-at, drop-at, drop-cons, drop-nil, take-nil, take-take}
 use Rattle.field.specs.Field.{bit, number, bitsOf, bits, octetsOf, fieldAt, Octets}
 use Rattle.field.proofs.Number.{length-bitsOf, number-lt, number-bitsOf-lt, bitsOf-number-at}
 
@@ -92,6 +92,12 @@ drop-take zero b l = ap (λ (k : ℕ). take k l) (zero-add b)
 drop-take (suc a) b [] = ap (λ (k : ℕ). drop (suc a) (take k [])) (suc-add a b) ∙ sym (take-nil b)
 drop-take (suc a) b (x ∷ l) = ap (λ (k : ℕ). drop (suc a) (take k (x ∷ l))) (suc-add a b) ∙ drop-take a b l
 
+-- a part that lies within a front part
+pub within-front {ℓ} : {A : Type ℓ} (a w k : ℕ) (l : List A) → a + w ≤ k → take w (drop a (take k l)) ≡ take w (drop a l)
+within-front {A = A} a w k l h =
+    let d : k ≡ a + (k - a) = omega arith in
+    ap (λ (n : ℕ). take w (drop a (take n l))) d ∙ ap (λ (x : List A). take w x) (drop-take a (k - a) l) ∙ take-take w (k - a) (drop a l) (omega arith)
+
 -- two octet lists with the same bits are the same list
 pub same-bits : (xs ys : List ℕ) → Octets xs → Octets ys → bits xs ≡ bits ys → xs ≡ ys
 same-bits xs ys hx hy e =
@@ -106,7 +112,3 @@ octet-field os i ho h =
     sym (ap (λ (l : List Bool). number (take 8 l)) e
     ∙ ap number (take-at (bitsOf 8 (getD os i 0)) (bits (drop (suc i) os)) 8 (length-bitsOf 8 (getD os i 0)))
     ∙ number-bitsOf-lt 8 (getD os i 0) (ho i))
-
-pub append-none {ℓ} : {A : Type ℓ} (l : List A) → l ++ [] ≡ l
-append-none [] = refl
-append-none {A = A} (x ∷ l) = ap {B = List A} (λ (r : List A). x ∷ r) (append-none l)

@@ -12,7 +12,7 @@ use lib.Pow.{pow-mono}
 use lib.Seq.{length-take-le, take-at, drop-at, take-append-le, drop-append-le, take-take, drop-drop, take-add}
 use Rattle.field.specs.Field.{number, bitsOf, bits, octetsOf, fieldAt, withField, Octets}
 use Rattle.field.proofs.Number.{length-bitsOf, number-lt, number-bitsOf-lt}
-use Rattle.field.proofs.Bits.{length-bits, bits-take, bits-drop, length-octetsOf, octetsOf-octets, bits-octetsOf, same-bits, drop-take, take-octets, drop-octets}
+use Rattle.field.proofs.Bits.{length-bits, bits-take, bits-drop, length-octetsOf, octetsOf-octets, bits-octetsOf, same-bits, within-front, take-octets, drop-octets}
 
 -- a field is below 2^width
 pub field-lt : (os : List ℕ) (at w : ℕ) → fieldAt os at w < 2 ^ w
@@ -75,13 +75,9 @@ module _ (os : List ℕ) (at w v : ℕ) (h : at + w ≤ 8 * length os) where
   pub put-earlier : (at′ w′ : ℕ) → at′ + w′ ≤ at → fieldAt (withField os at w v) at′ w′ ≡ fieldAt os at′ w′
   unfolding fieldAt
   put-earlier at′ w′ e =
-      ap number (part (bits (withField os at w v)) ∙ ap (λ (l : List Bool). take w′ (drop at′ l)) put-before ∙ sym (part (bits os)))
-    where
-      part : (l : List Bool) → take w′ (drop at′ l) ≡ take w′ (drop at′ (take at l))
-      part l =
-          let d : at ≡ at′ + (at - at′) = omega arith in
-          sym (ap (λ (k : ℕ). take w′ (drop at′ (take k l))) d ∙ ap (λ (x : List Bool). take w′ x) (drop-take at′ (at - at′) l)
-          ∙ take-take w′ (at - at′) (drop at′ l) (omega arith))
+      ap number
+      (sym (within-front at′ w′ at (bits (withField os at w v)) e) ∙ ap (λ (l : List Bool). take w′ (drop at′ l)) put-before
+      ∙ within-front at′ w′ at (bits os) e)
 
   pub put-later : (at′ w′ : ℕ) → at + w ≤ at′ → fieldAt (withField os at w v) at′ w′ ≡ fieldAt os at′ w′
   unfolding fieldAt

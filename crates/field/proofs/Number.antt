@@ -76,16 +76,16 @@ bitsOf-number-at w bs e = rw (← e) (bitsOf-number bs)
 pub number-take : (k : ℕ) (bs : List Bool) → k ≤ length bs → number (take k bs) ≡ number bs / 2 ^ (length bs - k)
 number-take k bs h =
     let e : number bs ≡ number (take k bs) * 2 ^ (length bs - k) + number (drop k bs) =
-        ap number (sym (take-append-drop k bs)) ∙ number-append (take k bs) (drop k bs)
-        ∙ ap (λ (n : ℕ). number (take k bs) * 2 ^ n + number (drop k bs)) (length-drop k bs) in
+    ap number (sym (take-append-drop k bs)) ∙ number-append (take k bs) (drop k bs)
+    ∙ ap (λ (n : ℕ). number (take k bs) * 2 ^ n + number (drop k bs)) (length-drop k bs) in
     let l : number (drop k bs) < 2 ^ (length bs - k) = rw (length-drop k bs) at (number-lt (drop k bs)) in
     sym (ap (λ (n : ℕ). n / 2 ^ (length bs - k)) e ∙ high (number (take k bs)) (length bs - k) l)
 
 pub number-drop : (k : ℕ) (bs : List Bool) → number (drop k bs) ≡ number bs % 2 ^ (length bs - k)
 number-drop k bs =
     let e : number bs ≡ number (take k bs) * 2 ^ (length bs - k) + number (drop k bs) =
-        ap number (sym (take-append-drop k bs)) ∙ number-append (take k bs) (drop k bs)
-        ∙ ap (λ (n : ℕ). number (take k bs) * 2 ^ n + number (drop k bs)) (length-drop k bs) in
+    ap number (sym (take-append-drop k bs)) ∙ number-append (take k bs) (drop k bs)
+    ∙ ap (λ (n : ℕ). number (take k bs) * 2 ^ n + number (drop k bs)) (length-drop k bs) in
     let l : number (drop k bs) < 2 ^ (length bs - k) = rw (length-drop k bs) at (number-lt (drop k bs)) in
     sym (ap (λ (n : ℕ). n % 2 ^ (length bs - k)) e ∙ low (number (take k bs)) (length bs - k) l)
 

@@ -4,7 +4,7 @@
 -- fields are the same list. Fields put one after another at the front of a buffer leave the packed octets there, and the rest of the buffer.
 -- Assumes nothing.
 use mathlib.Core.Bool.{Bool}
-use mathlib.Core.List.{List, [], _∷_, _++_, append-assoc, map}
+use mathlib.Core.List.{List, [], _∷_, _++_, append-assoc, append-nil, map}
 use mathlib.Core.Path.{_≡_, refl, sym, ap, ap₂, _∙_, subst}
 use Prim.Native.Nat.{ℕ, zero, suc, _+_, _-_, _*_, _/_, _%_, _^_, _≤_, _<_}
 use native.Mathlib.Nat.{add-zero, zero-add, add-assoc, mul-div-cancel-left}
@@ -50,10 +50,10 @@ unpack-of-bits os (f ∷ fs) at rest h e =
     let bs : List Bool = bitsOf w (f .value) in
     let e′ : drop at (bits os) ≡ bs ++ (bitsOfAll fs ++ rest) = e ∙ append-assoc bs (bitsOfAll fs) rest in
     let v : number (take w (drop at (bits os))) ≡ f .value =
-        ap (λ (l : List Bool). number (take w l)) e′ ∙ ap number (take-at bs (bitsOfAll fs ++ rest) w (length-bitsOf w (f .value)))
-        ∙ number-bitsOf-lt w (f .value) (h .0) in
+    ap (λ (l : List Bool). number (take w l)) e′ ∙ ap number (take-at bs (bitsOfAll fs ++ rest) w (length-bitsOf w (f .value)))
+    ∙ number-bitsOf-lt w (f .value) (h .0) in
     let d : drop (at + w) (bits os) ≡ bitsOfAll fs ++ rest =
-        sym (drop-drop w at (bits os)) ∙ ap (λ (l : List Bool). drop w l) e′ ∙ drop-at bs (bitsOfAll fs ++ rest) w (length-bitsOf w (f .value)) in
+    sym (drop-drop w at (bits os)) ∙ ap (λ (l : List Bool). drop w l) e′ ∙ drop-at bs (bitsOfAll fs ++ rest) w (length-bitsOf w (f .value)) in
     ap₂ {C = List Field} (λ (x : ℕ) (l : List Field). record { width = w; value = x } ∷ l) v (unpack-of-bits os fs (at + w) rest (h .1) d)
 
 -- the bits that taken fields cover
@@ -85,7 +85,7 @@ module _ (fs : List Field) (k : ℕ) (whole : widthOfAll fs ≡ 8 * k) where
 
   -- a sequence of fields fills octets and comes back as those fields
   pub unpack-pack : AllFit fs → unpack (pack fs) 0 (widths fs) ≡ fs
-  unpack-pack h = unpack-of-bits (pack fs) fs 0 [] h (bits-pack ∙ sym (Rattle.field.proofs.Bits.append-none (bitsOfAll fs)))
+  unpack-pack h = unpack-of-bits (pack fs) fs 0 [] h (bits-pack ∙ sym (append-nil (bitsOfAll fs)))
 
 pub pack-octets : (fs : List Field) → Octets (pack fs)
 unfolding pack
@@ -133,7 +133,7 @@ pub bits-putAll : (fs : List Field) (os : List ℕ) (at : ℕ) → at + widthOfA
     → bits (putAll os at fs) ≡ take at (bits os) ++ bitsOfAll fs ++ drop (at + widthOfAll fs) (bits os)
 unfolding putAll bitsOfAll widthOfAll
 bits-putAll [] os at h =
-    sym (ap {B = List Bool} (λ (l : List Bool). l ++ drop (at + 0) (bits os)) (Rattle.field.proofs.Bits.append-none (take at (bits os)))
+    sym (ap {B = List Bool} (λ (l : List Bool). l ++ drop (at + 0) (bits os)) (append-nil (take at (bits os)))
     ∙ ap {B = List Bool} (λ (n : ℕ). take at (bits os) ++ drop n (bits os)) (add-zero at) ∙ take-append-drop at (bits os))
 bits-putAll (f ∷ fs) os at h =
     let w : ℕ = f .width in
@@ -142,8 +142,8 @@ bits-putAll (f ∷ fs) os at h =
     let a : at + w + widthOfAll fs ≡ at + (w + widthOfAll fs) = add-assoc at w (widthOfAll fs) in
     let front : take (at + w) (bits o′) ≡ take at (bits os) ++ bitsOf w v = put-front os at w v (omega arith) in
     let back : drop (at + w + widthOfAll fs) (bits o′) ≡ drop (at + (w + widthOfAll fs)) (bits os) =
-        sym (drop-drop (widthOfAll fs) (at + w) (bits o′)) ∙ ap (λ (l : List Bool). drop (widthOfAll fs) l) (put-back os at w v (omega arith))
-        ∙ drop-drop (widthOfAll fs) (at + w) (bits os) ∙ ap (λ (n : ℕ). drop n (bits os)) a in
+    sym (drop-drop (widthOfAll fs) (at + w) (bits o′)) ∙ ap (λ (l : List Bool). drop (widthOfAll fs) l) (put-back os at w v (omega arith))
+    ∙ drop-drop (widthOfAll fs) (at + w) (bits os) ∙ ap (λ (n : ℕ). drop n (bits os)) a in
     bits-putAll fs o′ (at + w) (omega (arith, length-withField os at w v))
     ∙ ap₂ {C = List Bool} (λ (x y : List Bool). x ++ bitsOfAll fs ++ y) front back
     ∙ ap {B = List Bool} (λ (x : List Bool). x ++ drop (at + (w + widthOfAll fs)) (bits os)) (append-assoc (take at (bits os)) (bitsOf w v) (bitsOfAll fs))

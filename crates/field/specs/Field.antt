@@ -2,9 +2,10 @@
 -- Document 01, "The image": "Bit-packed fields, most significant bit first". Assumes nothing.
 use mathlib.Core.Bool.{Bool, true, false}
 use mathlib.Core.List.{List, [], _∷_, _++_, map}
-use Prim.Native.Nat.{ℕ, zero, suc, _+_, _*_, _/_, _%_, _^_, _≤_, _<_}
+use Prim.Native.Nat.{ℕ, zero, suc, _+_, _-_, _*_, _/_, _%_, _^_, _≤_, _<_}
 use lib.Dec.{eqb}
 use lib.ListN.{length, getD, take, drop}
+use lib.Seq.{paste}
 
 -- the value of one bit
 abbrev pub bit : Bool → ℕ
@@ -38,6 +39,10 @@ fieldAt os at w = number (take w (drop at (bits os)))
 -- the octets with the field of w bits at a bit position made v, and every other bit as it was
 unfoldable pub withField : List ℕ → ℕ → ℕ → ℕ → List ℕ
 withField os at w v = octetsOf (length os) (take at (bits os) ++ bitsOf w v ++ drop (at + w) (bits os))
+
+-- the octets with those from first up to end made the number v, most significant octet first
+unfoldable pub stored : List ℕ → ℕ → ℕ → ℕ → List ℕ
+stored os first end v = paste os first (octetsOf (end - first) (bitsOf (8 * (end - first)) v)) (end - first)
 
 -- every element is an octet
 abbrev pub Octets : List ℕ → Type 0
