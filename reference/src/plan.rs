@@ -1,0 +1,97 @@
+//! The plan, its limits and its edits.
+
+use crate::refusal::{require, Refusal};
+
+pub const MAX_STATES: usize = 512;
+pub const MAX_TRANSITIONS: usize = 2048;
+pub const MAX_DURATION: u32 = 2047;
+/// All three marks: 4 for start, 2 for final, 1 for counted.
+pub const MAX_MARKS: u32 = 7;
+
+/// A transition between two states, with its range of durations in seconds.
+#[derive(Clone, Copy, Debug, PartialEq, Eq)]
+pub struct Transition {
+    pub from: usize,
+    pub to: usize,
+    pub low: u32,
+    pub high: u32,
+}
+
+/// A call plan. States and transitions are numbered from 0 by place.
+///
+/// The fields are open, so a plan built by hand may break a limit; every call then refuses it.
+/// The default, with no states, is such a plan.
+#[derive(Clone, Debug, Default, PartialEq, Eq)]
+pub struct Plan {
+    /// The marks value of each state.
+    pub marks: Vec<u8>,
+    pub transitions: Vec<Transition>,
+}
+
+impl Plan {
+    /// A plan of `n` states with no marks and no transitions.
+    pub fn fresh(n: usize) -> Result<Plan, Refusal> {
+        require((1..=MAX_STATES).contains(&n), Refusal::StateCount)?;
+        Ok(Plan {
+            marks: vec![0; n],
+            transitions: Vec::new(),
+        })
+    }
+
+    /// Gives a state its marks value.
+    pub fn mark(&mut self, state: usize, value: u32) -> Result<(), Refusal> {
+        self.require_limits()?;
+        require(state < self.marks.len(), Refusal::StateNumber)?;
+        require(value <= MAX_MARKS, Refusal::MarksValue)?;
+        self.marks[state] = value as u8;
+        Ok(())
+    }
+
+    /// Puts a transition at the end of the list.
+    pub fn join(&mut self, transition: Transition) -> Result<(), Refusal> {
+        self.require_limits()?;
+        transition.require_limits(self.marks.len())?;
+        require(self.transitions.len() < MAX_TRANSITIONS, Refusal::ListFull)?;
+        self.transitions.push(transition);
+        Ok(())
+    }
+
+    /// Takes a transition out of the list. Later ones move down by one.
+    pub fn unjoin(&mut self, number: usize) -> Result<(), Refusal> {
+        self.require_limits()?;
+        require(number < self.transitions.len(), Refusal::TransitionNumber)?;
+        self.transitions.remove(number);
+        Ok(())
+    }
+
+    /// Whether the plan keeps every limit.
+    pub fn within_limits(&self) -> bool {
+        let n = self.marks.len();
+        (1..=MAX_STATES).contains(&n)
+            && self.transitions.len() <= MAX_TRANSITIONS
+            && self
+                .marks
+                .iter()
+                .all(|&value| u32::from(value) <= MAX_MARKS)
+            && self
+                .transitions
+                .iter()
+                .all(|transition| transition.require_limits(n).is_ok())
+    }
+
+    /// The ground that comes first in every call that is given a plan.
+    pub(crate) fn require_limits(&self) -> Result<(), Refusal> {
+        require(self.within_limits(), Refusal::BrokenPlan)
+    }
+}
+
+impl Transition {
+    /// The limits of a transition in a plan of `n` states, in the order of join and read.
+    pub(crate) fn require_limits(&self, n: usize) -> Result<(), Refusal> {
+        require(self.from < n && self.to < n, Refusal::StateNumber)?;
+        require(
+            self.low <= self.high && self.high <= MAX_DURATION,
+            Refusal::Duration,
+        )
+    }
+}

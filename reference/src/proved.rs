@@ -1,0 +1,228 @@
+//! The proved library, called through its static archive.
+//!
+//! A plan crosses the boundary as three lent slices. Nothing checks the declarations here against
+//! the library's source, so they are few and of one shape.
+
+use crate::plan::{Plan, Transition, MAX_STATES, MAX_TRANSITIONS};
+
+/// Places of a plan in `counts`: the state count and the transition count.
+pub const COUNTS: usize = 2;
+/// Places of a plan in `marks`: one for each possible state.
+pub const MARKS: usize = MAX_STATES;
+/// Places of a plan in `fields`: all from states, then all to states, lows and highs.
+pub const FIELDS: usize = 4 * MAX_TRANSITIONS;
+
+/// The answer where a lent plan slice has too few places.
+pub const SHORT_SLICE: u32 = 255;
+/// The answer of an accepted call. Write adds the image's length. A refusal is below 255.
+pub const ACCEPTED: u32 = 256;
+
+extern "C" {
+    fn callplan_fresh(
+        n: usize,
+        counts: *mut usize,
+        counts_len: usize,
+        marks: *mut u8,
+        marks_len: usize,
+        fields: *mut u16,
+        fields_len: usize,
+    ) -> u32;
+
+    fn callplan_mark(
+        counts: *mut usize,
+        counts_len: usize,
+        marks: *mut u8,
+        marks_len: usize,
+        fields: *mut u16,
+        fields_len: usize,
+        state: usize,
+        value: u32,
+    ) -> u32;
+
+    fn callplan_join(
+        counts: *mut usize,
+        counts_len: usize,
+        marks: *mut u8,
+        marks_len: usize,
+        fields: *mut u16,
+        fields_len: usize,
+        from: usize,
+        to: usize,
+        low: u32,
+        high: u32,
+    ) -> u32;
+
+    fn callplan_unjoin(
+        counts: *mut usize,
+        counts_len: usize,
+        marks: *mut u8,
+        marks_len: usize,
+        fields: *mut u16,
+        fields_len: usize,
+        number: usize,
+    ) -> u32;
+
+    fn callplan_read(
+        counts: *mut usize,
+        counts_len: usize,
+        marks: *mut u8,
+        marks_len: usize,
+        fields: *mut u16,
+        fields_len: usize,
+        octets: *const u8,
+        octets_len: usize,
+    ) -> u32;
+
+    fn callplan_write(
+        counts: *const usize,
+        counts_len: usize,
+        marks: *const u8,
+        marks_len: usize,
+        fields: *const u16,
+        fields_len: usize,
+        buffer: *mut u8,
+        buffer_len: usize,
+    ) -> u32;
+}
+
+/// The slices that hold a plan for the library. They may be of any length: the library refuses
+/// short ones, and leaves the places past those of a plan as they are.
+#[derive(Clone, Debug, PartialEq, Eq)]
+pub struct LentPlan {
+    pub counts: Vec<usize>,
+    pub marks: Vec<u8>,
+    pub fields: Vec<u16>,
+}
+
+// SAFETY, of each call: the pointers and lengths are those of slices that live through it, and
+// those that it may write to are borrowed for it alone. The library asks nothing else of them.
+impl LentPlan {
+    /// Slices of exactly a plan's places, all zero.
+    pub fn zeroed() -> LentPlan {
+        LentPlan {
+            counts: vec![0; COUNTS],
+            marks: vec![0; MARKS],
+            fields: vec![0; FIELDS],
+        }
+    }
+
+    pub fn fresh(&mut self, n: usize) -> u32 {
+        unsafe {
+            callplan_fresh(
+                n,
+                self.counts.as_mut_ptr(),
+                self.counts.len(),
+                self.marks.as_mut_ptr(),
+                self.marks.len(),
+                self.fields.as_mut_ptr(),
+                self.fields.len(),
+            )
+        }
+    }
+
+    pub fn mark(&mut self, state: usize, value: u32) -> u32 {
+        unsafe {
+            callplan_mark(
+                self.counts.as_mut_ptr(),
+                self.counts.len(),
+                self.marks.as_mut_ptr(),
+                self.marks.len(),
+                self.fields.as_mut_ptr(),
+                self.fields.len(),
+                state,
+                value,
+            )
+        }
+    }
+
+    pub fn join(&mut self, transition: Transition) -> u32 {
+        unsafe {
+            callplan_join(
+                self.counts.as_mut_ptr(),
+                self.counts.len(),
+                self.marks.as_mut_ptr(),
+                self.marks.len(),
+                self.fields.as_mut_ptr(),
+                self.fields.len(),
+                transition.from,
+                transition.to,
+                transition.low,
+                transition.high,
+            )
+        }
+    }
+
+    pub fn unjoin(&mut self, number: usize) -> u32 {
+        unsafe {
+            callplan_unjoin(
+                self.counts.as_mut_ptr(),
+                self.counts.len(),
+                self.marks.as_mut_ptr(),
+                self.marks.len(),
+                self.fields.as_mut_ptr(),
+                self.fields.len(),
+                number,
+            )
+        }
+    }
+
+    pub fn read(&mut self, octets: &[u8]) -> u32 {
+        unsafe {
+            callplan_read(
+                self.counts.as_mut_ptr(),
+                self.counts.len(),
+                self.marks.as_mut_ptr(),
+                self.marks.len(),
+                self.fields.as_mut_ptr(),
+                self.fields.len(),
+                octets.as_ptr(),
+                octets.len(),
+            )
+        }
+    }
+
+    pub fn write(&self, buffer: &mut [u8]) -> u32 {
+        unsafe {
+            callplan_write(
+                self.counts.as_ptr(),
+                self.counts.len(),
+                self.marks.as_ptr(),
+                self.marks.len(),
+                self.fields.as_ptr(),
+                self.fields.len(),
+                buffer.as_mut_ptr(),
+                buffer.len(),
+            )
+        }
+    }
+
+    /// The plan that the slices hold, up to the counts. They must have a plan's places.
+    ///
+    /// A count above its limit has no places to stand for; the plan returned is then one over that
+    /// limit, which breaks it just the same.
+    pub fn plan(&self) -> Plan {
+        let n = self.counts[0].min(MAX_STATES + 1);
+        let m = self.counts[1].min(MAX_TRANSITIONS + 1);
+
+        let mut marks = self.marks[..n.min(MAX_STATES)].to_vec();
+        marks.resize(n, 0);
+
+        let mut transitions: Vec<Transition> = (0..m.min(MAX_TRANSITIONS))
+            .map(|number| Transition {
+                from: usize::from(self.fields[number]),
+                to: usize::from(self.fields[MAX_TRANSITIONS + number]),
+                low: u32::from(self.fields[2 * MAX_TRANSITIONS + number]),
+                high: u32::from(self.fields[3 * MAX_TRANSITIONS + number]),
+            })
+            .collect();
+        let blank = Transition {
+            from: 0,
+            to: 0,
+            low: 0,
+            high: 0,
+        };
+        transitions.resize(m, blank);
+
+        Plan { marks, transitions }
+    }
+}

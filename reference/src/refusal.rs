@@ -1,0 +1,48 @@
+//! The table of refused calls.
+
+/// Why a call is refused. The value of each case is the number that the table gives it.
+#[derive(Clone, Copy, Debug, PartialEq, Eq)]
+pub enum Refusal {
+    /// The plan handed to the call breaks a limit.
+    BrokenPlan = 0,
+    /// The image has fewer than 4 octets, or fewer than its counts give.
+    ImageTooShort = 1,
+    /// The image has more octets than its counts give.
+    ImageTooLong = 2,
+    /// The image's version is not 1.
+    Version = 3,
+    /// The state count is 0 or above 512.
+    StateCount = 4,
+    /// The transition count is above 2,048.
+    TransitionCount = 5,
+    /// A pad or spare bit is set.
+    SpareBit = 6,
+    /// A state number is not below the state count.
+    StateNumber = 7,
+    /// Low is above high, or high above 2,047.
+    Duration = 8,
+    /// The list holds 2,048 transitions already.
+    ListFull = 9,
+    /// A transition number is not below the transition count.
+    TransitionNumber = 10,
+    /// The lent buffer is too short for the result.
+    BufferTooShort = 11,
+    /// The marks value is above 7.
+    MarksValue = 12,
+}
+
+impl Refusal {
+    /// The number that a refused call returns.
+    pub fn number(self) -> u32 {
+        self as u32
+    }
+}
+
+/// Refuses by `refusal` unless the condition holds.
+pub(crate) fn require(condition: bool, refusal: Refusal) -> Result<(), Refusal> {
+    if condition {
+        Ok(())
+    } else {
+        Err(refusal)
+    }
+}

@@ -1,0 +1,66 @@
+//! Random lists of calls.
+
+use reference::image::encode;
+use reference::proved::ACCEPTED;
+use reference::{MAX_STATES, MAX_TRANSITIONS};
+
+use crate::generate;
+use crate::pair::{Call, Pair};
+use crate::rng::{Case, Rng};
+use crate::tally::Tally;
+
+const SEED: u64 = 0x0001_CA11;
+const LISTS: u64 = 24_000;
+
+#[test]
+fn random_lists_of_calls() {
+    let mut tally = Tally::default();
+    for number in 0..LISTS {
+        let case = Case { seed: SEED, number };
+        run_list(&mut case.rng(), &mut tally);
+    }
+    tally.print(&format!(
+        "lists of calls: seed {SEED:#x}, {LISTS} lists, {} calls",
+        tally.calls()
+    ));
+    tally.assert_covers(&["fresh", "mark", "join", "unjoin", "read", "write"]);
+}
+
+/// One list, from a fresh plan.
+fn run_list(rng: &mut Rng, tally: &mut Tally) {
+    let n = match rng.below(10) {
+        0 => rng.pick(&[511, 512]),
+        1 => rng.between(1, MAX_STATES),
+        _ => rng.between(1, 9),
+    };
+    let mut pair = Pair::fresh(rng, n);
+    let step = |rng: &mut Rng, pair: &mut Pair, tally: &mut Tally| {
+        let call = generate::call(rng, pair);
+        let answer = pair.run(&call);
+        tally.add(call.name(), answer);
+    };
+
+    // Some lists go on from an almost full plan, so that joins meet the end of the list.
+    if rng.one_in(50) {
+        let m = rng.between(MAX_TRANSITIONS - 3, MAX_TRANSITIONS);
+        let octets = encode(&generate::plan(rng, n, m));
+        assert_eq!(pair.run(&Call::Read(octets)), ACCEPTED);
+    }
+
+    for _ in 0..rng.between(1, 50) {
+        step(rng, &mut pair, tally);
+        match rng.below(60) {
+            0 => pair.litter(rng),
+            1..=2 => {
+                // A plan altered by hand is handed in for some calls, then the one before again.
+                let kept = pair.clone();
+                generate::alter(rng, &mut pair);
+                for _ in 0..rng.between(1, 3) {
+                    step(rng, &mut pair, tally);
+                }
+                pair = kept;
+            }
+            _ => {}
+        }
+    }
+}

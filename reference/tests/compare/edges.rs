@@ -1,0 +1,346 @@
+//! The edges of every limit, and plans built by hand.
+
+use reference::image::{encode, length};
+use reference::proved::{LentPlan, ACCEPTED, COUNTS, FIELDS, MARKS, SHORT_SLICE};
+use reference::{Plan, Transition, MAX_STATES, MAX_TRANSITIONS};
+
+use crate::generate::{self, put};
+use crate::pair::{Call, Pair};
+use crate::rng::Rng;
+use crate::vectors::P1;
+
+const SEED: u64 = 0xED6E;
+
+fn join(from: usize, to: usize, low: u32, high: u32) -> Call {
+    Call::Join(Transition {
+        from,
+        to,
+        low,
+        high,
+    })
+}
+
+/// P1 on both, with noise past its counts.
+fn p1(rng: &mut Rng) -> Pair {
+    let mut pair = Pair::fresh(rng, 9);
+    assert_eq!(pair.run(&Call::Read(P1.to_vec())), ACCEPTED);
+    pair.litter(rng);
+    pair
+}
+
+/// A random plan of the given size on both, with noise past its counts.
+fn random(rng: &mut Rng, n: usize, m: usize) -> Pair {
+    let mut pair = Pair::fresh(rng, 1);
+    let octets = encode(&generate::plan(rng, n, m));
+    assert_eq!(pair.run(&Call::Read(octets)), ACCEPTED);
+    pair.litter(rng);
+    pair
+}
+
+#[test]
+fn the_image_of_p1() {
+    let mut rng = Rng::of_test("the_image_of_p1", SEED);
+    let mut pair = p1(&mut rng);
+    assert_eq!(pair.plan().marks, [4, 1, 1, 2]);
+    assert_eq!(pair.run(&Call::Write(vec![0xAA; 31])), ACCEPTED + 28);
+    assert_eq!(pair.run(&Call::Write(vec![0xAA; 28])), ACCEPTED + 28);
+    assert_eq!(encode(pair.plan()), P1);
+}
+
+#[test]
+fn state_counts() {
+    let mut rng = Rng::of_test("state_counts", SEED);
+    let mut pair = Pair::noise(&mut rng);
+    for (n, answer) in [
+        (0, 4),
+        (1, ACCEPTED),
+        (511, ACCEPTED),
+        (512, ACCEPTED),
+        (513, 4),
+        (1 << 16, 4),
+        ((1 << 16) + 1, 4),
+        ((1 << 32) + 1, 4),
+        (usize::MAX, 4),
+    ] {
+        assert_eq!(pair.run(&Call::Fresh(n)), answer, "fresh {n}");
+    }
+    for n in 1..=MAX_STATES {
+        let mut pair = Pair::fresh(&mut rng, n);
+        assert_eq!(pair.run(&Call::Mark(n - 1, 7)), ACCEPTED);
+        assert_eq!(pair.run(&Call::Mark(n, 7)), 7);
+        assert_eq!(pair.run(&join(n - 1, 0, 0, 0)), ACCEPTED);
+        assert_eq!(pair.run(&join(n, 0, 0, 0)), 7);
+        assert_eq!(pair.run(&join(0, n, 0, 0)), 7);
+    }
+
+    // The same in an image: 512 states, and 513 of the right length.
+    let mut octets = encode(&Plan::fresh(512).unwrap());
+    assert_eq!(pair.run(&Call::Read(octets.clone())), ACCEPTED);
+    put(&mut octets, 4, 10, 513);
+    assert_eq!(pair.run(&Call::Read(octets.clone())), 4);
+    octets.push(0);
+    assert_eq!(pair.run(&Call::Read(octets)), 4);
+    assert_eq!(pair.run(&Call::Read(vec![0x10, 0, 0, 0])), 4);
+}
+
+#[test]
+fn transition_counts() {
+    let mut rng = Rng::of_test("transition_counts", SEED);
+    let mut pair = Pair::fresh(&mut rng, 512);
+    for number in 0..MAX_TRANSITIONS {
+        let low = (number % 2048) as u32;
+        assert_eq!(
+            pair.run(&join(number % 512, number * 7 % 512, low, 2047)),
+            ACCEPTED
+        );
+    }
+    assert_eq!(pair.run(&join(0, 0, 0, 0)), 9);
+    assert_eq!(pair.run(&join(512, 0, 0, 0)), 7);
+    assert_eq!(pair.run(&join(0, 512, 0, 0)), 7);
+    assert_eq!(pair.run(&join(0, 0, 1, 0)), 8);
+
+    // The largest image, and one with a transition more.
+    let mut octets = encode(pair.plan());
+    assert_eq!(octets.len(), length(MAX_STATES, MAX_TRANSITIONS));
+    assert_eq!(pair.run(&Call::Read(octets.clone())), ACCEPTED);
+    put(&mut octets, 14, 12, 2049);
+    assert_eq!(pair.run(&Call::Read(octets.clone())), 5);
+    octets.extend([0; 5]);
+    assert_eq!(pair.run(&Call::Read(octets)), 5);
+
+    // A place that unjoin frees can be filled again.
+    for number in [0, 1, 1000, 2046, 2047] {
+        assert_eq!(pair.run(&Call::Unjoin(2048)), 10);
+        assert_eq!(pair.run(&Call::Unjoin(number)), ACCEPTED);
+        assert_eq!(pair.run(&Call::Unjoin(2047)), 10);
+        assert_eq!(pair.run(&join(511, 511, 5, 6)), ACCEPTED);
+        assert_eq!(pair.run(&join(511, 511, 5, 6)), 9);
+    }
+    while !pair.plan().transitions.is_empty() {
+        let number = rng.below(pair.plan().transitions.len());
+        assert_eq!(pair.run(&Call::Unjoin(number)), ACCEPTED);
+    }
+    assert_eq!(pair.run(&Call::Unjoin(0)), 10);
+}
+
+#[test]
+fn durations_and_marks() {
+    let mut rng = Rng::of_test("durations_and_marks", SEED);
+    let mut pair = Pair::fresh(&mut rng, 2);
+    for (low, high, answer) in [
+        (0, 0, ACCEPTED),
+        (0, 2047, ACCEPTED),
+        (2047, 2047, ACCEPTED),
+        (2046, 2047, ACCEPTED),
+        (2047, 2046, 8),
+        (1, 0, 8),
+        (0, 2048, 8),
+        (2048, 2048, 8),
+        (2048, 2047, 8),
+        (0, 1 << 16, 8),
+        (0, u32::MAX, 8),
+        (u32::MAX, u32::MAX, 8),
+        (u32::MAX, 0, 8),
+    ] {
+        assert_eq!(pair.run(&join(0, 1, low, high)), answer, "{low}..{high}");
+    }
+    for value in (0..20).chain([255, 256, 1 << 16, u32::MAX]) {
+        let answer = if value <= 7 { ACCEPTED } else { 12 };
+        assert_eq!(pair.run(&Call::Mark(1, value)), answer);
+        assert_eq!(pair.run(&Call::Mark(2, value)), 7);
+    }
+}
+
+#[test]
+fn buffers() {
+    let mut rng = Rng::of_test("buffers", SEED);
+    for (n, m) in [(1, 0), (4, 4), (512, 0), (1, 2048), (512, 2048)] {
+        let mut pair = random(&mut rng, n, m);
+        let length = pair.image_length();
+        assert_eq!(length, 4 + n + 5 * m);
+        let written = ACCEPTED + length as u32;
+        for (lent, answer) in [
+            (0, 11),
+            (3, 11),
+            (length - 1, 11),
+            (length, written),
+            (length + 1, written),
+            (length + 100, written),
+        ] {
+            let buffer = rng.octets(lent);
+            assert_eq!(pair.run(&Call::Write(buffer)), answer, "{n} {m} {lent}");
+        }
+    }
+}
+
+type Change = Box<dyn Fn(&mut LentPlan)>;
+
+/// Changes by hand, each of which breaks one limit of a plan of `n` states and `m` transitions.
+fn breaks(n: usize, m: usize) -> Vec<(String, Change)> {
+    let mut list: Vec<(String, Change)> = Vec::new();
+    for count in [0, 513, 1 << 16, (1 << 32) + n, usize::MAX] {
+        let change = move |lent: &mut LentPlan| lent.counts[0] = count;
+        list.push((format!("{count} states"), Box::new(change)));
+    }
+    for count in [2049, 1 << 16, (1 << 32) + m, usize::MAX] {
+        let change = move |lent: &mut LentPlan| lent.counts[1] = count;
+        list.push((format!("{count} transitions"), Box::new(change)));
+    }
+    for (state, value) in [(0, 8), (n - 1, 8), (n / 2, 255)] {
+        let change = move |lent: &mut LentPlan| lent.marks[state] = value;
+        list.push((format!("marks {value} of state {state}"), Box::new(change)));
+    }
+    for number in [0, m / 2, m - 1] {
+        let at = move |field: usize| field * MAX_TRANSITIONS + number;
+        for end in [n as u16, 512, u16::MAX] {
+            let from = move |lent: &mut LentPlan| lent.fields[at(0)] = end;
+            list.push((format!("from {end} in {number}"), Box::new(from)));
+            let to = move |lent: &mut LentPlan| lent.fields[at(1)] = end;
+            list.push((format!("to {end} in {number}"), Box::new(to)));
+        }
+        for (low, high) in [(1, 0), (2047, 2046), (0, 2048), (2048, 2048), (0, u16::MAX)] {
+            let change = move |lent: &mut LentPlan| {
+                lent.fields[at(2)] = low;
+                lent.fields[at(3)] = high;
+            };
+            list.push((format!("{low}..{high} in {number}"), Box::new(change)));
+        }
+    }
+    list
+}
+
+#[test]
+fn plans_that_break_a_limit() {
+    let mut rng = Rng::of_test("plans_that_break_a_limit", SEED);
+    let small = p1(&mut rng);
+    let full = random(&mut rng, MAX_STATES, MAX_TRANSITIONS);
+    for good in [small, full] {
+        let n = good.plan().marks.len();
+        let m = good.plan().transitions.len();
+        for (name, change) in breaks(n, m) {
+            let mut pair = good.clone();
+            pair.by_hand(change);
+            assert!(!pair.plan().within_limits(), "{name}");
+            for call in [
+                Call::Mark(0, 0),
+                Call::Mark(usize::MAX, 8),
+                join(0, 0, 0, 0),
+                join(usize::MAX, 0, 1, 0),
+                join(0, 0, 1, 0),
+                Call::Unjoin(0),
+                Call::Unjoin(usize::MAX),
+                Call::Read(P1.to_vec()),
+                Call::Read(vec![]),
+                Call::Read(vec![0xFF; 40]),
+                Call::Write(vec![0xAA; 20_000]),
+                Call::Write(vec![]),
+            ] {
+                assert_eq!(pair.run(&call), 0, "{name}");
+            }
+            // Fresh is given no plan, so the broken one is no ground.
+            assert_eq!(pair.run(&Call::Fresh(0)), 4, "{name}");
+            assert_eq!(pair.run(&Call::Fresh(513)), 4, "{name}");
+            assert_eq!(pair.run(&Call::Fresh(5)), ACCEPTED, "{name}");
+        }
+    }
+}
+
+/// What stands past the counts breaks no limit, however bad it looks.
+#[test]
+fn values_past_the_counts() {
+    let mut rng = Rng::of_test("values_past_the_counts", SEED);
+    let mut good = p1(&mut rng);
+    good.by_hand(|lent| {
+        lent.marks[4..].fill(255);
+        for field in 0..4 {
+            let first = field * MAX_TRANSITIONS;
+            lent.fields[first + 4..first + MAX_TRANSITIONS].fill(u16::MAX);
+        }
+    });
+    for (call, answer) in [
+        (Call::Mark(3, 7), ACCEPTED),
+        (Call::Mark(4, 7), 7),
+        (join(3, 3, 0, 0), ACCEPTED),
+        (join(3, 4, 0, 0), 7),
+        (Call::Unjoin(3), ACCEPTED),
+        (Call::Unjoin(4), 10),
+        (Call::Read(P1.to_vec()), ACCEPTED),
+        (Call::Write(vec![0; 28]), ACCEPTED + 28),
+    ] {
+        assert_eq!(good.clone().run(&call), answer, "{call:?}");
+    }
+    // And they become none by the calls that move the counts.
+    let mut pair = good;
+    for number in [0, 2, 1, 0] {
+        assert_eq!(pair.run(&Call::Unjoin(number)), ACCEPTED);
+    }
+    for _ in 0..6 {
+        assert_eq!(pair.run(&join(1, 2, 3, 4)), ACCEPTED);
+    }
+    assert_eq!(pair.run(&Call::Fresh(20)), ACCEPTED);
+    assert_eq!(pair.run(&Call::Mark(19, 1)), ACCEPTED);
+}
+
+/// A slice with too few places for a plan is refused before all else, and nothing is touched.
+#[test]
+fn short_lent_slices() {
+    let sizes = [
+        (0, MARKS, FIELDS),
+        (1, MARKS, FIELDS),
+        (COUNTS, 0, FIELDS),
+        (COUNTS, MARKS - 1, FIELDS),
+        (COUNTS, MARKS, 0),
+        (COUNTS, MARKS, FIELDS - 1),
+        (1, MARKS - 1, FIELDS - 1),
+        (0, 0, 0),
+    ];
+    for (counts, marks, fields) in sizes {
+        // One state where the slices reach, so that the plan itself would do.
+        let lent = LentPlan {
+            counts: [1, 0][..counts].to_vec(),
+            marks: vec![0; marks],
+            fields: vec![0; fields],
+        };
+        let mut octets = P1.to_vec();
+        octets.push(0);
+        let mut buffer = [0xAA; 40];
+        let transition = |from| Transition {
+            from,
+            to: 0,
+            low: 0,
+            high: 0,
+        };
+        let mut after = lent.clone();
+        let answers = [
+            after.fresh(1),
+            after.fresh(0),
+            after.mark(0, 1),
+            after.mark(1, 8),
+            after.join(transition(0)),
+            after.join(transition(1)),
+            after.unjoin(0),
+            after.read(&P1),
+            after.read(&octets),
+            after.write(&mut buffer),
+            after.write(&mut buffer[..0]),
+        ];
+        assert_eq!(answers, [SHORT_SLICE; 11], "{counts} {marks} {fields}");
+        assert!(after == lent, "{counts} {marks} {fields}");
+        assert_eq!(buffer, [0xAA; 40]);
+    }
+}
+
+/// Every transition of a list taken out in turn, of lists of every length up to 12.
+#[test]
+fn unjoin_at_every_place() {
+    let mut rng = Rng::of_test("unjoin_at_every_place", SEED);
+    for m in 1..=12 {
+        let pair = random(&mut rng, 6, m);
+        for number in 0..=m {
+            let mut pair = pair.clone();
+            let answer = if number < m { ACCEPTED } else { 10 };
+            assert_eq!(pair.run(&Call::Unjoin(number)), answer);
+            assert_eq!(pair.run(&join(5, 0, 1, 1)), ACCEPTED);
+        }
+    }
+}

@@ -1,0 +1,296 @@
+//! Random plans, images and calls: good ones, and ones that are wrong in every way of the table.
+
+use reference::image::{encode, length};
+use reference::proved::LentPlan;
+use reference::{Plan, Transition, MAX_STATES, MAX_TRANSITIONS};
+
+use crate::pair::{Call, Pair};
+use crate::rng::Rng;
+
+/// A number of states and a number of transitions, mostly small, sometimes at the limits.
+fn size(rng: &mut Rng) -> (usize, usize) {
+    match rng.below(200) {
+        0 => (MAX_STATES, MAX_TRANSITIONS),
+        1 => (rng.between(511, 512), rng.between(2046, 2048)),
+        2..=5 => (rng.between(1, MAX_STATES), rng.below(200)),
+        6..=25 => (rng.between(1, 40), rng.below(60)),
+        _ => (rng.between(1, 8), rng.below(11)),
+    }
+}
+
+fn duration(rng: &mut Rng) -> u32 {
+    match rng.below(4) {
+        0 => rng.pick(&[0, 1, 2046, 2047]),
+        _ => rng.below(2048) as u32,
+    }
+}
+
+/// A transition that keeps the limits of a plan of `n` states.
+fn transition(rng: &mut Rng, n: usize) -> Transition {
+    let one = duration(rng);
+    let other = if rng.one_in(5) { one } else { duration(rng) };
+    Transition {
+        from: rng.below(n),
+        to: rng.below(n),
+        low: one.min(other),
+        high: one.max(other),
+    }
+}
+
+/// A plan within the limits.
+pub fn plan(rng: &mut Rng, n: usize, m: usize) -> Plan {
+    Plan {
+        marks: (0..n).map(|_| rng.below(8) as u8).collect(),
+        transitions: (0..m).map(|_| transition(rng, n)).collect(),
+    }
+}
+
+/// An image of any kind: good, made of noise, damaged, truncated or over-long.
+pub fn image(rng: &mut Rng) -> Vec<u8> {
+    match rng.below(12) {
+        0 => noise(rng),
+        1..=2 => random_body(rng),
+        3..=5 => good_image(rng),
+        6 => {
+            let mut octets = good_image(rng);
+            truncate(rng, &mut octets);
+            octets
+        }
+        7 => {
+            let mut octets = good_image(rng);
+            extend(rng, &mut octets);
+            octets
+        }
+        _ => {
+            let mut octets = good_image(rng);
+            for _ in 0..rng.between(1, 3) {
+                damage(rng, &mut octets);
+            }
+            octets
+        }
+    }
+}
+
+pub fn good_image(rng: &mut Rng) -> Vec<u8> {
+    let (n, m) = size(rng);
+    encode(&plan(rng, n, m))
+}
+
+/// Random octets, the version often made 1.
+fn noise(rng: &mut Rng) -> Vec<u8> {
+    let length = rng.below(40);
+    let mut octets = rng.octets(length);
+    if length > 0 && rng.one_in(2) {
+        octets[0] = 0x10 | (octets[0] % 16);
+    }
+    octets
+}
+
+/// A good header over a random body of the right length, most of whose fields are then put right.
+fn random_body(rng: &mut Rng) -> Vec<u8> {
+    let n = rng.between(1, 12);
+    let m = rng.below(12);
+    let mut octets = encode(&Plan::fresh(n).unwrap());
+    put(&mut octets, 14, 12, m);
+    octets.truncate(4);
+    octets.extend(rng.octets(n + 5 * m));
+    let kept = rng.pick(&[1, 4, 16, 64]);
+    for state in 0..n {
+        if !rng.one_in(kept) {
+            put(&mut octets, spare_at(state), 5, 0);
+        }
+    }
+    for number in 0..m {
+        if !rng.one_in(kept) {
+            put_transition(&mut octets, n, number, transition(rng, n));
+        }
+    }
+    octets
+}
+
+fn truncate(rng: &mut Rng, octets: &mut Vec<u8>) {
+    let cut = match rng.below(3) {
+        0 => 1,
+        1 => rng.between(1, 5),
+        _ => rng.between(1, octets.len().max(1)),
+    };
+    octets.truncate(octets.len().saturating_sub(cut));
+}
+
+fn extend(rng: &mut Rng, octets: &mut Vec<u8>) {
+    let more = rng.pick(&[1, 1, 2, 4, 5, 6, 40]);
+    octets.extend(if rng.one_in(2) {
+        vec![0; more]
+    } else {
+        rng.octets(more)
+    });
+}
+
+/// Damages an image in one random way. It may have been damaged before.
+fn damage(rng: &mut Rng, octets: &mut Vec<u8>) {
+    if octets.len() < 4 {
+        return extend(rng, octets);
+    }
+    let n = get(octets, 4, 10);
+    let m = get(octets, 14, 12);
+    let whole = octets.len() >= length(n, m);
+    match rng.below(12) {
+        0 => {
+            let bit = rng.below(8 * octets.len());
+            octets[bit / 8] ^= 0x80 >> (bit % 8);
+        }
+        1 => {
+            let place = rng.below(octets.len());
+            octets[place] = rng.next() as u8;
+        }
+        2 => put(octets, 0, 4, rng.below(16)),
+        3 => {
+            let count = rng.pick(&[0, 1, 511, 512, 513, 1023, n + 1, n.max(1) - 1]);
+            put(octets, 4, 10, count);
+        }
+        4 => {
+            let count = rng.pick(&[0, 2047, 2048, 2049, 4095, m + 1, m.max(1) - 1]);
+            put(octets, 14, 12, count);
+        }
+        5 => put(octets, 26, 6, 1 << rng.below(6)),
+        6 if whole && n > 0 => {
+            let state = rng.below(n);
+            put(octets, spare_at(state) + rng.below(5), 1, 1);
+        }
+        // Transitions: a bad from or to, or a low above the high.
+        7..=8 if whole && m > 0 => {
+            let at = transition_at(n, rng.below(m)) + rng.pick(&[0, 9]);
+            put(octets, at, 9, rng.pick(&[n, n + 1, 511]));
+        }
+        9 if whole && m > 0 => {
+            let at = transition_at(n, rng.below(m));
+            let high = get(octets, at + 29, 11);
+            put(octets, at + 18, 11, rng.pick(&[high + 1, 2047]));
+        }
+        10 => truncate(rng, octets),
+        _ => extend(rng, octets),
+    }
+}
+
+fn spare_at(state: usize) -> usize {
+    8 * (4 + state) + 3
+}
+
+fn transition_at(n: usize, number: usize) -> usize {
+    8 * (4 + n) + 40 * number
+}
+
+fn put_transition(octets: &mut [u8], n: usize, number: usize, transition: Transition) {
+    let at = transition_at(n, number);
+    put(octets, at, 9, transition.from);
+    put(octets, at + 9, 9, transition.to);
+    put(octets, at + 18, 11, transition.low as usize);
+    put(octets, at + 29, 11, transition.high as usize);
+}
+
+/// The field of `width` bits at bit position `at`.
+fn get(octets: &[u8], at: usize, width: usize) -> usize {
+    (at..at + width).fold(0, |value, bit| {
+        2 * value + usize::from(octets[bit / 8] >> (7 - bit % 8) & 1)
+    })
+}
+
+/// Puts the lowest `width` bits of `value` at bit position `at`.
+pub fn put(octets: &mut [u8], at: usize, width: usize, value: usize) {
+    for place in 0..width {
+        let bit = at + place;
+        let mask = 0x80 >> (bit % 8);
+        if value >> (width - 1 - place) & 1 == 1 {
+            octets[bit / 8] |= mask;
+        } else {
+            octets[bit / 8] &= !mask;
+        }
+    }
+}
+
+/// A number that is mostly below `bound`, else just not below it, or so wide that a cut to fewer
+/// bits would bring it below.
+fn about(rng: &mut Rng, bound: usize) -> usize {
+    match rng.below(16) {
+        0 => bound,
+        1 => bound + 1 + rng.below(3),
+        2 => (1 << rng.pick(&[8, 9, 16, 32, 63])) + rng.below(bound.max(1)),
+        3 => usize::MAX,
+        _ if bound == 0 => 0,
+        4 => bound - 1,
+        _ => rng.below(bound),
+    }
+}
+
+fn about_32(rng: &mut Rng, bound: usize) -> u32 {
+    about(rng, bound).min(u32::MAX as usize) as u32
+}
+
+/// A random call, whose arguments are mostly good ones for the plan.
+pub fn call(rng: &mut Rng, pair: &Pair) -> Call {
+    let n = pair.plan().marks.len();
+    let m = pair.plan().transitions.len();
+    match rng.below(32) {
+        0 => Call::Fresh(rng.pick(&[0, 1, 2, 5, 511, 512, 513, 1024, usize::MAX])),
+        1..=8 => Call::Mark(about(rng, n), about_32(rng, 8)),
+        9..=19 => Call::Join(join(rng, n)),
+        20..=24 => Call::Unjoin(about(rng, m)),
+        25..=28 => Call::Read(image(rng)),
+        _ => Call::Write(buffer(rng, pair.image_length())),
+    }
+}
+
+fn join(rng: &mut Rng, n: usize) -> Transition {
+    let mut transition = transition(rng, n.max(1));
+    if rng.one_in(4) {
+        transition.from = about(rng, n);
+    }
+    if rng.one_in(4) {
+        transition.to = about(rng, n);
+    }
+    if rng.one_in(4) {
+        transition.low = about_32(rng, 2048);
+    }
+    if rng.one_in(4) {
+        transition.high = about_32(rng, 2048);
+    }
+    transition
+}
+
+/// A lent buffer for an image of the given length.
+fn buffer(rng: &mut Rng, length: usize) -> Vec<u8> {
+    let lent = match rng.below(6) {
+        0 => length,
+        1 => length - 1,
+        2 => length + 1,
+        3 => rng.below(length),
+        4 => 0,
+        _ => length + rng.below(30),
+    };
+    rng.octets(lent)
+}
+
+/// Alters one lent place or count of the plan by hand, mostly so that it breaks a limit.
+pub fn alter(rng: &mut Rng, pair: &mut Pair) {
+    let n = pair.plan().marks.len();
+    let m = pair.plan().transitions.len();
+    // Within the counts, or else at the first place past them.
+    let state = about(rng, n).min(n).min(MAX_STATES - 1);
+    let number = about(rng, m).min(m).min(MAX_TRANSITIONS - 1);
+    let limit = rng.pick(&[1, MAX_STATES + 1, MAX_TRANSITIONS + 1]);
+    let count = about(rng, limit);
+    let mark = rng.pick(&[7, 8, 9, 255]);
+    let end = rng.pick(&[0, n - 1, n, n + 1, 512, u16::MAX as usize]) as u16;
+    let seconds = rng.pick(&[0, 1, 2047, 2048, u16::MAX]);
+    let at = |field: usize| field * MAX_TRANSITIONS + number;
+    let change: &dyn Fn(&mut LentPlan) = match rng.below(7) {
+        0 => &|lent| lent.counts[0] = count,
+        1 => &|lent| lent.counts[1] = count,
+        2 => &|lent| lent.marks[state] = mark,
+        3 => &|lent| lent.fields[at(0)] = end,
+        4 => &|lent| lent.fields[at(1)] = end,
+        5 => &|lent| lent.fields[at(2)] = seconds,
+        _ => &|lent| lent.fields[at(3)] = seconds,
+    };
+    pair.by_hand(change);
+}

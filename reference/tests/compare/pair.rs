@@ -1,0 +1,148 @@
+//! The two calculators side by side: each call is made on both, and what they did is compared.
+
+use reference::proved::{LentPlan, ACCEPTED, COUNTS, FIELDS, MARKS};
+use reference::{Plan, Refusal, Transition, MAX_TRANSITIONS};
+
+use crate::rng::Rng;
+
+/// A call with its arguments.
+#[derive(Clone, Debug)]
+pub enum Call {
+    Fresh(usize),
+    Mark(usize, u32),
+    Join(Transition),
+    Unjoin(usize),
+    Read(Vec<u8>),
+    /// With what the lent buffer holds before the call.
+    Write(Vec<u8>),
+}
+
+impl Call {
+    pub fn name(&self) -> &'static str {
+        match self {
+            Call::Fresh(_) => "fresh",
+            Call::Mark(..) => "mark",
+            Call::Join(_) => "join",
+            Call::Unjoin(_) => "unjoin",
+            Call::Read(_) => "read",
+            Call::Write(_) => "write",
+        }
+    }
+}
+
+/// The reference's plan, and the slices that hold the same plan for the proved library.
+#[derive(Clone)]
+pub struct Pair {
+    plan: Plan,
+    lent: LentPlan,
+}
+
+impl Pair {
+    /// No plan yet: slices with up to 3 places more than a plan's, all of them random.
+    pub fn noise(rng: &mut Rng) -> Pair {
+        let more = rng.below(4);
+        let lent = LentPlan {
+            counts: (0..COUNTS + more).map(|_| rng.next() as usize).collect(),
+            marks: rng.octets(MARKS + more),
+            fields: (0..FIELDS + more).map(|_| rng.next() as u16).collect(),
+        };
+        let plan = lent.plan();
+        Pair { plan, lent }
+    }
+
+    /// A fresh plan of `n` states, with noise past the counts.
+    pub fn fresh(rng: &mut Rng, n: usize) -> Pair {
+        let mut pair = Pair::noise(rng);
+        assert_eq!(pair.run(&Call::Fresh(n)), ACCEPTED);
+        pair.litter(rng);
+        pair
+    }
+
+    pub fn plan(&self) -> &Plan {
+        &self.plan
+    }
+
+    pub fn image_length(&self) -> usize {
+        reference::image::length(self.plan.marks.len(), self.plan.transitions.len())
+    }
+
+    /// Alters the lent slices by hand. The reference then takes the plan that they hold.
+    pub fn by_hand(&mut self, change: impl FnOnce(&mut LentPlan)) {
+        change(&mut self.lent);
+        self.plan = self.lent.plan();
+    }
+
+    /// Fills the places of the plan past the counts with noise, which is no part of the plan.
+    pub fn litter(&mut self, rng: &mut Rng) {
+        let n = self.plan.marks.len();
+        let m = self.plan.transitions.len();
+        for mark in self.lent.marks.iter_mut().skip(n) {
+            *mark = rng.next() as u8;
+        }
+        for field in 0..4 {
+            for number in m..MAX_TRANSITIONS {
+                self.lent.fields[field * MAX_TRANSITIONS + number] = rng.next() as u16;
+            }
+        }
+        assert!(self.plan == self.lent.plan());
+    }
+
+    /// Makes the call on both, compares the answers, the plans and every lent place, and returns
+    /// the answer.
+    pub fn run(&mut self, call: &Call) -> u32 {
+        let before = self.lent.clone();
+        let (expected, answer) = match call {
+            Call::Fresh(n) => {
+                let fresh = Plan::fresh(*n).map(|plan| self.plan = plan);
+                (number(fresh), self.lent.fresh(*n))
+            }
+            Call::Mark(state, value) => (
+                number(self.plan.mark(*state, *value)),
+                self.lent.mark(*state, *value),
+            ),
+            Call::Join(transition) => (
+                number(self.plan.join(*transition)),
+                self.lent.join(*transition),
+            ),
+            Call::Unjoin(place) => (number(self.plan.unjoin(*place)), self.lent.unjoin(*place)),
+            Call::Read(octets) => {
+                let lent = octets.clone();
+                let answer = self.lent.read(&lent);
+                assert!(lent == *octets, "the octets changed in {call:?}");
+                (number(self.plan.read(octets)), answer)
+            }
+            Call::Write(buffer) => {
+                let mut expected_buffer = buffer.clone();
+                let mut lent_buffer = buffer.clone();
+                let expected = match self.plan.write(&mut expected_buffer) {
+                    Ok(length) => ACCEPTED + length as u32,
+                    Err(refusal) => refusal.number(),
+                };
+                let answer = self.lent.write(&mut lent_buffer);
+                assert!(lent_buffer == expected_buffer, "buffers after {call:?}");
+                assert!(self.lent == before, "the plan slices changed in {call:?}");
+                (expected, answer)
+            }
+        };
+
+        assert_eq!(answer, expected, "answers to {call:?}");
+        if answer < ACCEPTED {
+            assert!(self.lent == before, "a lent place changed in {call:?}");
+        } else {
+            assert!(self.lent.plan() == self.plan, "plans after {call:?}");
+            let past_stay = self.lent.counts[COUNTS..] == before.counts[COUNTS..]
+                && self.lent.marks[MARKS..] == before.marks[MARKS..]
+                && self.lent.fields[FIELDS..] == before.fields[FIELDS..];
+            assert!(past_stay, "a place past the plan changed in {call:?}");
+        }
+        answer
+    }
+}
+
+/// What the library answers where the reference gives this result.
+fn number(result: Result<(), Refusal>) -> u32 {
+    match result {
+        Ok(()) => ACCEPTED,
+        Err(refusal) => refusal.number(),
+    }
+}

@@ -1,0 +1,274 @@
+//! The reference calculator by itself, held to the text of document 01. Needs no proved library.
+
+mod vectors;
+
+use reference::image::{decode, encode};
+use reference::{Plan, Refusal, Transition};
+use vectors::P1;
+
+fn transition(from: usize, to: usize, low: u32, high: u32) -> Transition {
+    Transition {
+        from,
+        to,
+        low,
+        high,
+    }
+}
+
+fn p1() -> Plan {
+    Plan {
+        marks: vec![4, 1, 1, 2],
+        transitions: vec![
+            transition(0, 1, 5, 20),
+            transition(1, 2, 3, 15),
+            transition(1, 3, 2, 30),
+            transition(2, 3, 4, 25),
+        ],
+    }
+}
+
+/// P1's image with some octets replaced.
+fn p1_with(changes: &[(usize, u8)]) -> Vec<u8> {
+    let mut octets = P1.to_vec();
+    for &(place, octet) in changes {
+        octets[place] = octet;
+    }
+    octets
+}
+
+/// Reads the octets into P1's plan, which a refusal must leave.
+fn read_over_p1(octets: &[u8]) -> Result<Plan, Refusal> {
+    let mut plan = p1();
+    match plan.read(octets) {
+        Ok(()) => Ok(plan),
+        Err(refusal) => {
+            assert_eq!(plan, p1());
+            Err(refusal)
+        }
+    }
+}
+
+fn assert_refused(octets: &[u8], refusal: Refusal) {
+    assert_eq!(read_over_p1(octets), Err(refusal), "{octets:02X?}");
+}
+
+#[test]
+fn p1_is_read_and_written_back() {
+    assert_eq!(decode(&P1), Ok(p1()));
+    assert_eq!(encode(&p1()), P1);
+
+    let mut plan = Plan::fresh(7).unwrap();
+    assert_eq!(plan.read(&P1), Ok(()));
+    assert_eq!(plan, p1());
+
+    let mut buffer = [0xAA; 30];
+    assert_eq!(plan.write(&mut buffer), Ok(28));
+    assert_eq!(buffer[..28], P1);
+    assert_eq!(buffer[28..], [0xAA; 2]);
+}
+
+#[test]
+fn p1_is_built_by_edits() {
+    let mut plan = Plan::fresh(4).unwrap();
+    for (state, value) in [(0, 4), (1, 1), (2, 1), (3, 2)] {
+        plan.mark(state, value).unwrap();
+    }
+    for transition in p1().transitions {
+        plan.join(transition).unwrap();
+    }
+    assert_eq!(plan, p1());
+}
+
+#[test]
+fn numbers_are_those_of_the_table() {
+    let table = [
+        Refusal::BrokenPlan,
+        Refusal::ImageTooShort,
+        Refusal::ImageTooLong,
+        Refusal::Version,
+        Refusal::StateCount,
+        Refusal::TransitionCount,
+        Refusal::SpareBit,
+        Refusal::StateNumber,
+        Refusal::Duration,
+        Refusal::ListFull,
+        Refusal::TransitionNumber,
+        Refusal::BufferTooShort,
+        Refusal::MarksValue,
+    ];
+    for (number, refusal) in (0..).zip(table) {
+        assert_eq!(refusal.number(), number);
+    }
+}
+
+#[test]
+fn fresh_takes_1_to_512_states() {
+    assert_eq!(Plan::fresh(0), Err(Refusal::StateCount));
+    assert_eq!(Plan::fresh(513), Err(Refusal::StateCount));
+    for n in [1, 2, 512] {
+        let plan = Plan::fresh(n).unwrap();
+        assert_eq!(plan.marks, vec![0; n]);
+        assert_eq!(plan.transitions, []);
+        assert!(plan.within_limits());
+    }
+}
+
+#[test]
+fn mark_refuses_the_state_before_the_value() {
+    let mut plan = p1();
+    assert_eq!(plan.mark(4, 8), Err(Refusal::StateNumber));
+    assert_eq!(plan.mark(4, 7), Err(Refusal::StateNumber));
+    assert_eq!(plan.mark(3, 8), Err(Refusal::MarksValue));
+    assert_eq!(plan, p1());
+    assert_eq!(plan.mark(3, 7), Ok(()));
+    assert_eq!(plan.marks, [4, 1, 1, 7]);
+}
+
+#[test]
+fn join_refuses_states_then_durations_then_a_full_list() {
+    let mut plan = p1();
+    assert_eq!(plan.join(transition(4, 0, 2, 1)), Err(Refusal::StateNumber));
+    assert_eq!(
+        plan.join(transition(0, 4, 0, 2048)),
+        Err(Refusal::StateNumber)
+    );
+    assert_eq!(plan.join(transition(0, 0, 2, 1)), Err(Refusal::Duration));
+    assert_eq!(plan.join(transition(0, 0, 0, 2048)), Err(Refusal::Duration));
+    assert_eq!(plan, p1());
+
+    while plan.transitions.len() < 2048 {
+        plan.join(transition(3, 3, 2047, 2047)).unwrap();
+    }
+    let full = plan.clone();
+    assert_eq!(plan.join(transition(0, 4, 2, 1)), Err(Refusal::StateNumber));
+    assert_eq!(plan.join(transition(0, 3, 2, 1)), Err(Refusal::Duration));
+    assert_eq!(plan.join(transition(0, 3, 1, 2)), Err(Refusal::ListFull));
+    assert_eq!(plan, full);
+}
+
+#[test]
+fn unjoin_moves_later_transitions_down() {
+    let mut plan = p1();
+    assert_eq!(plan.unjoin(4), Err(Refusal::TransitionNumber));
+    assert_eq!(plan, p1());
+    assert_eq!(plan.unjoin(1), Ok(()));
+    let was = p1().transitions;
+    assert_eq!(plan.transitions, [was[0], was[2], was[3]]);
+    assert_eq!(plan.join(was[1]), Ok(()));
+    assert_eq!(plan.transitions, [was[0], was[2], was[3], was[1]]);
+}
+
+#[test]
+fn write_needs_the_images_length() {
+    let mut buffer = [0xAA; 27];
+    assert_eq!(p1().write(&mut buffer), Err(Refusal::BufferTooShort));
+    assert_eq!(buffer, [0xAA; 27]);
+    assert_eq!(p1().write(&mut [0; 28]), Ok(28));
+}
+
+#[test]
+fn read_refuses_each_fault() {
+    for length in 0..28 {
+        assert_refused(&P1[..length], Refusal::ImageTooShort);
+    }
+    let mut long = P1.to_vec();
+    long.push(0);
+    assert_refused(&long, Refusal::ImageTooLong);
+    assert_refused(&p1_with(&[(0, 0x00)]), Refusal::Version);
+    assert_refused(&p1_with(&[(0, 0x20)]), Refusal::Version);
+    assert_refused(&p1_with(&[(1, 0x00)]), Refusal::StateCount);
+    assert_refused(&p1_with(&[(0, 0x18), (1, 0x04)]), Refusal::StateCount);
+    assert_refused(
+        &p1_with(&[(1, 0x12), (2, 0x00), (3, 0x40)]),
+        Refusal::TransitionCount,
+    );
+    assert_refused(&p1_with(&[(3, 0x01)]), Refusal::SpareBit);
+    assert_refused(&p1_with(&[(3, 0x20)]), Refusal::SpareBit);
+    assert_refused(&p1_with(&[(4, 0x81)]), Refusal::SpareBit);
+    assert_refused(&p1_with(&[(7, 0x50)]), Refusal::SpareBit);
+    // The first transition's from becomes 4, the last one's to 7, the first one's high 0.
+    assert_refused(&p1_with(&[(8, 0x02)]), Refusal::StateNumber);
+    assert_refused(&p1_with(&[(24, 0x01), (25, 0xC0)]), Refusal::StateNumber);
+    assert_refused(&p1_with(&[(12, 0x00)]), Refusal::Duration);
+}
+
+#[test]
+fn read_keeps_the_order_of_grounds() {
+    // A version other than 1 and a state count of 0.
+    assert_refused(&[0x20, 0x00, 0x00, 0x00], Refusal::Version);
+    // Under 4 octets before the version.
+    assert_refused(&[0x20, 0x00, 0x00], Refusal::ImageTooShort);
+    // No states and 4,095 transitions.
+    assert_refused(&[0x10, 0x03, 0xFF, 0xC0], Refusal::StateCount);
+    // 4,095 transitions and a pad bit.
+    assert_refused(&[0x10, 0x07, 0xFF, 0xFF], Refusal::TransitionCount);
+    // A pad bit and an image too short, or too long.
+    assert_refused(&[0x10, 0x04, 0x00, 0x01], Refusal::SpareBit);
+    assert_refused(&[0x10, 0x04, 0x00, 0x01, 0x00, 0x00], Refusal::SpareBit);
+    // Too short or too long, and a spare bit.
+    assert_refused(&p1_with(&[(4, 0x81)])[..27], Refusal::ImageTooShort);
+    assert_refused(
+        &[p1_with(&[(4, 0x81)]), vec![0]].concat(),
+        Refusal::ImageTooLong,
+    );
+    // A spare bit of the last state and a bad state number in the first transition.
+    assert_refused(&p1_with(&[(7, 0x41), (8, 0x02)]), Refusal::SpareBit);
+    // One transition with a bad state number and bad durations.
+    assert_refused(&p1_with(&[(8, 0x02), (12, 0x00)]), Refusal::StateNumber);
+    // Bad durations in the first transition and a bad state number in the last, and the reverse.
+    assert_refused(&p1_with(&[(12, 0x00), (24, 0x01)]), Refusal::Duration);
+    assert_refused(&p1_with(&[(8, 0x02), (27, 0x00)]), Refusal::StateNumber);
+}
+
+#[test]
+fn a_plan_past_a_limit_is_refused_first() {
+    let edit = |change: fn(&mut Plan)| {
+        let mut plan = p1();
+        change(&mut plan);
+        plan
+    };
+    let broken = [
+        Plan::default(),
+        edit(|plan| plan.marks.clear()),
+        edit(|plan| plan.marks.resize(513, 0)),
+        edit(|plan| plan.transitions.resize(2049, transition(0, 0, 0, 0))),
+        edit(|plan| plan.marks[3] = 8),
+        edit(|plan| plan.transitions[3].from = 4),
+        edit(|plan| plan.transitions[0].to = 4),
+        edit(|plan| plan.transitions[1].low = 16),
+        edit(|plan| plan.transitions[2].high = 2048),
+    ];
+    for was in broken {
+        assert!(!was.within_limits());
+        let mut plan = was.clone();
+        assert_eq!(plan.mark(600, 8), Err(Refusal::BrokenPlan));
+        assert_eq!(plan.mark(0, 0), Err(Refusal::BrokenPlan));
+        assert_eq!(
+            plan.join(transition(600, 0, 2, 1)),
+            Err(Refusal::BrokenPlan)
+        );
+        assert_eq!(plan.unjoin(3000), Err(Refusal::BrokenPlan));
+        assert_eq!(plan.read(&[]), Err(Refusal::BrokenPlan));
+        assert_eq!(plan.read(&P1), Err(Refusal::BrokenPlan));
+        let mut buffer = [0xAA; 40];
+        assert_eq!(plan.write(&mut buffer[..0]), Err(Refusal::BrokenPlan));
+        assert_eq!(plan.write(&mut buffer), Err(Refusal::BrokenPlan));
+        assert_eq!(buffer, [0xAA; 40]);
+        assert_eq!(plan, was);
+    }
+}
+
+#[test]
+fn the_largest_plan_goes_both_ways() {
+    let plan = Plan {
+        marks: (0..512).map(|state| (state % 8) as u8).collect(),
+        transitions: (0..2048)
+            .map(|number| transition(number % 512, 511 - number % 512, number as u32, 2047))
+            .collect(),
+    };
+    assert!(plan.within_limits());
+    let octets = encode(&plan);
+    assert_eq!(octets.len(), 4 + 512 + 5 * 2048);
+    assert_eq!(octets[..4], [0x18, 0x02, 0x00, 0x00]);
+    assert_eq!(read_over_p1(&octets), Ok(plan));
+}
