@@ -1,0 +1,66 @@
+-- What is shown fits into n places, and no number is too large for the record.
+--
+-- The states of what is shown are below n and differ, all of them for a number or STRANDED, all but the last for ENDLESS; so they are at most n. A route that is shown for a number
+-- has at most 511 transitions, n being at most 512, each of at most 2,047 seconds: 1,046,017 seconds, or 512 counted states. Assumes nothing.
+use Prim.Native.Nat.{ℕ, zero, suc, _+_, _*_, _≤_, _<_, zero-le}
+use mathlib.Core.Path.{_≡_, refl, sym, _∙_}
+use mathlib.Core.Bool.{Bool}
+use mathlib.Core.List.{List, [], _∷_}
+use native.Mathlib.Nat.{le-of-lt, mul-le-mul-right}
+use native.Mathlib.Omega.{arith}
+use lib.ListN.{length, take}
+use lib.Seq.{length-take-le, getD-take}
+use Rattle.graph.specs.Graph.{Graph, states, count, from, low, high, Final, Unfinished, DeadEnd, Closed}
+use Rattle.graph.specs.Walk.{visits}
+use Rattle.graph.specs.Route.{Cost, total, lows, highs, counts}
+use Rattle.graph.specs.Figure.{Figure, number, NONE, STRANDED, ENDLESS, IsLeast, IsGreatest, Shown}
+use Rattle.graph.proofs.Repeat.{nth, different-length}
+use Rattle.graph.proofs.Walks.{start-below, length-visits, visits-below}
+use Rattle.graph.proofs.Simple.{simple-length}
+use Rattle.graph.proofs.Cost.{total-le, one-le}
+use Rattle.graph.proofs.Least.{least-shown}
+use Rattle.graph.proofs.Greatest.{greatest-shown}
+
+module _ (g : Graph) (closed : Closed g) (c : Cost) where
+  -- "n places" are enough for every walk that is shown
+  pub shown-fits : (f : Figure) (ts : List ℕ) (j : ℕ) → Shown g c f ts j → length ts ≤ states g
+  shown-fits (number k) ts j (s, r, q, d) = le-of-lt (simple-length g (Unfinished g) (Final g) closed s ts (start-below g s (r .0)) (r .1) d)
+  shown-fits STRANDED ts j (s, b, w, d) = le-of-lt (simple-length g (Unfinished g) (DeadEnd g) closed s ts (start-below g s b) w d)
+  shown-fits ENDLESS ts j (s, b, w, l, e, d) =
+      let k = length ts in
+      let xs = visits g s ts in
+      let hk : k ≤ length xs = omega (arith, length-visits g s ts) in
+      let lk : length (take k xs) ≡ k = length-take-le k xs hk in
+      let below : (i : ℕ) → i < length (take k xs) → nth (take k xs) i < states g = λ i h.
+      rw (getD-take k xs i 0 (omega arith)) (visits-below g (Unfinished g) (Unfinished g) closed s ts (start-below g s b) w i (omega arith)) in
+      rw lk at (different-length (states g) (take k xs) d below)
+  shown-fits NONE ts j e = omega arith
+
+  -- a number that is shown, for a plan of at most 512 states
+  pub shown-number-le : (a b k : ℕ) (ts : List ℕ) (j : ℕ) → states g ≤ 512 → ((t : ℕ) → t < count g → c .step t ≤ a) → ((s : ℕ) → c .close s ≤ b)
+      → Shown g c (number k) ts j → k ≤ 511 * a + b
+  shown-number-le a b k ts j n p q (s, r, e, d) =
+      let h = simple-length g (Unfinished g) (Final g) closed s ts (start-below g s (r .0)) (r .1) d in
+      let m : length ts * a ≤ 511 * a = mul-le-mul-right a (omega arith) in
+      omega (arith, total-le g c a b (Unfinished g) (Final g) p q s ts (r .1))
+
+  pub least-number-le : (a b k : ℕ) → states g ≤ 512 → ((t : ℕ) → t < count g → c .step t ≤ a) → ((s : ℕ) → c .close s ≤ b) → IsLeast g c (number k) → k ≤ 511 * a + b
+  least-number-le a b k n p q u = let (ts, j, shown) = least-shown g c (number k) u in shown-number-le a b k ts j n p q shown
+
+  pub greatest-number-le : (a b k : ℕ) → states g ≤ 512 → ((t : ℕ) → t < count g → c .step t ≤ a) → ((s : ℕ) → c .close s ≤ b) → IsGreatest g c (number k) → k ≤ 511 * a + b
+  greatest-number-le a b k n p q u = let (ts, j, shown) = greatest-shown g c closed (number k) u in shown-number-le a b k ts j n p q shown
+
+module _ (g : Graph) (closed : Closed g) (small : states g ≤ 512) (k : ℕ) where
+  -- "no figure passes": a delay
+  pub least-delay-le : ((t : ℕ) → t < count g → low g t ≤ 2047) → IsLeast g (lows g) (number k) → k ≤ 1_046_017
+  least-delay-le h u = least-number-le g closed (lows g) 2047 0 k small h (λ s. zero-le) u
+
+  pub greatest-delay-le : ((t : ℕ) → t < count g → high g t ≤ 2047) → IsGreatest g (highs g) (number k) → k ≤ 1_046_017
+  greatest-delay-le h u = greatest-number-le g closed (highs g) 2047 0 k small h (λ s. zero-le) u
+
+  -- and a count, over any yes-or-no on states
+  pub least-count-le : (p : ℕ → Bool) → IsLeast g (counts g p) (number k) → k ≤ 512
+  least-count-le p u = least-number-le g closed (counts g p) 1 1 k small (λ t h. one-le (p (from g t))) (λ s. one-le (p s)) u
+
+  pub greatest-count-le : (p : ℕ → Bool) → IsGreatest g (counts g p) (number k) → k ≤ 512
+  greatest-count-le p u = greatest-number-le g closed (counts g p) 1 1 k small (λ t h. one-le (p (from g t))) (λ s. one-le (p s)) u

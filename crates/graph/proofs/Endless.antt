@@ -1,0 +1,143 @@
+-- When an endless walk of unfinished states exists.
+--
+-- 1. A walk through unfinished states whose state after k transitions is the state after j, with j < k, goes on forever: walk on to place k, be at place j again,
+--    and so on. The place that the endless walk is at goes up by one, and from k - 1 back to j (`next`).
+-- 2. An endless walk has a walk of every length: its first k transitions (`first-transitions`).
+-- 3. So a plan of n states has an endless walk exactly when n transitions can be walked from a start through unfinished states: by 2 one way; and by 1 the other, since n + 1 states
+--    below n hold a repeat. Up to the first repeat, that walk is what 01 asks to be shown for ENDLESS (`repeat-shown`).
+-- 4. Where no endless walk exists, every walk through unfinished states visits no state twice (`simple-or-endless`).
+-- Assumes nothing.
+use Prim.Native.Nat.{ℕ, zero, suc, _+_, _≤_, _<_, zero-le}
+use mathlib.Core.Path.{_≡_, refl, sym, _∙_, ap, subst}
+use mathlib.Core.Bool.{Bool, true, false, cond}
+use mathlib.Core.Logic.{_⊎_, inl, inr}
+use mathlib.Core.List.{List, [], _∷_}
+use native.Mathlib.Nat.{le-refl, le-of-lt, lt-of-lt-of-le}
+use native.Mathlib.Omega.{arith}
+use lib.Dec.{eqb}
+use lib.ListN.{length, take, length-take}
+use lib.Seq.{length-take-le, take-take}
+use borrow.Author.Tests.{eqb-true, eqb-false}
+use Rattle.graph.specs.Graph.{Graph, states, to, Departs, Unfinished, Closed}
+use Rattle.graph.specs.Walk.{Begins, WalkTo, visits, arrival, UnfinishedFrom, Different, EndlessWalk}
+use Rattle.graph.specs.Route.{Cost}
+use Rattle.graph.specs.Figure.{Figure, ENDLESS, Shown}
+use Rattle.graph.proofs.Repeat.{nth, Apart, Repeat, first-repeat, repeat-below, different-take}
+use Rattle.graph.proofs.Walks.{start-below, length-visits, state-after, state-last, visits-take, passed, departs-at, arrives-at, stopped, visits-below, front}
+
+-- ---- 1
+
+-- the place after p: one further, and j for k
+next : ℕ → ℕ → ℕ → ℕ
+next j k p = cond (eqb (suc p) k) j (suc p)
+
+next-below : (j k p : ℕ) → j < k → p < k → next j k p < k
+unfolding next
+next-below j k p l h = go (eqb (suc p) k) refl
+  where
+    go : (b : Bool) → eqb (suc p) k ≡ b → cond b j (suc p) < k
+    go true e = l
+    go false e = omega (arith, eqb-false (suc p) k e)
+
+next-same : (f : ℕ → ℕ) (j k p : ℕ) → f k ≡ f j → f (suc p) ≡ f (next j k p)
+unfolding next
+next-same f j k p q = go (eqb (suc p) k) refl
+  where
+    go : (b : Bool) → eqb (suc p) k ≡ b → f (suc p) ≡ f (cond b j (suc p))
+    go true e = ap f (eqb-true (suc p) k e) ∙ q
+    go false e = refl
+
+-- the place after i steps
+place : ℕ → ℕ → ℕ → ℕ
+place j k zero = zero
+place j k (suc i) = next j k (place j k i)
+
+place-below : (j k i : ℕ) → j < k → place j k i < k
+unfolding place
+place-below j k zero l = omega arith
+place-below j k (suc i) l = next-below j k (place j k i) l (place-below j k i l)
+
+module _ (g : Graph) (stop : ℕ → Type 0) (s : ℕ) (ts : List ℕ) (b : Begins g s) (w : WalkTo g (Unfinished g) stop s ts) where
+  pub repeated-endless : (j k : ℕ) → j < k → k ≤ length ts → nth (visits g s ts) k ≡ nth (visits g s ts) j → EndlessWalk g
+  unfolding place
+  repeated-endless j k l h e =
+      let at : (i : ℕ) → place j k i < length ts = λ i. lt-of-lt-of-le (place-below j k i l) h in
+      record {
+        state = λ i. nth (visits g s ts) (place j k i);
+        taken = λ i. nth ts (place j k i);
+        begins = rw (state-after g s ts 0 zero-le) b;
+        departs = λ i. departs-at g (Unfinished g) stop s ts w (place j k i) (at i);
+        arrives = λ i. arrives-at g (Unfinished g) stop s ts w (place j k i) (at i) ∙ next-same (nth (visits g s ts)) j k (place j k i) e;
+        unfinished = λ i. passed g (Unfinished g) stop s ts w (place j k i) (at i);
+      }
+
+-- ---- 2
+
+module _ (g : Graph) (e : EndlessWalk g) where
+  -- k transitions, from the i-th on
+  abbrev pub run : ℕ → ℕ → List ℕ
+  run i zero = []
+  run i (suc k) = e .taken i ∷ run (suc i) k
+
+  pub length-run : (i k : ℕ) → length (run i k) ≡ k
+  length-run i zero = refl
+  length-run i (suc k) = ap suc (length-run (suc i) k)
+
+  pub run-walk : (i k : ℕ) → UnfinishedFrom g (e .state i) (run i k)
+  run-walk i zero = e .unfinished i
+  run-walk i (suc k) = (e .unfinished i, e .departs i, rw (e .arrives i) (run-walk (suc i) k))
+
+-- ---- 3
+
+module _ (g : Graph) (stop : ℕ → Type 0) (s : ℕ) (ts : List ℕ) (b : Begins g s) (w : WalkTo g (Unfinished g) stop s ts) where
+  -- a walk of n transitions has a repeat, so it goes on forever
+  long-repeat : Closed g → states g ≤ length ts → Repeat (nth (visits g s ts)) (length (visits g s ts))
+  long-repeat closed h =
+      repeat-below (states g) (nth (visits g s ts)) (length (visits g s ts)) (omega (arith, length-visits g s ts))
+      (visits-below g (Unfinished g) stop closed s ts (start-below g s b) w)
+
+  pub long-endless : Closed g → states g ≤ length ts → EndlessWalk g
+  long-endless closed h = let r = long-repeat closed h in repeated-endless g stop s ts b w (r .earlier) (r .later) (r .order) (omega (arith, length-visits g s ts)) (r .same)
+
+module _ (g : Graph) (c : Cost) (stop : ℕ → Type 0) (s : ℕ) (ts : List ℕ) (b : Begins g s) (w : WalkTo g (Unfinished g) stop s ts) where
+  -- up to the first repeat, the walk is as 01 asks for ENDLESS
+  pub repeat-shown : (r : Repeat (nth (visits g s ts)) (length (visits g s ts))) → Shown g c ENDLESS (take (r .later) ts) (r .earlier)
+  repeat-shown r =
+      let k = r .later in
+      let j = r .earlier in
+      let xs = visits g s ts in
+      let hk : k ≤ length ts = omega (arith, length-visits g s ts) in
+      let lk : length (take k ts) ≡ k = length-take-le k ts hk in
+      let j-unfinished : Unfinished g (nth xs j) = passed g (Unfinished g) stop s ts w j (omega arith) in
+      let k-unfinished : Unfinished g (nth xs k) = rw (r .same) j-unfinished in
+      let returns : arrival g s (take k ts) ≡ arrival g s (take j ts) = sym (state-after g s ts k hk) ∙ r .same ∙ state-after g s ts j (omega arith) in (
+        s,
+        b,
+        front g (Unfinished g) stop (Unfinished g) s ts k w hk k-unfinished,
+        omega arith,
+        rw (take-take j k ts (omega arith)) returns,
+        rw (lk, visits-take g s ts k hk, take-take k (suc k) xs (omega arith)) (different-take xs k (r .apart)),
+      )
+
+  pub long-shown : Closed g → states g ≤ length ts → (us : List ℕ) × (j : ℕ) × Shown g c ENDLESS us j
+  long-shown closed h = let r = long-repeat g stop s ts b w closed h in (take (r .later) ts, r .earlier, repeat-shown r)
+
+module _ (g : Graph) (c : Cost) where
+  -- ENDLESS can always be shown ..
+  pub endless-shown : Closed g → EndlessWalk g → (us : List ℕ) × (j : ℕ) × Shown g c ENDLESS us j
+  endless-shown closed e =
+      long-shown g c (Unfinished g) (e .state 0) (run g e 0 (states g)) (e .begins) (run-walk g e 0 (states g)) closed (omega (arith, length-run g e 0 (states g)))
+
+  -- .. and what is shown goes on forever
+  pub shown-endless : (ts : List ℕ) (j : ℕ) → Shown g c ENDLESS ts j → EndlessWalk g
+  shown-endless ts j (s, b, w, l, e, d) =
+      repeated-endless g (Unfinished g) s ts b w j (length ts) l (le-refl (length ts)) (state-last g s ts ∙ e ∙ sym (state-after g s ts j (le-of-lt l)))
+
+-- ---- 4
+
+pub simple-or-endless : (g : Graph) (stop : ℕ → Type 0) (s : ℕ) (ts : List ℕ) → Begins g s → WalkTo g (Unfinished g) stop s ts → EndlessWalk g ⊎ Different (visits g s ts)
+simple-or-endless g stop s ts b w = go (first-repeat (nth (visits g s ts)) (length (visits g s ts)))
+  where
+    go : Repeat (nth (visits g s ts)) (length (visits g s ts)) ⊎ Different (visits g s ts) → EndlessWalk g ⊎ Different (visits g s ts)
+    go (inl r) = inl (repeated-endless g stop s ts b w (r .earlier) (r .later) (r .order) (omega (arith, length-visits g s ts)) (r .same))
+    go (inr d) = inr d

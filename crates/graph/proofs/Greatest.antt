@@ -1,0 +1,190 @@
+-- The greatest figure exists, is one, and can be shown: for any cost.
+--
+-- 1. Each of the three tests says yes exactly when its kind applies. An endless walk exists exactly when n transitions can be walked from a start through unfinished states (Endless.antt).
+--    A walk to a dead end has a simple one, of fewer than n transitions.
+-- 2. Where neither an endless walk nor a walk to a dead end exists, every start leads to an answer: walk on from it, and within n transitions it ends in a final state, as it can neither be stuck nor go on (`go-on`).
+-- 3. There, too, every route is simple, so its cost is listed: the largest of the list is the largest over all routes. By 2 the list is not empty.
+-- 4. So what is computed is the greatest figure (`greatest-is`); each kind excludes the ones after it, so it is the only one (`greatest-unique`); and each kind can be shown (`greatest-shown`).
+-- Assumes nothing.
+use Prim.Native.Nat.{ℕ, zero, suc, _≤_, _<_, max}
+use mathlib.Core.Path.{_≡_, refl, sym, _∙_, ap, subst}
+use mathlib.Core.Bool.{Bool, true, false, not, cond, false≢true}
+use mathlib.Core.Logic.{_⊎_, inl, inr}
+use mathlib.Core.List.{List, [], _∷_, List·Memᴰ·head, List·Memᴰ·not-nil}
+use native.Mathlib.Nat.{le-of-eq, le-refl}
+use native.Mathlib.Omega.{arith}
+use lib.ListN.{length}
+use borrow.Author.Tests.{not-true}
+use Rattle.graph.specs.Graph.{Graph, states, start, final, to, Departs, Final, Unfinished, DeadEnd, Closed}
+use Rattle.graph.specs.Walk.{Begins, WalkTo, visits, UnfinishedFrom, Different, EndlessWalk}
+use Rattle.graph.specs.Route.{RouteFrom, Route, LeadsToAnswer, StrandedFrom, GoesOnForever, EndsUnanswered, Cost, total}
+use Rattle.graph.specs.Figure.{Figure, number, NONE, STRANDED, ENDLESS, Largest, IsGreatest, NoStart, Shown}
+use Rattle.graph.specs.Compute.{given, gather, nonempty, leaving, deadEnd, extreme, begun, within, costs, anyStart, anyEndless, anyStranded, greatest}
+use Rattle.graph.proofs.Walks.{start-below, with-stop}
+use Rattle.graph.proofs.Simple.{simple, simple-length}
+use Rattle.graph.proofs.Endless.{run, length-run, run-walk, long-endless, endless-shown, simple-or-endless}
+use Rattle.graph.proofs.Listed.{_∈_, Yes, of-given, in-given, of-gather, in-gather, of-nonempty, in-nonempty, of-begun, in-begun, of-within, in-within, of-leaving, in-leaving, of-deadEnd, in-deadEnd}
+use Rattle.graph.proofs.Extreme.{AtLeast, picks-max, Covered, IsExtreme, in-costs, extreme-is, extreme-unique}
+
+-- a test says yes exactly when A holds
+pub record Tests (b : Bool) (A : Type 0) : Type 0 where
+  pub sound : b ≡ true → A
+  pub complete : A → b ≡ true
+
+pub refuted : {b : Bool} {A : Type 0} → Tests b A → b ≡ false → A → ⊥
+refuted t e a = false≢true (sym e ∙ t .complete a)
+
+-- ---- 1
+
+module _ (g : Graph) where
+  abbrev unanswered : ℕ → Bool
+  unanswered s = not (final g s)
+
+  abbrev marked : ℕ → List ℕ
+  marked s = given (start g s) (s ∷ [])
+
+  any-start : Tests (anyStart g) ((s : ℕ) × Begins g s)
+  unfolding anyStart
+  any-start = record {
+    sound = λ e.
+        let (x, m) = of-nonempty (gather marked (states g)) e in
+        let (s, h, n) = of-gather marked (states g) m in
+        (s, of-given (start g s) n .0);
+    complete = λ p. in-nonempty (gather marked (states g)) (in-gather marked (states g) (p .0) (start-below g (p .0) (p .1)) (in-given (start g (p .0)) (p .1) (List·Memᴰ·head refl)));
+  }
+
+  any-endless : Closed g → Tests (anyEndless g) (GoesOnForever g)
+  unfolding anyEndless
+  any-endless closed = record {
+    sound = λ e.
+        let (r, m) = of-nonempty (begun g unanswered (states g)) e in
+        let l = of-begun g unanswered (states g) r m in
+        long-endless g (Yes unanswered) (r .0) (r .1) (l .begins) (l .walk) closed (le-of-eq (sym (l .size)));
+    complete = λ e.
+        let ts = run g e 0 (states g) in
+        let w = with-stop g (Unfinished g) (Unfinished g) (Yes unanswered) (λ x u. ap not u) (e .state 0) ts (run-walk g e 0 (states g)) in
+        in-nonempty (begun g unanswered (states g))
+        (subst (λ (k : ℕ). (e .state 0, ts) ∈ begun g unanswered k) (length-run g e 0 (states g)) (in-begun g unanswered (e .state 0) ts (e .begins) w));
+  }
+
+  any-stranded : Closed g → Tests (anyStranded g) (EndsUnanswered g)
+  unfolding anyStranded
+  any-stranded closed = record {
+    sound = λ e.
+        let (r, m) = of-nonempty (within g (deadEnd g)) e in
+        let (b, w) = of-within g (deadEnd g) r m in
+        (r .0, r .1, b, with-stop g (Unfinished g) (Yes (deadEnd g)) (DeadEnd g) (of-deadEnd g) (r .0) (r .1) w);
+    complete = λ u. let (s, ts, b, w) = u in
+        let q = simple g (Unfinished g) (DeadEnd g) s ts w in
+        let h = simple-length g (Unfinished g) (DeadEnd g) closed s (q .short) (start-below g s b) (q .walk) (q .different) in
+        in-nonempty (within g (deadEnd g)) (in-within g (deadEnd g) s (q .short) b (with-stop g (Unfinished g) (DeadEnd g) (Yes (deadEnd g)) (in-deadEnd g) s (q .short) (q .walk)) h);
+  }
+
+-- ---- 2
+
+module _ (g : Graph) where
+  -- walking on from s for k transitions: an answer, a dead end, or k transitions without either
+  abbrev Onward : ℕ → ℕ → Type 0
+  Onward k s = ((ts : List ℕ) × RouteFrom g s ts) ⊎ (((ts : List ℕ) × StrandedFrom g s ts) ⊎ ((ts : List ℕ) × UnfinishedFrom g s ts × (length ts ≡ k)))
+
+  one-more : (k s t : ℕ) → Unfinished g s → Departs g s t → Onward k (to g t) → Onward (suc k) s
+  one-more k s t u d (inl (ts, w)) = inl (t ∷ ts, (u, d, w))
+  one-more k s t u d (inr (inl (ts, w))) = inr (inl (t ∷ ts, (u, d, w)))
+  one-more k s t u d (inr (inr (ts, w, l))) = inr (inr (t ∷ ts, (u, d, w), ap suc l))
+
+  go-on : (k s : ℕ) → Onward k s
+  go-on zero s = here (final g s) refl
+    where
+      here : (b : Bool) → final g s ≡ b → Onward 0 s
+      here true e = inl ([], e)
+      here false e = inr (inr ([], e, refl))
+  go-on (suc k) s = here (final g s) refl (leaving g s) refl (λ t. go-on k (to g t))
+    where
+      here : (b : Bool) → final g s ≡ b → (us : List ℕ) → leaving g s ≡ us → ((t : ℕ) → Onward k (to g t)) → Onward (suc k) s
+      here true e us q rest = inl ([], e)
+      here false e [] q rest = inr (inl ([], record { unfinished = e; shut = λ t d. List·Memᴰ·not-nil (rw q at (in-leaving g s t d)) }))
+      here false e (t ∷ us) q rest = one-more k s t e (of-leaving g s t (rw q (List·Memᴰ·head refl))) (rest t)
+
+  pub leads-to-answer : Closed g → (GoesOnForever g → ⊥) → (EndsUnanswered g → ⊥) → (s : ℕ) → Begins g s → LeadsToAnswer g s
+  leads-to-answer closed finite free s b = go (go-on (states g) s)
+    where
+      go : Onward (states g) s → LeadsToAnswer g s
+      go (inl (ts, w)) = (ts, (b, w))
+      go (inr (inl (ts, w))) = absurd (free (s, ts, b, w))
+      go (inr (inr (ts, w, l))) = absurd (finite (long-endless g (Unfinished g) s ts b w closed (le-of-eq (sym l))))
+
+-- ---- 3
+
+module _ (g : Graph) (c : Cost) (closed : Closed g) (finite : GoesOnForever g → ⊥) where
+  -- every route is simple
+  pub route-simple : (s : ℕ) (ts : List ℕ) → Route g s ts → Different (visits g s ts)
+  route-simple s ts r = go (simple-or-endless g (Final g) s ts (r .0) (r .1))
+    where
+      go : EndlessWalk g ⊎ Different (visits g s ts) → Different (visits g s ts)
+      go (inl e) = absurd (finite e)
+      go (inr d) = d
+
+  cover : Covered max AtLeast picks-max g c
+  cover s ts r =
+      let h = simple-length g (Unfinished g) (Final g) closed s ts (start-below g s (r .0)) (r .1) (route-simple s ts r) in
+      (total g c s ts, in-costs g c s ts (in-within g (final g) s ts (r .0) (r .1) h), le-refl (total g c s ts))
+
+-- ---- 4
+
+module _ (g : Graph) (c : Cost) where
+  some-start : (s : ℕ) → Begins g s → NoStart g → ⊥
+  some-start s b no-start = no-start s b
+
+  is-largest : (f : Figure) → (NoStart g → ⊥) → (GoesOnForever g → ⊥) → (EndsUnanswered g → ⊥) → (s : ℕ) → LeadsToAnswer g s → IsExtreme max AtLeast picks-max g c f → IsGreatest g c f
+  is-largest (number k) started finite free s a h = (started, finite, free, h)
+  is-largest NONE started finite free s a h = absurd (h s (a .0) (a .1))
+  is-largest STRANDED started finite free s a h = absurd h
+  is-largest ENDLESS started finite free s a h = absurd h
+
+  -- what is computed is the greatest figure
+  pub greatest-is : Closed g → IsGreatest g c (greatest g c)
+  unfolding greatest
+  greatest-is closed = go (anyStart g) (anyEndless g) (anyStranded g) refl refl refl
+    where
+      go : (a e d : Bool) → anyStart g ≡ a → anyEndless g ≡ e → anyStranded g ≡ d
+          → IsGreatest g c (cond (not a) NONE (cond e ENDLESS (cond d STRANDED (extreme max (costs g c)))))
+      go false e d p q r = λ s b. refuted (any-start g) p (s, b)
+      go true true d p q r = let (s, b) = any-start g .sound p in (some-start s b, any-endless g closed .sound q)
+      go true false true p q r = let (s, b) = any-start g .sound p in (some-start s b, refuted (any-endless g closed) q, any-stranded g closed .sound r)
+      go true false false p q r =
+          let (s, b) = any-start g .sound p in
+          let finite = refuted (any-endless g closed) q in
+          let free = refuted (any-stranded g closed) r in
+          is-largest (extreme max (costs g c)) (some-start s b) finite free s (leads-to-answer g closed finite free s b)
+          (extreme-is max AtLeast picks-max g c (cover g c closed finite))
+
+  -- and there is only one: each kind excludes those after it
+  pub greatest-unique : (f h : Figure) → IsGreatest g c f → IsGreatest g c h → f ≡ h
+  greatest-unique NONE NONE u v = refl
+  greatest-unique NONE ENDLESS u v = absurd (v .0 u)
+  greatest-unique NONE STRANDED u v = absurd (v .0 u)
+  greatest-unique NONE (number l) u v = absurd (v .0 u)
+  greatest-unique ENDLESS NONE u v = absurd (u .0 v)
+  greatest-unique ENDLESS ENDLESS u v = refl
+  greatest-unique ENDLESS STRANDED u v = absurd (v .1 (u .1))
+  greatest-unique ENDLESS (number l) u v = absurd (v .1 (u .1))
+  greatest-unique STRANDED NONE u v = absurd (u .0 v)
+  greatest-unique STRANDED ENDLESS u v = absurd (u .1 (v .1))
+  greatest-unique STRANDED STRANDED u v = refl
+  greatest-unique STRANDED (number l) u v = absurd (v .2 (u .2))
+  greatest-unique (number k) NONE u v = absurd (u .0 v)
+  greatest-unique (number k) ENDLESS u v = absurd (u .1 (v .1))
+  greatest-unique (number k) STRANDED u v = absurd (u .2 (v .2))
+  greatest-unique (number k) (number l) u v = ap number (extreme-unique max AtLeast picks-max g c k l (u .3) (v .3))
+
+  -- and it can be shown
+  pub greatest-shown : Closed g → (f : Figure) → IsGreatest g c f → (ts : List ℕ) × (j : ℕ) × Shown g c f ts j
+  greatest-shown closed NONE u = ([], 0, refl)
+  greatest-shown closed ENDLESS u = endless-shown g c closed (u .1)
+  greatest-shown closed STRANDED u =
+      let (s, ts, b, w) = u .2 in
+      let q = simple g (Unfinished g) (DeadEnd g) s ts w in
+      (q .short, 0, (s, b, q .walk, q .different))
+  greatest-shown closed (number k) u =
+      let (s, ts, r, q) = u .3 .attained in
+      (ts, 0, (s, r, q, route-simple g c closed (u .1) s ts r))

@@ -1,0 +1,10 @@
+pub mod Repeat
+pub mod Walks
+pub mod Simple
+pub mod Endless
+pub mod Cost
+pub mod Listed
+pub mod Extreme
+pub mod Least
+pub mod Greatest
+pub mod Bound

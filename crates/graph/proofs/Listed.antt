@@ -1,0 +1,161 @@
+-- The lists of specs/Compute.antt hold just the walks that they are said to hold.
+--
+-- First what is in a list that is taken by a test, gathered over numbers, or not empty. Then, by recursion on the number of transitions, a list of
+-- transitions is in `walks` exactly when it is a walk of that length through unfinished states to a state where the test says yes;
+-- `begun` adds the start, and `within` all lengths below n. Last, the test for a dead end says yes exactly at a dead end. Assumes nothing.
+use Prim.Native.Nat.{ℕ, zero, suc, _≤_, _<_}
+use mathlib.Core.Path.{_≡_, refl, sym, _∙_, ap, subst}
+use mathlib.Core.Bool.{Bool, true, false, not, false≢true, _&&_, and-eq-true-iff}
+use mathlib.Core.Logic.{_⊎_, inl, inr}
+use mathlib.Core.List.{List, [], _∷_, _++_, map, List·Memᴰ, List·Memᴰ·head, List·Memᴰ·tail, List·Memᴰ·not-nil, List·Memᴰ·eq-of-singleton, List·Memᴰ·append-cases, Memᴰ·append-left, Memᴰ·append-right, Memᴰ·map, Memᴰ·of-map}
+use native.Mathlib.Nat.{not-suc-le-zero, lt-suc-self, le-step, lt-of-lt-of-le, le-of-suc-le-suc, suc-inj, suc-ne-zero}
+use native.Mathlib.Decide.{ℕ-discrete}
+use native.Mathlib.Omega.{arith}
+use lib.Dec.{eqb}
+use lib.ListN.{length}
+use borrow.Author.Tests.{eqb-true, eq-eqb, not-true}
+use Rattle.graph.specs.Graph.{Graph, states, count, start, final, from, to, Departs, Unfinished, DeadEnd}
+use Rattle.graph.specs.Walk.{Begins, WalkTo}
+use Rattle.graph.specs.Compute.{given, gather, nonempty, leaving, deadEnd, walks, begun, within}
+use Rattle.graph.proofs.Walks.{start-below}
+
+infix 50 _∈_
+abbrev pub _∈_ : {A : Type 0} → A → List A → Type 0
+x ∈ xs = List·Memᴰ x xs
+
+module _ {A : Type 0} where
+  pub of-given : (b : Bool) {x : A} {xs : List A} → x ∈ given b xs → (b ≡ true) × (x ∈ xs)
+  of-given true m = (refl, m)
+  of-given false m = absurd (List·Memᴰ·not-nil m)
+
+  pub in-given : (b : Bool) {x : A} {xs : List A} → b ≡ true → x ∈ xs → x ∈ given b xs
+  in-given true e m = m
+  in-given false e m = absurd (false≢true e)
+
+  pub of-gather : (f : ℕ → List A) (n : ℕ) {x : A} → x ∈ gather f n → (i : ℕ) × (i < n) × (x ∈ f i)
+  of-gather f zero m = absurd (List·Memᴰ·not-nil m)
+  of-gather f (suc n) {x} m = go (of-gather f n) (List·Memᴰ·append-cases (gather f n) m)
+    where
+      go : (x ∈ gather f n → (i : ℕ) × (i < n) × (x ∈ f i)) → (x ∈ gather f n) ⊎ (x ∈ f n) → (i : ℕ) × (i < suc n) × (x ∈ f i)
+      go ih (inl l) = let (i, h, r) = ih l in (i, le-step h, r)
+      go ih (inr r) = (n, lt-suc-self n, r)
+
+  pub in-gather : (f : ℕ → List A) (n i : ℕ) {x : A} → i < n → x ∈ f i → x ∈ gather f n
+  in-gather f zero i h m = absurd (not-suc-le-zero h)
+  in-gather f (suc n) i {x} h m = go (in-gather f n i) (ℕ-discrete i n)
+    where
+      go : (i < n → x ∈ f i → x ∈ gather f n) → Dec (i ≡ n) → x ∈ (gather f n ++ f n)
+      go ih (yes e) = Memᴰ·append-right (gather f n) (rw e at m)
+      go ih (no e) = Memᴰ·append-left (f n) (ih (omega arith) m)
+
+  pub of-nonempty : (xs : List A) → nonempty xs ≡ true → (x : A) × (x ∈ xs)
+  of-nonempty [] e = absurd (false≢true e)
+  of-nonempty (x ∷ xs) e = (x, List·Memᴰ·head refl)
+
+  pub in-nonempty : (xs : List A) {x : A} → x ∈ xs → nonempty xs ≡ true
+  in-nonempty [] m = absurd (List·Memᴰ·not-nil m)
+  in-nonempty (x ∷ xs) m = refl
+
+-- yes of a test, as a condition on states
+abbrev pub Yes : (ℕ → Bool) → ℕ → Type 0
+Yes p s = p s ≡ true
+
+module _ (g : Graph) (stop : ℕ → Bool) where
+  -- a walk of that length, through unfinished states to a yes
+  abbrev Walked : ℕ → ℕ → List ℕ → Type 0
+  Walked k s ts = WalkTo g (Unfinished g) (Yes stop) s ts × (length ts ≡ k)
+
+  -- the walks from s that begin with t
+  abbrev through : ℕ → ℕ → ℕ → List (List ℕ)
+  through k s t = given (eqb (from g t) s) (map (λ ts. t ∷ ts) (walks g stop k (to g t)))
+
+  of-walks : (k s : ℕ) (ts : List ℕ) → ts ∈ walks g stop k s → Walked k s ts
+  unfolding walks
+  of-walks zero s ts m =
+      let (e, n) = of-given (stop s) m in
+      subst (Walked 0 s) (sym (List·Memᴰ·eq-of-singleton n)) (e, refl)
+  of-walks (suc k) s ts m =
+      let (u, m₁) = of-given (not (final g s)) m in
+      let (t, h, m₂) = of-gather (through k s) (count g) m₁ in
+      let (e, m₃) = of-given (eqb (from g t) s) m₂ in
+      let (us, m₄, q) = Memᴰ·of-map (λ ts. t ∷ ts) (walks g stop k (to g t)) m₃ in
+      let (w, l) = of-walks k (to g t) us m₄ in
+      subst (Walked (suc k) s) q ((not-true (final g s) u, record { listed = h; source = eqb-true (from g t) s e }, w), ap suc l)
+
+  in-walks : (s : ℕ) (ts : List ℕ) → WalkTo g (Unfinished g) (Yes stop) s ts → ts ∈ walks g stop (length ts) s
+  unfolding walks
+  in-walks s [] w = in-given (stop s) w (List·Memᴰ·head refl)
+  in-walks s (t ∷ ts) w =
+      in-given (not (final g s)) (ap not (w .0))
+      (in-gather (through (length ts) s) (count g) t (w .1 .listed)
+      (in-given (eqb (from g t) s) (eq-eqb (from g t) s (w .1 .source))
+      (Memᴰ·map (λ ts. t ∷ ts) (in-walks (to g t) ts (w .2)))))
+
+  -- the walks from s, with s, where s is a start
+  abbrev beginning : ℕ → ℕ → List (ℕ × List ℕ)
+  beginning k s = given (start g s) (map (λ ts. (s, ts)) (walks g stop k s))
+
+  -- a walk of the plan of that length, through unfinished states to a yes
+  pub record Listed (k : ℕ) (r : ℕ × List ℕ) : Type 0 where
+    pub begins : Begins g (r .0)
+    pub walk : WalkTo g (Unfinished g) (Yes stop) (r .0) (r .1)
+    pub size : length (r .1) ≡ k
+
+  pub of-begun : (k : ℕ) (r : ℕ × List ℕ) → r ∈ begun g stop k → Listed k r
+  unfolding begun
+  of-begun k r m =
+      let (s, h, m₁) = of-gather (beginning k) (states g) m in
+      let (b, m₂) = of-given (start g s) m₁ in
+      let (ts, m₃, q) = Memᴰ·of-map {B = ℕ × List ℕ} (λ ts. (s, ts)) (walks g stop k s) m₂ in
+      let (w, l) = of-walks k s ts m₃ in
+      subst (Listed k) q (record { begins = b; walk = w; size = l })
+
+  pub in-begun : (s : ℕ) (ts : List ℕ) → Begins g s → WalkTo g (Unfinished g) (Yes stop) s ts → (s, ts) ∈ begun g stop (length ts)
+  unfolding begun
+  in-begun s ts b w =
+      in-gather (beginning (length ts)) (states g) s (start-below g s b) (in-given (start g s) b (Memᴰ·map (λ ts. (s, ts)) (in-walks s ts w)))
+
+  pub of-within : (r : ℕ × List ℕ) → r ∈ within g stop → Begins g (r .0) × WalkTo g (Unfinished g) (Yes stop) (r .0) (r .1)
+  unfolding within
+  of-within r m =
+      let (k, h, m₁) = of-gather (begun g stop) (states g) m in
+      let l = of-begun k r m₁ in
+      (l .begins, l .walk)
+
+  pub in-within : (s : ℕ) (ts : List ℕ) → Begins g s → WalkTo g (Unfinished g) (Yes stop) s ts → length ts < states g → (s, ts) ∈ within g stop
+  unfolding within
+  in-within s ts b w h = in-gather (begun g stop) (states g) (length ts) h (in-begun s ts b w)
+
+-- ---- dead ends
+
+module _ (g : Graph) (s : ℕ) where
+  abbrev one-leaving : ℕ → List ℕ
+  one-leaving t = given (eqb (from g t) s) (t ∷ [])
+
+  pub of-leaving : (t : ℕ) → t ∈ leaving g s → Departs g s t
+  unfolding leaving
+  of-leaving t m =
+      let (u, h, m₁) = of-gather one-leaving (count g) m in
+      let (e, m₂) = of-given (eqb (from g u) s) m₁ in
+      subst (Departs g s) (sym (List·Memᴰ·eq-of-singleton m₂)) (record { listed = h; source = eqb-true (from g u) s e })
+
+  pub in-leaving : (t : ℕ) → Departs g s t → t ∈ leaving g s
+  unfolding leaving
+  in-leaving t d = in-gather one-leaving (count g) t (d .listed) (in-given (eqb (from g t) s) (eq-eqb (from g t) s (d .source)) (List·Memᴰ·head refl))
+
+  pub of-deadEnd : deadEnd g s ≡ true → DeadEnd g s
+  unfolding deadEnd
+  of-deadEnd e =
+      let (u, v) = and-eq-true-iff (not (final g s)) (not (nonempty (leaving g s))) .0 e in
+      record {
+        unfinished = not-true (final g s) u;
+        shut = λ t d. false≢true (sym (not-true (nonempty (leaving g s)) v) ∙ in-nonempty (leaving g s) (in-leaving t d));
+      }
+
+  pub in-deadEnd : DeadEnd g s → deadEnd g s ≡ true
+  unfolding deadEnd
+  in-deadEnd d = rw (d .unfinished, none-leaves (nonempty (leaving g s)) refl)
+    where
+      none-leaves : (b : Bool) → nonempty (leaving g s) ≡ b → nonempty (leaving g s) ≡ false
+      none-leaves true e = let (t, m) = of-nonempty (leaving g s) e in absurd (d .shut t (of-leaving t m))
+      none-leaves false e = e

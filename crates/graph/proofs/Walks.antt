@@ -1,0 +1,92 @@
+-- What every walk has: its states by place, its parts, and that it stays within the plan.
+--
+-- All of it is by recursion on the list of transitions, for any condition on the states passed and on the last one; so it holds of routes, of
+-- unfinished walks and of walks to a dead end alike. Assumes nothing.
+use Prim.Native.Nat.{ℕ, zero, suc, _+_, _≤_, _<_, _/_, _%_}
+use mathlib.Core.Path.{_≡_, refl, sym, _∙_, ap, subst}
+use mathlib.Core.Bool.{Bool, true, false, false≢true}
+use mathlib.Core.List.{List, [], _∷_}
+use native.Mathlib.Nat.{not-suc-le-zero, le-of-suc-le-suc, not-le-of-lt}
+use native.Mathlib.Decide.{decLt}
+use native.Mathlib.Omega.{arith}
+use lib.Dec.{eqb}
+use lib.ListN.{length, getD, take, List·getD-eq-default}
+use Rattle.graph.specs.Graph.{Graph, states, count, marksOf, start, to, Departs, Closed}
+use Rattle.graph.specs.Walk.{Begins, WalkTo, visits, arrival}
+use Rattle.graph.proofs.Repeat.{nth}
+
+-- a number that is no state's has no mark, so a start is a state of the plan
+pub start-below : (g : Graph) (s : ℕ) → Begins g s → s < states g
+unfolding start marksOf
+start-below g s b = go (decLt s (states g))
+  where
+    go : Dec (s < states g) → s < states g
+    go (yes h) = h
+    go (no h) = absurd (false≢true (sym (ap (λ (m : ℕ). eqb (m / 4 % 2) 1) (List·getD-eq-default (g .marks) 0 (omega arith))) ∙ b))
+
+module _ (g : Graph) where
+  -- a walk of k transitions has k + 1 states
+  pub length-visits : (s : ℕ) (ts : List ℕ) → length (visits g s ts) ≡ suc (length ts)
+  length-visits s [] = refl
+  length-visits s (t ∷ ts) = ap suc (length-visits (to g t) ts)
+
+  -- the state after i transitions
+  pub state-after : (s : ℕ) (ts : List ℕ) (i : ℕ) → i ≤ length ts → nth (visits g s ts) i ≡ arrival g s (take i ts)
+  state-after s [] zero h = refl
+  state-after s [] (suc i) h = absurd (not-suc-le-zero h)
+  state-after s (t ∷ ts) zero h = refl
+  state-after s (t ∷ ts) (suc i) h = state-after (to g t) ts i (le-of-suc-le-suc h)
+
+  pub state-last : (s : ℕ) (ts : List ℕ) → nth (visits g s ts) (length ts) ≡ arrival g s ts
+  state-last s [] = refl
+  state-last s (t ∷ ts) = state-last (to g t) ts
+
+  -- the states on the first part of a walk
+  pub visits-take : (s : ℕ) (ts : List ℕ) (i : ℕ) → i ≤ length ts → visits g s (take i ts) ≡ take (suc i) (visits g s ts)
+  visits-take s [] zero h = refl
+  visits-take s [] (suc i) h = absurd (not-suc-le-zero h)
+  visits-take s (t ∷ ts) zero h = refl
+  visits-take s (t ∷ ts) (suc i) h = ap (λ (r : List ℕ). s ∷ r) (visits-take (to g t) ts i (le-of-suc-le-suc h))
+
+module _ (g : Graph) (pass stop : ℕ → Type 0) where
+  -- the i-th transition departs from the i-th state, which the walk passes, and leads to the next one
+  pub passed : (s : ℕ) (ts : List ℕ) → WalkTo g pass stop s ts → (i : ℕ) → i < length ts → pass (nth (visits g s ts) i)
+  passed s [] w i h = absurd (not-suc-le-zero h)
+  passed s (t ∷ ts) w zero h = w .0
+  passed s (t ∷ ts) w (suc i) h = passed (to g t) ts (w .2) i (le-of-suc-le-suc h)
+
+  pub departs-at : (s : ℕ) (ts : List ℕ) → WalkTo g pass stop s ts → (i : ℕ) → i < length ts → Departs g (nth (visits g s ts) i) (nth ts i)
+  departs-at s [] w i h = absurd (not-suc-le-zero h)
+  departs-at s (t ∷ ts) w zero h = w .1
+  departs-at s (t ∷ ts) w (suc i) h = departs-at (to g t) ts (w .2) i (le-of-suc-le-suc h)
+
+  pub arrives-at : (s : ℕ) (ts : List ℕ) → WalkTo g pass stop s ts → (i : ℕ) → i < length ts → to g (nth ts i) ≡ nth (visits g s ts) (suc i)
+  arrives-at s [] w i h = absurd (not-suc-le-zero h)
+  arrives-at s (t ∷ []) w zero h = refl
+  arrives-at s (t ∷ u ∷ ts) w zero h = refl
+  arrives-at s (t ∷ []) w (suc i) h = absurd (not-suc-le-zero (le-of-suc-le-suc h))
+  arrives-at s (t ∷ u ∷ ts) w (suc i) h = arrives-at (to g t) (u ∷ ts) (w .2) i (le-of-suc-le-suc h)
+
+  -- the last state
+  pub stopped : (s : ℕ) (ts : List ℕ) → WalkTo g pass stop s ts → stop (arrival g s ts)
+  stopped s [] w = w
+  stopped s (t ∷ ts) w = stopped (to g t) ts (w .2)
+
+  -- every state of a walk is one of the plan's
+  pub visits-below : Closed g → (s : ℕ) (ts : List ℕ) → s < states g → WalkTo g pass stop s ts → (i : ℕ) → i < length (visits g s ts) → nth (visits g s ts) i < states g
+  visits-below c s [] l w zero h = l
+  visits-below c s [] l w (suc i) h = absurd (not-suc-le-zero (le-of-suc-le-suc h))
+  visits-below c s (t ∷ ts) l w zero h = l
+  visits-below c s (t ∷ ts) l w (suc i) h = visits-below c (to g t) ts (c t (w .1 .listed)) (w .2) i (le-of-suc-le-suc h)
+
+  -- the first k transitions are a walk to the state that they lead to
+  pub front : (stop′ : ℕ → Type 0) (s : ℕ) (ts : List ℕ) (k : ℕ) → WalkTo g pass stop s ts → k ≤ length ts → stop′ (nth (visits g s ts) k) → WalkTo g pass stop′ s (take k ts)
+  front stop′ s [] zero w h q = q
+  front stop′ s [] (suc k) w h q = absurd (not-suc-le-zero h)
+  front stop′ s (t ∷ ts) zero w h q = q
+  front stop′ s (t ∷ ts) (suc k) w h q = (w .0, w .1, front stop′ (to g t) ts k (w .2) (le-of-suc-le-suc h) q)
+
+  -- the last state may be said to be something else that it is
+  pub with-stop : (stop′ : ℕ → Type 0) → ((x : ℕ) → stop x → stop′ x) → (s : ℕ) (ts : List ℕ) → WalkTo g pass stop s ts → WalkTo g pass stop′ s ts
+  with-stop stop′ f s [] w = f s w
+  with-stop stop′ f s (t ∷ ts) w = (w .0, w .1, with-stop stop′ f (to g t) ts (w .2))
