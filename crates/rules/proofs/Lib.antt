@@ -1,0 +1,6 @@
+pub mod Results
+pub mod Fields
+pub mod ReadWrite
+pub mod Kept
+pub mod Grounds
+pub mod Vectors

@@ -1,0 +1,80 @@
+-- Results that are accepted: what came before was accepted, and no ground held. Assumes nothing.
+use mathlib.Core.Bool.{Bool, true, false, not, _&&_}
+use mathlib.Core.List.{List, [], _∷_, _++_}
+use mathlib.Core.Path.{_≡_, refl, sym, ap, _∙_}
+use Prim.Native.Nat.{ℕ, zero, suc, _+_}
+use native.Mathlib.Omega.{arith}
+use lib.ListN.{length, take, drop, set, replicate}
+use Rattle.rules.specs.declared.Refusal.{Refusal}
+use Rattle.rules.specs.Refusal.{number, Result, accepted, refused, _>>=_, _>>_, refuseIf, collect}
+use Rattle.rules.specs.Limits.{all}
+
+-- ---- accepted and refused results
+
+pub never : {A : Type 0} (a : A) (k : ℕ) → refused k ≡ accepted a → ⊥
+never a k e = let z : _≡_ {A = ℕ} 0 1 = cc in omega arith
+
+pub bind-accepted : {A B : Type 0} (r : Result A) (f : A → Result B) (b : B) → (r >>= f) ≡ accepted b → (a : A) × (r ≡ accepted a) × (f a ≡ accepted b)
+bind-accepted (accepted a) f b e = (a, refl, e)
+bind-accepted (refused k) f b e = absurd (never b k e)
+
+pub then-accepted : {B : Type 0} (r : Result (Unit {0})) (s : Result B) (b : B) → (r >> s) ≡ accepted b → (r ≡ accepted tt) × (s ≡ accepted b)
+then-accepted (accepted tt) s b e = (refl, e)
+then-accepted (refused k) s b e = absurd (never b k e)
+
+-- no ground holds where a ground's result is accepted
+pub ground-false : (c : Bool) (r : Refusal) → refuseIf c r ≡ accepted tt → c ≡ false
+ground-false true r e = absurd (never tt (number r) e)
+ground-false false r e = refl
+
+pub not-false : (c : Bool) → not c ≡ false → c ≡ true
+not-false true e = refl
+not-false false e = sym e
+
+-- a test that must hold does
+pub holds : (c : Bool) (r : Refusal) → refuseIf (not c) r ≡ accepted tt → c ≡ true
+holds c r e = not-false c (ground-false (not c) r e)
+
+-- ---- tests
+
+pub and-true : (a b : Bool) → (a && b) ≡ true → (a ≡ true) × (b ≡ true)
+and-true true b e = (refl, e)
+and-true false b e = absurd (let z : _≡_ {A = ℕ} 0 1 = cc in omega arith)
+
+pub both-true : (a b : Bool) → a ≡ true → b ≡ true → (a && b) ≡ true
+both-true a b p q = rw (p, q) refl
+
+module _ {A : Type 0} (test : A → Bool) where
+  pub all-append : (xs ys : List A) → all test xs ≡ true → all test ys ≡ true → all test (xs ++ ys) ≡ true
+  unfolding all
+  all-append [] ys p q = q
+  all-append (x ∷ xs) ys p q =
+      let h = and-true (test x) (all test xs) p in
+      both-true (test x) (all test (xs ++ ys)) (h .0) (all-append xs ys (h .1) q)
+
+  pub all-take : (k : ℕ) (xs : List A) → all test xs ≡ true → all test (take k xs) ≡ true
+  unfolding all
+  all-take zero xs p = refl
+  all-take (suc k) [] p = refl
+  all-take (suc k) (x ∷ xs) p =
+      let h = and-true (test x) (all test xs) p in
+      both-true (test x) (all test (take k xs)) (h .0) (all-take k xs (h .1))
+
+  pub all-drop : (k : ℕ) (xs : List A) → all test xs ≡ true → all test (drop k xs) ≡ true
+  unfolding all
+  all-drop zero xs p = p
+  all-drop (suc k) [] p = refl
+  all-drop (suc k) (x ∷ xs) p = all-drop k xs (and-true (test x) (all test xs) p .1)
+
+  pub all-set : (xs : List A) (i : ℕ) (v : A) → all test xs ≡ true → test v ≡ true → all test (set xs i v) ≡ true
+  unfolding all
+  all-set [] i v p q = p
+  all-set (x ∷ xs) zero v p q = both-true (test v) (all test xs) q (and-true (test x) (all test xs) p .1)
+  all-set (x ∷ xs) (suc i) v p q =
+      let h = and-true (test x) (all test xs) p in
+      both-true (test x) (all test (set xs i v)) (h .0) (all-set xs i v (h .1) q)
+
+  pub all-replicate : (k : ℕ) (v : A) → test v ≡ true → all test (replicate k v) ≡ true
+  unfolding all
+  all-replicate zero v q = refl
+  all-replicate (suc k) v q = both-true (test v) (all test (replicate k v)) q (all-replicate k v q)

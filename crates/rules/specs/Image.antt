@@ -1,0 +1,112 @@
+-- The image of a plan, and the plan that octets hold. Document 01, "The image", and the order of read's refusals. Assumes nothing.
+use mathlib.Core.Bool.{Bool, true, false, not}
+use mathlib.Core.List.{List, [], _∷_, _++_}
+use Prim.Native.Nat.{ℕ, zero, suc, _+_, _*_, _/_, _%_}
+use lib.Dec.{leb, ltb, eqb}
+use lib.ListN.{length}
+use Rattle.graph.specs.Graph.{Graph, Transition, states, count}
+use Rattle.field.specs.Field.{Field, fieldAt, pack}
+use Rattle.rules.specs.declared.Refusal.the-variants.{ImageShort, ImageLong, Version, StateCount, TransitionCount, SpareBits, StateNumber, Duration}
+use Rattle.rules.specs.Refusal.{Result, accepted, refused, _>>=_, _>>_, refuseIf, collect}
+use Rattle.rules.specs.Limits.{stateCountOk, transitionCountOk, endsOk, durationsOk}
+
+-- ---- the layout
+
+abbrev pub field : ℕ → ℕ → Field
+field w v = record { width = w; value = v }
+
+-- "version, 4 bits, the value 1; state count, 10 bits; transition count, 12 bits; pad, 6 bits, zero"
+abbrev pub headerFields : ℕ → ℕ → List Field
+headerFields n m = field 4 1 ∷ field 10 n ∷ field 12 m ∷ field 6 0 ∷ []
+
+-- "for each state, one octet: start, final, counted, one bit each; then 5 spare bits, zero" ("4 for start, 2 for final, 1 for counted")
+abbrev pub stateFields : ℕ → List Field
+stateFields v = field 1 (v / 4 % 2) ∷ field 1 (v / 2 % 2) ∷ field 1 (v % 2) ∷ field 5 0 ∷ []
+
+-- "for each transition, 40 bits: from, 9; to, 9; low, 11; high, 11"
+abbrev pub transitionFields : Transition → List Field
+transitionFields t = field 9 (t .from) ∷ field 9 (t .to) ∷ field 11 (t .low) ∷ field 11 (t .high) ∷ []
+
+-- the fields of one item after another
+unfoldable pub fieldsOfEach : {A : Type 0} → (A → List Field) → List A → List Field
+fieldsOfEach fields [] = []
+fieldsOfEach fields (x ∷ xs) = fields x ++ fieldsOfEach fields xs
+
+-- "in this order"
+unfoldable pub imageFields : Graph → List Field
+imageFields g =
+    headerFields (states g) (count g) ++ fieldsOfEach stateFields (g .marks) ++ fieldsOfEach transitionFields (g .transitions)
+
+-- the octets of a plan's image
+unfoldable pub image : Graph → List ℕ
+image g = pack (imageFields g)
+
+-- "The length is 4 + n + 5 × m octets"
+abbrev pub imageLength : ℕ → ℕ → ℕ
+imageLength n m = 4 + n + 5 * m
+
+-- ---- reading
+
+-- the header's fields, from the front of the image
+abbrev pub versionOf : List ℕ → ℕ
+versionOf os = fieldAt os 0 4
+
+abbrev pub stateCountOf : List ℕ → ℕ
+stateCountOf os = fieldAt os 4 10
+
+abbrev pub transitionCountOf : List ℕ → ℕ
+transitionCountOf os = fieldAt os 14 12
+
+abbrev pub padOf : List ℕ → ℕ
+padOf os = fieldAt os 26 6
+
+-- the state at a bit position: its marks value, unless a spare bit is set
+abbrev pub stateAt : List ℕ → ℕ → Result ℕ
+stateAt os at = do
+  refuseIf (not (eqb (fieldAt os (at + 3) 5) 0)) SpareBits
+  accepted (4 * fieldAt os at 1 + 2 * fieldAt os (at + 1) 1 + fieldAt os (at + 2) 1)
+
+-- the fields of the transition at a bit position
+abbrev pub transitionAt : List ℕ → ℕ → Transition
+transitionAt os at = record { from = fieldAt os at 9; to = fieldAt os (at + 9) 9; low = fieldAt os (at + 18) 11; high = fieldAt os (at + 29) 11 }
+
+-- a transition of a plan with n states: "7 before 8"
+abbrev pub checked : ℕ → Transition → Result Transition
+checked n t = do
+  refuseIf (not (endsOk n t)) StateNumber
+  refuseIf (not (durationsOk t)) Duration
+  accepted t
+
+-- the bit positions of state i, and of transition i of an image with n states
+abbrev pub statePlace : ℕ → ℕ
+statePlace i = 32 + 8 * i
+
+abbrev pub transitionPlace : ℕ → ℕ → ℕ
+transitionPlace n i = 32 + 8 * n + 40 * i
+
+-- the counts' own grounds: "1 for under 4 octets, 3, 4, 5, 6 for pad, 1, 2"
+unfoldable pub headerRule : List ℕ → Result (Unit {0})
+headerRule os = do
+  refuseIf (ltb (length os) 4) ImageShort
+  refuseIf (not (eqb (versionOf os) 1)) Version
+  refuseIf (not (stateCountOk (stateCountOf os))) StateCount
+  refuseIf (not (transitionCountOk (transitionCountOf os))) TransitionCount
+  refuseIf (not (eqb (padOf os) 0)) SpareBits
+  refuseIf (ltb (length os) (imageLength (stateCountOf os) (transitionCountOf os))) ImageShort
+  refuseIf (ltb (imageLength (stateCountOf os) (transitionCountOf os)) (length os)) ImageLong
+
+-- "then states by number, 6"
+unfoldable pub statesIn : List ℕ → ℕ → Result (List ℕ)
+statesIn os n = collect (λ (i : ℕ). stateAt os (statePlace i)) 0 n
+
+-- "then transitions by number, 7 before 8"
+unfoldable pub transitionsIn : List ℕ → ℕ → ℕ → Result (List Transition)
+transitionsIn os n m = collect (λ (i : ℕ). checked n (transitionAt os (transitionPlace n i))) 0 m
+
+-- the plan that octets hold, or the refusal
+unfoldable pub readImage : List ℕ → Result Graph
+readImage os = do
+  headerRule os
+  marks ← statesIn os (stateCountOf os)
+  transitions ← transitionsIn os (stateCountOf os) (transitionCountOf os)
+  accepted (record { marks = marks; transitions = transitions })

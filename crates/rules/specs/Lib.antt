@@ -1,0 +1,5 @@
+pub mod Refusal
+pub mod Limits
+pub mod Image
+pub mod Rules
+pub mod Calls

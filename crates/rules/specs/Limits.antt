@@ -1,0 +1,39 @@
+-- The limits of a plan. Document 01, "The plan and its edits". Assumes nothing.
+use mathlib.Core.Bool.{Bool, true, false, _&&_}
+use mathlib.Core.List.{List, [], _∷_}
+use Prim.Native.Nat.{ℕ}
+use lib.Dec.{leb, ltb}
+use Rattle.graph.specs.Graph.{Graph, Transition, states, count}
+
+-- a test holds of every element
+unfoldable pub all : {A : Type 0} → (A → Bool) → List A → Bool
+all test [] = true
+all test (x ∷ xs) = test x && all test xs
+
+-- "a number of states n (1 to 512)"
+abbrev pub stateCountOk : ℕ → Bool
+stateCountOk n = leb 1 n && leb n 512
+
+-- "a list of 0 to 2,048 transitions"
+abbrev pub transitionCountOk : ℕ → Bool
+transitionCountOk m = leb m 2048
+
+-- "A marks value is 0 to 7"
+abbrev pub marksOk : ℕ → Bool
+marksOk v = leb v 7
+
+-- "a from state, a to state": both are states of a plan with n of them
+abbrev pub endsOk : ℕ → Transition → Bool
+endsOk n t = ltb (t .from) n && ltb (t .to) n
+
+-- "a low and a high duration in seconds, 0 to 2,047 each, low at most high"
+abbrev pub durationsOk : Transition → Bool
+durationsOk t = leb (t .low) (t .high) && leb (t .high) 2047
+
+abbrev pub transitionOk : ℕ → Transition → Bool
+transitionOk n t = endsOk n t && durationsOk t
+
+-- the limits of a plan
+unfoldable pub within : Graph → Bool
+within g =
+    stateCountOk (states g) && transitionCountOk (count g) && all marksOk (g .marks) && all (transitionOk (states g)) (g .transitions)

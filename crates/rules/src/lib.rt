@@ -1,0 +1,39 @@
+// The grounds on which a call is refused, and the answer of a call that edits a plan. The rules themselves are definitions, in specs/.
+
+// A row of document 01's table of refused calls. specs/Refusal.antt gives the number of each.
+pub enum Refusal {
+    // the plan value breaks a limit of a plan
+    PlanLimits,
+    // fewer than 4 octets, or fewer than the counts give
+    ImageShort,
+    // more octets than the counts give
+    ImageLong,
+    // version not 1
+    Version,
+    // state count 0 or above 512
+    StateCount,
+    // transition count above 2,048
+    TransitionCount,
+    // a pad or spare bit set
+    SpareBits,
+    // a state number not below n
+    StateNumber,
+    // low above high, or high above 2,047
+    Duration,
+    // the list holds 2,048 already
+    ListFull,
+    // a number not below m
+    TransitionNumber,
+    // lent buffer below the length that is needed
+    BufferLength,
+    // value above 7
+    MarksValue,
+    // a figure above 1,048,575
+    FigureSize,
+}
+
+// The answer of a call that makes or changes a plan.
+pub enum Answer {
+    Accepted,
+    Refused(Refusal),
+}
