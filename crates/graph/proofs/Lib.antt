@@ -8,3 +8,5 @@ pub mod Extreme
 pub mod Least
 pub mod Greatest
 pub mod Bound
+pub mod Known
+pub mod Certificate

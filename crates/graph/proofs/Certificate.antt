@@ -1,0 +1,204 @@
+-- What a search has to leave behind so that its figures are right. About no code: values, ranks and choices are functions on states.
+--
+-- 1. A bound on every route from a state, by induction on the route from its last state back: it holds of the close at a final state, and is carried over each transition out of an unfinished one
+--    (`route-bound`). Least values are such a bound from below (`least-values`), greatest values one from above (`greatest-values`).
+-- 2. A rank that falls along the transitions between the unfinished states that starts reach: no walk among them is longer than the rank of its first state, so none is endless (`no-endless`); and where
+--    each of them has a transition out, none is a dead end (`no-stranded`). So every start leads to an answer (`rank-answers`).
+-- 3. A transition chosen at each unfinished state, that leads on with a lower rank and accounts for the value: following the choices is a route that costs the value and visits no state twice (`follow`).
+-- 4. Together, values at a best start are the least figure (`least-number`, `least-none`), or the greatest (`greatest-number`).
+-- Assumes nothing.
+use Prim.Native.Nat.{ℕ, zero, suc, _+_, _≤_, _<_}
+use mathlib.Core.Path.{_≡_, refl, sym, _∙_, ap, subst}
+use mathlib.Core.Bool.{Bool, true, false, false≢true}
+use mathlib.Core.Logic.{_⊎_, inl, inr}
+use mathlib.Core.List.{List, [], _∷_}
+use native.Mathlib.Nat.{not-suc-le-zero, le-of-suc-le-suc, le-refl, le-trans, le-of-lt}
+use native.Mathlib.Omega.{arith}
+use lib.ListN.{length}
+use Rattle.graph.specs.Graph.{Graph, states, final, to, Departs, Final, Unfinished, DeadEnd, Closed}
+use Rattle.graph.specs.Walk.{Begins, WalkTo, visits, arrival, UnfinishedFrom, Different, EndlessWalk}
+use Rattle.graph.specs.Route.{RouteFrom, Route, LeadsToAnswer, StrandedFrom, GoesOnForever, EndsUnanswered, Cost, total}
+use Rattle.graph.specs.Figure.{Figure, number, NONE, STRANDED, ENDLESS, IsLeast, IsGreatest, NoStart, Shown}
+use Rattle.graph.proofs.Repeat.{nth, different-cons}
+use Rattle.graph.proofs.Greatest.{leads-to-answer}
+
+-- ---- 1
+
+module _ (g : Graph) (c : Cost) where
+  pub route-bound : (Bound : ℕ → ℕ → Type 0) → ((s : ℕ) → Final g s → Bound s (c .close s))
+      → ((s t x : ℕ) → Unfinished g s → Departs g s t → Bound (to g t) x → Bound s (c .step t + x))
+      → (s : ℕ) (ts : List ℕ) → RouteFrom g s ts → Bound s (total g c s ts)
+  route-bound Bound at-final over s [] r = at-final s r
+  route-bound Bound at-final over s (t ∷ ts) r = over s t (total g c (to g t) ts) (r .0) (r .1) (route-bound Bound at-final over (to g t) ts (r .2))
+
+  -- values for the states that have one: at a final state at most the close; over a transition, at most its cost and the value behind it
+  pub record LeastValues (Has : ℕ → Type 0) (value : ℕ → ℕ) : Type 0 where
+    pub at-final : (s : ℕ) → Final g s → Has s × (value s ≤ c .close s)
+    pub over : (s t : ℕ) → Unfinished g s → Departs g s t → Has (to g t) → Has s × (value s ≤ c .step t + value (to g t))
+
+  -- whatever state a route begins at has a value, and the route costs no less
+  pub least-values : (Has : ℕ → Type 0) (value : ℕ → ℕ) → LeastValues Has value → (s : ℕ) (ts : List ℕ) → RouteFrom g s ts → Has s × (value s ≤ total g c s ts)
+  least-values Has value v = route-bound (λ s x. Has s × (value s ≤ x)) (v .at-final) over
+    where
+      over : (s t x : ℕ) → Unfinished g s → Departs g s t → Has (to g t) × (value (to g t) ≤ x) → Has s × (value s ≤ c .step t + x)
+      over s t x u d (h, l) = let (h′, l′) = v .over s t u d h in (h′, omega arith)
+
+  -- values for unfinished states of a set that transitions do not leave, but to final states: at least the close; over a transition, at least its cost and the value behind it
+  pub record GreatestValues (In : ℕ → Type 0) (value : ℕ → ℕ) : Type 0 where
+    pub at-final : (s : ℕ) → Final g s → c .close s ≤ value s
+    pub stays : (s t : ℕ) → In s → Departs g s t → Unfinished g (to g t) → In (to g t)
+    pub over : (s t : ℕ) → In s → Departs g s t → c .step t + value (to g t) ≤ value s
+
+  -- no route from the set costs more
+  pub greatest-values : (In : ℕ → Type 0) (value : ℕ → ℕ) → GreatestValues In value
+      → (s : ℕ) (ts : List ℕ) → (Unfinished g s → In s) → RouteFrom g s ts → total g c s ts ≤ value s
+  greatest-values In value v s ts i r = route-bound (λ s x. (Unfinished g s → In s) → x ≤ value s) (λ s f i. v .at-final s f) over s ts r i
+    where
+      over : (s t x : ℕ) → Unfinished g s → Departs g s t → ((Unfinished g (to g t) → In (to g t)) → x ≤ value (to g t)) → (Unfinished g s → In s) → c .step t + x ≤ value s
+      over s t x u d bound i = let h = bound (v .stays s t (i u) d) in omega (arith, v .over s t (i u) d)
+
+-- ---- 2
+
+module _ (g : Graph) (In : ℕ → Type 0) (rank : ℕ → ℕ) where
+  -- the set holds the unfinished states that starts reach through unfinished ones, and the rank falls within it
+  pub record FallingRank : Type 0 where
+    pub begins : (s : ℕ) → Begins g s → Unfinished g s → In s
+    pub onward : (s t : ℕ) → In s → Departs g s t → Unfinished g (to g t) → In (to g t) × (rank (to g t) < rank s)
+
+  module _ (r : FallingRank) where
+    sinks : (e : EndlessWalk g) (i : ℕ) → In (e .state i) × (i + rank (e .state i) ≤ rank (e .state 0))
+    sinks e zero = (r .begins (e .state 0) (e .begins) (e .unfinished 0), omega arith)
+    sinks e (suc i) =
+        let (here, l) = sinks e i in
+        let (there, falls) = r .onward (e .state i) (e .taken i) here (e .departs i) (rw (e .arrives i) (e .unfinished (suc i))) in
+        let falls′ : rank (e .state (suc i)) < rank (e .state i) = rw (e .arrives i) at falls in
+        (rw (e .arrives i) at there, omega arith)
+
+    -- after so many steps the rank would be below 0
+    pub no-endless : GoesOnForever g → ⊥
+    no-endless e = omega (arith, sinks e (suc (rank (e .state 0))) .1)
+
+    -- a walk from the set to a dead end: its first state is unfinished, and its last is in the set
+    stranded-unfinished : (s : ℕ) (ts : List ℕ) → StrandedFrom g s ts → Unfinished g s
+    stranded-unfinished s [] w = w .unfinished
+    stranded-unfinished s (t ∷ ts) w = w .0
+
+    stranded-in : ((s : ℕ) → In s → (t : ℕ) × Departs g s t) → (s : ℕ) (ts : List ℕ) → In s → StrandedFrom g s ts → ⊥
+    stranded-in out s [] i w = let (t, d) = out s i in w .shut t d
+    stranded-in out s (t ∷ ts) i w = stranded-in out (to g t) ts (r .onward s t i (w .1) (stranded-unfinished (to g t) ts (w .2)) .0) (w .2)
+
+    -- if each state of the set has a transition out
+    pub no-stranded : ((s : ℕ) → In s → (t : ℕ) × Departs g s t) → EndsUnanswered g → ⊥
+    no-stranded out (s, ts, b, w) = stranded-in out s ts (r .begins s b (stranded-unfinished s ts w)) w
+
+    pub rank-answers : Closed g → ((s : ℕ) → In s → (t : ℕ) × Departs g s t) → (s : ℕ) → Begins g s → LeadsToAnswer g s
+    rank-answers closed out = leads-to-answer g closed no-endless (no-stranded out)
+
+-- ---- 3
+
+module _ (g : Graph) (c : Cost) (In : ℕ → Type 0) (value rank : ℕ → ℕ) where
+  -- the transition to take at s
+  pub record Choice (s : ℕ) : Type 0 where
+    pub next : ℕ
+    pub departs : Departs g s next
+    pub accounts : value s ≡ c .step next + value (to g next)
+    pub onward : Unfinished g (to g next) → In (to g next) × (rank (to g next) < rank s)
+
+  pub record Choices : Type 0 where
+    pub at-final : (s : ℕ) → Final g s → value s ≡ c .close s
+    pub choice : (s : ℕ) → In s → Unfinished g s → Choice s
+
+  -- the route that the choices make
+  pub record Followed (s : ℕ) : Type 0 where
+    pub taken : List ℕ
+    pub route : RouteFrom g s taken
+    pub costs : total g c s taken ≡ value s
+    pub falls : (i : ℕ) → i < length (visits g s taken) → Unfinished g (nth (visits g s taken) i) → Unfinished g s × (rank (nth (visits g s taken) i) ≤ rank s)
+    pub different : Different (visits g s taken)
+
+  module _ (p : Choices) where
+    follow-final : (s : ℕ) → Final g s → Followed s
+    follow-final s f = record {
+      taken = [];
+      route = f;
+      costs = sym (p .at-final s f);
+      falls = one;
+      different = different-cons s [] (λ i h e. not-suc-le-zero h) (λ i j l h e. not-suc-le-zero h);
+    }
+      where
+        one : (i : ℕ) → i < 1 → Unfinished g (nth (s ∷ []) i) → Unfinished g s × (rank (nth (s ∷ []) i) ≤ rank s)
+        one zero h u = (u, le-refl (rank s))
+        one (suc i) h u = absurd (not-suc-le-zero (le-of-suc-le-suc h))
+
+    follow-on : (s : ℕ) → Unfinished g s → (q : Choice s) → Followed (to g (q .next)) → Followed s
+    follow-on s u q f = record {
+      taken = q .next ∷ f .taken;
+      route = (u, q .departs, f .route);
+      costs = ap (λ (x : ℕ). c .step (q .next) + x) (f .costs) ∙ sym (q .accounts);
+      falls = falls;
+      different = different-cons s after new (f .different);
+    }
+      where
+        after : List ℕ
+        after = visits g (to g (q .next)) (f .taken)
+
+        -- an unfinished state behind s has a lower rank
+        lower : (i : ℕ) → i < length after → Unfinished g (nth after i) → rank (nth after i) < rank s
+        lower i h v = let (w, l) = f .falls i h v in omega (arith, q .onward w .1)
+
+        falls : (i : ℕ) → i < suc (length after) → Unfinished g (nth (s ∷ after) i) → Unfinished g s × (rank (nth (s ∷ after) i) ≤ rank s)
+        falls zero h v = (u, le-refl (rank s))
+        falls (suc i) h v = (u, le-of-lt (lower i (le-of-suc-le-suc h) v))
+
+        new : (i : ℕ) → i < length after → nth after i ≡ s → ⊥
+        new i h e = omega (arith, lower i h (rw e u), ap rank e)
+
+    follow-within : (n s : ℕ) → (Unfinished g s → In s × (rank s < n)) → Followed s
+    follow-within zero s i = here (final g s) refl
+      where
+        here : (b : Bool) → final g s ≡ b → Followed s
+        here true e = follow-final s e
+        here false e = absurd (not-suc-le-zero (i e .1))
+    follow-within (suc n) s i = here (final g s) refl (λ x h. follow-within n x h)
+      where
+        here : (b : Bool) → final g s ≡ b → ((x : ℕ) → (Unfinished g x → In x × (rank x < n)) → Followed x) → Followed s
+        here true e rest = follow-final s e
+        here false e rest =
+            let (inside, l) = i e in
+            let q = p .choice s inside e in
+            follow-on s e q (rest (to g (q .next)) (λ u. let (there, lower) = q .onward u in (there, omega arith)))
+
+    pub follow : (s : ℕ) → (Unfinished g s → In s) → Followed s
+    follow s i = follow-within (suc (rank s)) s (λ u. (i u, le-refl (suc (rank s))))
+
+    -- it is what 01 asks to be shown for the value
+    pub follow-shown : (s : ℕ) → Begins g s → (Unfinished g s → In s) → (ts : List ℕ) × Shown g c (number (value s)) ts 0
+    follow-shown s b i = let f = follow s i in (f .taken, (s, (b, f .route), f .costs, f .different))
+
+-- ---- 4
+
+module _ (g : Graph) (c : Cost) (In : ℕ → Type 0) (value rank : ℕ → ℕ) where
+  -- no start has a value: there is no route
+  pub least-none : LeastValues g c In value → ((s : ℕ) → Begins g s → In s → ⊥) → IsLeast g c NONE
+  least-none v none s ts (b, r) = none s b (least-values g c In value v s ts r .0)
+
+  -- the least value of a start
+  pub least-number : LeastValues g c In value → Choices g c In value rank
+      → (s : ℕ) → Begins g s → In s → ((x : ℕ) → Begins g x → In x → value s ≤ value x) → IsLeast g c (number (value s))
+  least-number v p s b i best = record {
+    attained = let f = follow g c In value rank p s (λ u. i) in (s, f .taken, (b, f .route), f .costs);
+    bound = λ x ts r. let (h, l) = least-values g c In value v x ts (r .1) in le-trans (best x (r .0) h) l;
+  }
+
+  -- the greatest value of a start
+  pub greatest-number : FallingRank g In rank → GreatestValues g c In value → Choices g c In value rank
+      → (s : ℕ) → Begins g s → ((x : ℕ) → Begins g x → value x ≤ value s) → ((x : ℕ) → In x → Unfinished g x) → IsGreatest g c (number (value s))
+  greatest-number r v p s b best unfinished = (
+    λ no-start. no-start s b,
+    no-endless g In rank r,
+    no-stranded g In rank r (λ x i. let q = p .choice x i (unfinished x i) in (q .next, q .departs)),
+    record {
+      attained = let f = follow g c In value rank p s (r .begins s b) in (s, f .taken, (b, f .route), f .costs);
+      bound = λ x ts q. le-trans (greatest-values g c In value v x ts (r .begins x (q .0)) (q .1)) (best x (q .0));
+    },
+  )

@@ -1,0 +1,138 @@
+-- P1 to P9, and the plans that mislead, hold of the rules themselves: one computed test over the tables, and one lemma that turns it into the rules.
+--
+-- The test computes the four figures of a row's plan and compares them with the row's, and looks that each transition leads to a state. What is computed meets the rules for
+-- every such plan (`least-is`, `greatest-is`), so a figure equal to it does (`holds`). Assumes nothing.
+use Prim.Native.Nat.{ℕ, zero, suc, _<_}
+use mathlib.Core.Path.{_≡_, refl, sym, _∙_, ap, subst}
+use mathlib.Core.Bool.{Bool, true, false, _&&_, and-eq-true-iff, false≢true}
+use mathlib.Core.List.{List, [], _∷_, _++_}
+use native.Mathlib.Nat.{not-suc-le-zero, le-of-suc-le-suc}
+use native.Mathlib.Decide.{ℕ-discrete}
+use native.Mathlib.Omega.{arith}
+use lib.Dec.{eqb, ltb, lit<}
+use lib.ListN.{length, getD}
+use borrow.Author.Tests.{eqb-true, ltb-true}
+use Rattle.graph.specs.Graph.{Graph, states, count, marksOf, start, final, counted, transition, from, to, low, high, Closed}
+use Rattle.graph.specs.Route.{Cost}
+use Rattle.graph.specs.Figure.{Figure, number, NONE, STRANDED, ENDLESS, IsLeast, IsGreatest, leastDelayCost, greatestDelayCost, countCost}
+use Rattle.graph.specs.Compute.{least, greatest, leastDelay, greatestDelay, leastCount, greatestCount}
+use Rattle.graph.specs.Known.{Row, Holds, known, misleading, P1, P4, P7, P8, unreached-dead-end, reached-dead-end, counted-ends}
+use Rattle.graph.proofs.Least.{least-is}
+use Rattle.graph.proofs.Greatest.{greatest-is}
+
+-- ---- the test
+
+-- figures as numbers, and back
+code : Figure → ℕ
+code NONE = 0
+code STRANDED = 1
+code ENDLESS = 2
+code (number k) = suc (suc (suc k))
+
+decode : ℕ → Figure
+decode zero = NONE
+decode (suc zero) = STRANDED
+decode (suc (suc zero)) = ENDLESS
+decode (suc (suc (suc k))) = number k
+
+decode-code : (f : Figure) → decode (code f) ≡ f
+unfolding code decode
+decode-code NONE = refl
+decode-code STRANDED = refl
+decode-code ENDLESS = refl
+decode-code (number k) = refl
+
+same : Figure → Figure → Bool
+unfolding code
+same f h = eqb (code f) (code h)
+
+of-same : (f h : Figure) → same f h ≡ true → f ≡ h
+unfolding same
+of-same f h e = sym (decode-code f) ∙ ap decode (eqb-true (code f) (code h) e) ∙ decode-code h
+
+-- the first k transitions lead to states of the plan
+leads : Graph → ℕ → Bool
+leads g zero = true
+leads g (suc k) = ltb (to g k) (states g) && leads g k
+
+of-leads : (g : Graph) (k : ℕ) → leads g k ≡ true → (t : ℕ) → t < k → to g t < states g
+unfolding leads
+of-leads g zero e t h = absurd (not-suc-le-zero h)
+of-leads g (suc k) e t h = go (and-eq-true-iff (ltb (to g k) (states g)) (leads g k) .0 e) (ℕ-discrete t k) (of-leads g k)
+  where
+    go : (ltb (to g k) (states g) ≡ true) × (leads g k ≡ true) → Dec (t ≡ k) → (leads g k ≡ true → (u : ℕ) → u < k → to g u < states g) → to g t < states g
+    go (a, b) (yes q) ih = rw q (ltb-true (to g k) (states g) a)
+    go (a, b) (no q) ih = ih b t (omega arith)
+
+right : Row → Bool
+unfolding leads same leastDelay greatestDelay leastCount greatestCount
+right r =
+    leads (r .plan) (count (r .plan))
+    && (same (leastDelay (r .plan)) (r .least-delay)
+    && (same (greatestDelay (r .plan)) (r .greatest-delay)
+    && (same (leastCount (r .plan)) (r .least-count)
+    && same (greatestCount (r .plan)) (r .greatest-count))))
+
+-- ---- from the test to the rules
+
+both : (a b : Bool) → a && b ≡ true → (a ≡ true) × (b ≡ true)
+both a b e = and-eq-true-iff a b .0 e
+
+holds : (r : Row) → right r ≡ true → Holds r
+unfolding right
+holds r e =
+    let g = r .plan in
+    let (closed?, e₁) = both (leads g (count g)) _ e in
+    let (ld, e₂) = both (same (leastDelay g) (r .least-delay)) _ e₁ in
+    let (gd, e₃) = both (same (greatestDelay g) (r .greatest-delay)) _ e₂ in
+    let (lc, gc) = both (same (leastCount g) (r .least-count)) _ e₃ in
+    let closed : Closed g = of-leads g (count g) closed? in
+    record {
+      least-delay = subst (IsLeast g (leastDelayCost g)) (of-same (leastDelay g) (r .least-delay) ld) (least-is g (leastDelayCost g) closed);
+      greatest-delay = subst (IsGreatest g (greatestDelayCost g)) (of-same (greatestDelay g) (r .greatest-delay) gd) (greatest-is g (greatestDelayCost g) closed);
+      least-count = subst (IsLeast g (countCost g)) (of-same (leastCount g) (r .least-count) lc) (least-is g (countCost g) closed);
+      greatest-count = subst (IsGreatest g (countCost g)) (of-same (greatestCount g) (r .greatest-count) gc) (greatest-is g (countCost g) closed);
+    }
+
+-- ---- the tables
+
+all-right : List Row → Bool
+unfolding right
+all-right [] = true
+all-right (r ∷ rs) = right r && all-right rs
+
+all-hold : (rs : List Row) → all-right rs ≡ true → (i : ℕ) → i < length rs → Holds (getD rs i P1)
+unfolding all-right
+all-hold [] e i h = absurd (not-suc-le-zero h)
+all-hold (r ∷ rs) e zero h = holds r (both (right r) (all-right rs) e .0)
+all-hold (r ∷ rs) e (suc i) h = all-hold rs (both (right r) (all-right rs) e .1) i (le-of-suc-le-suc h)
+
+-- "P1 to P9 are shown to hold of the rules themselves, gathered into a table with one proof for the lot"; and so are the plans that mislead
+pub known-hold : (i : ℕ) → i < length (known ++ misleading) → Holds (getD (known ++ misleading) i P1)
+unfolding all-right marksOf start final counted transition from to low high
+known-hold = all-hold (known ++ misleading) refl
+
+-- ---- "What misleads people here"
+
+-- "Walking on through a final state (P8)": whoever walks on meets the loop 1→1, and says ENDLESS
+pub final-ends : IsGreatest (P8 .plan) (greatestDelayCost (P8 .plan)) (number 2)
+final-ends = known-hold 7 (lit< tt) .greatest-delay
+
+-- "Letting a loop or dead end that no start reaches turn the greatest figure (P7)": ENDLESS, and STRANDED in the row without the loop
+pub unreached-loop : IsGreatest (P7 .plan) (greatestDelayCost (P7 .plan)) (number 3)
+unreached-loop = known-hold 6 (lit< tt) .greatest-delay
+
+pub unreached-end : IsGreatest (unreached-dead-end .plan) (greatestDelayCost (unreached-dead-end .plan)) (number 3)
+unreached-end = known-hold 9 (lit< tt) .greatest-delay
+
+-- "Taking a zero-duration loop for no loop (P4)": 1
+pub zero-loop : IsGreatest (P4 .plan) (greatestDelayCost (P4 .plan)) ENDLESS
+zero-loop = known-hold 3 (lit< tt) .greatest-delay
+
+-- "Reading upper's result at a dead end as a delay: its walk has no answer": 9
+pub no-answer : IsGreatest (reached-dead-end .plan) (greatestDelayCost (reached-dead-end .plan)) STRANDED
+no-answer = known-hold 10 (lit< tt) .greatest-delay
+
+-- "Counting neither the first nor the last state": 0, or 1 with one of the two
+pub both-ends-count : IsLeast (counted-ends .plan) (countCost (counted-ends .plan)) (number 2)
+both-ends-count = known-hold 11 (lit< tt) .least-count
