@@ -2,17 +2,17 @@
 --
 -- The states of what is shown are below n and differ, all of them for a number or STRANDED, all but the last for ENDLESS; so they are at most n. A route that is shown for a number
 -- has at most 511 transitions, n being at most 512, each of at most 2,047 seconds: 1,046,017 seconds, or 512 counted states. Assumes nothing.
-use Prim.Native.Nat.{ℕ, zero, suc, _+_, _*_, _≤_, _<_, zero-le}
-use mathlib.Core.Path.{_≡_, refl, sym, _∙_}
+use Prim.Native.Nat.{ℕ, _+_, _*_, _≤_, _<_, zero-le}
+use mathlib.Core.Path.{_≡_}
 use mathlib.Core.Bool.{Bool}
-use mathlib.Core.List.{List, [], _∷_}
+use mathlib.Core.List.{List}
 use native.Mathlib.Nat.{le-of-lt, mul-le-mul-right}
 use native.Mathlib.Omega.{arith}
 use lib.ListN.{length, take}
 use lib.Seq.{length-take-le, getD-take}
 use Rattle.graph.specs.Graph.{Graph, states, count, from, low, high, Final, Unfinished, DeadEnd, Closed}
 use Rattle.graph.specs.Walk.{visits}
-use Rattle.graph.specs.Route.{Cost, total, lows, highs, counts}
+use Rattle.graph.specs.Route.{Cost, lows, highs, counts}
 use Rattle.graph.specs.Figure.{Figure, number, NONE, STRANDED, ENDLESS, IsLeast, IsGreatest, Shown}
 use Rattle.graph.proofs.Repeat.{nth, different-length}
 use Rattle.graph.proofs.Walks.{start-below, length-visits, visits-below}

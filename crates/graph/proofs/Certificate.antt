@@ -8,17 +8,16 @@
 -- 4. Together, values at a best start are the least figure (`least-number`, `least-none`), or the greatest (`greatest-number`).
 -- Assumes nothing.
 use Prim.Native.Nat.{ℕ, zero, suc, _+_, _≤_, _<_}
-use mathlib.Core.Path.{_≡_, refl, sym, _∙_, ap, subst}
-use mathlib.Core.Bool.{Bool, true, false, false≢true}
-use mathlib.Core.Logic.{_⊎_, inl, inr}
+use mathlib.Core.Path.{_≡_, refl, sym, _∙_, ap}
+use mathlib.Core.Bool.{Bool, true, false}
 use mathlib.Core.List.{List, [], _∷_}
 use native.Mathlib.Nat.{not-suc-le-zero, le-of-suc-le-suc, le-refl, le-trans, le-of-lt}
 use native.Mathlib.Omega.{arith}
 use lib.ListN.{length}
-use Rattle.graph.specs.Graph.{Graph, states, final, to, Departs, Final, Unfinished, DeadEnd, Closed}
-use Rattle.graph.specs.Walk.{Begins, WalkTo, visits, arrival, UnfinishedFrom, Different, EndlessWalk}
-use Rattle.graph.specs.Route.{RouteFrom, Route, LeadsToAnswer, StrandedFrom, GoesOnForever, EndsUnanswered, Cost, total}
-use Rattle.graph.specs.Figure.{Figure, number, NONE, STRANDED, ENDLESS, IsLeast, IsGreatest, NoStart, Shown}
+use Rattle.graph.specs.Graph.{Graph, final, to, Departs, Final, Unfinished, Closed}
+use Rattle.graph.specs.Walk.{Begins, visits, Different, EndlessWalk}
+use Rattle.graph.specs.Route.{RouteFrom, LeadsToAnswer, StrandedFrom, GoesOnForever, EndsUnanswered, Cost, total}
+use Rattle.graph.specs.Figure.{number, NONE, IsLeast, IsGreatest, Shown}
 use Rattle.graph.proofs.Repeat.{nth, different-cons}
 use Rattle.graph.proofs.Greatest.{leads-to-answer}
 

@@ -4,16 +4,16 @@
 -- says yes: each transition of a walk departs from the state before it, so counting the states departed from, and then the last one, counts each visit once.
 -- Each is by recursion on the transitions. So is the bound: where a transition costs at most h and the last state adds at most h′, k transitions cost
 -- at most k * h + h′. Assumes nothing.
-use Prim.Native.Nat.{ℕ, zero, suc, _+_, _*_, _≤_, _<_, zero-le}
-use mathlib.Core.Path.{_≡_, refl, sym, _∙_, ap, ap₂}
+use Prim.Native.Nat.{ℕ, _+_, _*_, _≤_, _<_, zero-le}
+use mathlib.Core.Path.{_≡_, refl, sym, ap, ap₂}
 use mathlib.Core.Bool.{Bool, true, false}
-use mathlib.Core.List.{List, [], _∷_, map}
-use native.Mathlib.Nat.{add-zero, suc-mul, le-refl}
+use mathlib.Core.List.{List, [], _∷_}
+use native.Mathlib.Nat.{add-zero, le-refl}
 use native.Mathlib.Omega.{arith}
 use lib.ListN.{length}
-use Rattle.graph.specs.Graph.{Graph, count, from, to}
-use Rattle.graph.specs.Walk.{WalkTo, visits}
-use Rattle.graph.specs.Route.{Cost, total, counts, one, sum, tally, delay, number-on}
+use Rattle.graph.specs.Graph.{Graph, count, to}
+use Rattle.graph.specs.Walk.{WalkTo}
+use Rattle.graph.specs.Route.{Cost, total, counts, one, delay, number-on}
 
 -- "the sum of its lows", or of its highs
 pub delay-is : (g : Graph) (duration : ℕ → ℕ) (s : ℕ) (ts : List ℕ) → total g (record { step = duration; close = λ s. 0 }) s ts ≡ delay duration ts

@@ -7,23 +7,23 @@
 --    below n hold a repeat. Up to the first repeat, that walk is what 01 asks to be shown for ENDLESS (`repeat-shown`).
 -- 4. Where no endless walk exists, every walk through unfinished states visits no state twice (`simple-or-endless`).
 -- Assumes nothing.
-use Prim.Native.Nat.{ℕ, zero, suc, _+_, _≤_, _<_, zero-le}
-use mathlib.Core.Path.{_≡_, refl, sym, _∙_, ap, subst}
+use Prim.Native.Nat.{ℕ, zero, suc, _≤_, _<_, zero-le}
+use mathlib.Core.Path.{_≡_, refl, sym, _∙_, ap}
 use mathlib.Core.Bool.{Bool, true, false, cond}
 use mathlib.Core.Logic.{_⊎_, inl, inr}
 use mathlib.Core.List.{List, [], _∷_}
 use native.Mathlib.Nat.{le-refl, le-of-lt, lt-of-lt-of-le}
 use native.Mathlib.Omega.{arith}
 use lib.Dec.{eqb}
-use lib.ListN.{length, take, length-take}
+use lib.ListN.{length, take}
 use lib.Seq.{length-take-le, take-take}
 use borrow.Author.Tests.{eqb-true, eqb-false}
-use Rattle.graph.specs.Graph.{Graph, states, to, Departs, Unfinished, Closed}
+use Rattle.graph.specs.Graph.{Graph, states, Unfinished, Closed}
 use Rattle.graph.specs.Walk.{Begins, WalkTo, visits, arrival, UnfinishedFrom, Different, EndlessWalk}
 use Rattle.graph.specs.Route.{Cost}
-use Rattle.graph.specs.Figure.{Figure, ENDLESS, Shown}
-use Rattle.graph.proofs.Repeat.{nth, Apart, Repeat, first-repeat, repeat-below, different-take}
-use Rattle.graph.proofs.Walks.{start-below, length-visits, state-after, state-last, visits-take, passed, departs-at, arrives-at, stopped, visits-below, front}
+use Rattle.graph.specs.Figure.{ENDLESS, Shown}
+use Rattle.graph.proofs.Repeat.{nth, Repeat, first-repeat, repeat-below, different-take}
+use Rattle.graph.proofs.Walks.{start-below, length-visits, state-after, state-last, visits-take, passed, departs-at, arrives-at, visits-below, front}
 
 -- ---- 1
 

@@ -4,20 +4,18 @@
 -- So what is folded out of a list is in the list, and before all of it (`fold-in`, `fold-before`). If every route has a listed cost before its own, then
 -- that number is before what any route costs, and a route costs it; and if nothing is listed there is no route (`extreme-is`).
 -- Two numbers that routes cost and that are before all costs are before each other, so they are equal (`extreme-unique`). Assumes nothing.
-use Prim.Native.Nat.{ℕ, zero, suc, _≤_, _<_, min, max}
-use mathlib.Core.Path.{_≡_, refl, sym, _∙_, ap, subst}
-use mathlib.Core.Bool.{Bool, true, false}
+use Prim.Native.Nat.{ℕ, _≤_, min, max}
+use mathlib.Core.Path.{_≡_, refl}
 use mathlib.Core.Logic.{_⊎_, inl, inr}
-use mathlib.Core.List.{List, [], _∷_, map, List·Memᴰ·head, List·Memᴰ·tail, List·Memᴰ·cases-cons, List·Memᴰ·not-nil, Memᴰ·cast, Memᴰ·map, Memᴰ·of-map}
+use mathlib.Core.List.{List, [], _∷_, List·Memᴰ·head, List·Memᴰ·tail, List·Memᴰ·cases-cons, List·Memᴰ·not-nil, Memᴰ·cast, Memᴰ·map, Memᴰ·of-map}
 use native.Mathlib.Nat.{le-refl, le-trans, le-antisymm, min-le-left, min-le-right, le-max-left, le-max-right, min-eq-left, min-eq-right, max-eq-left, max-eq-right}
 use native.Mathlib.Decide.{decLe}
 use native.Mathlib.Omega.{arith}
-use Rattle.graph.specs.Graph.{Graph, final, Final, Unfinished}
-use Rattle.graph.specs.Walk.{Begins, WalkTo}
+use Rattle.graph.specs.Graph.{Graph, final}
 use Rattle.graph.specs.Route.{Route, Cost, total}
 use Rattle.graph.specs.Figure.{Figure, number, NONE, STRANDED, ENDLESS, Attained, Extreme}
 use Rattle.graph.specs.Compute.{fold, extreme, costs, within}
-use Rattle.graph.proofs.Listed.{_∈_, of-within, in-within}
+use Rattle.graph.proofs.Listed.{_∈_, of-within}
 
 pub record Picks (pick : ℕ → ℕ → ℕ) (before : ℕ → ℕ → Type 0) : Type 0 where
   pub either : (a b : ℕ) → (pick a b ≡ a) ⊎ (pick a b ≡ b)

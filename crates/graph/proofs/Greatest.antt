@@ -6,20 +6,18 @@
 -- 3. There, too, every route is simple, so its cost is listed: the largest of the list is the largest over all routes. By 2 the list is not empty.
 -- 4. So what is computed is the greatest figure (`greatest-is`); each kind excludes the ones after it, so it is the only one (`greatest-unique`); and each kind can be shown (`greatest-shown`).
 -- Assumes nothing.
-use Prim.Native.Nat.{ℕ, zero, suc, _≤_, _<_, max}
+use Prim.Native.Nat.{ℕ, zero, suc, max}
 use mathlib.Core.Path.{_≡_, refl, sym, _∙_, ap, subst}
 use mathlib.Core.Bool.{Bool, true, false, not, cond, false≢true}
 use mathlib.Core.Logic.{_⊎_, inl, inr}
 use mathlib.Core.List.{List, [], _∷_, List·Memᴰ·head, List·Memᴰ·not-nil}
 use native.Mathlib.Nat.{le-of-eq, le-refl}
-use native.Mathlib.Omega.{arith}
 use lib.ListN.{length}
-use borrow.Author.Tests.{not-true}
 use Rattle.graph.specs.Graph.{Graph, states, start, final, to, Departs, Final, Unfinished, DeadEnd, Closed}
-use Rattle.graph.specs.Walk.{Begins, WalkTo, visits, UnfinishedFrom, Different, EndlessWalk}
+use Rattle.graph.specs.Walk.{Begins, visits, UnfinishedFrom, Different, EndlessWalk}
 use Rattle.graph.specs.Route.{RouteFrom, Route, LeadsToAnswer, StrandedFrom, GoesOnForever, EndsUnanswered, Cost, total}
-use Rattle.graph.specs.Figure.{Figure, number, NONE, STRANDED, ENDLESS, Largest, IsGreatest, NoStart, Shown}
-use Rattle.graph.specs.Compute.{given, gather, nonempty, leaving, deadEnd, extreme, begun, within, costs, anyStart, anyEndless, anyStranded, greatest}
+use Rattle.graph.specs.Figure.{Figure, number, NONE, STRANDED, ENDLESS, IsGreatest, NoStart, Shown}
+use Rattle.graph.specs.Compute.{given, gather, leaving, deadEnd, extreme, begun, within, costs, anyStart, anyEndless, anyStranded, greatest}
 use Rattle.graph.proofs.Walks.{start-below, with-stop}
 use Rattle.graph.proofs.Simple.{simple, simple-length}
 use Rattle.graph.proofs.Endless.{run, length-run, run-walk, long-endless, endless-shown, simple-or-endless}
@@ -115,19 +113,18 @@ module _ (g : Graph) where
 
 -- ---- 3
 
-module _ (g : Graph) (c : Cost) (closed : Closed g) (finite : GoesOnForever g → ⊥) where
-  -- every route is simple
-  pub route-simple : (s : ℕ) (ts : List ℕ) → Route g s ts → Different (visits g s ts)
-  route-simple s ts r = go (simple-or-endless g (Final g) s ts (r .0) (r .1))
-    where
-      go : EndlessWalk g ⊎ Different (visits g s ts) → Different (visits g s ts)
-      go (inl e) = absurd (finite e)
-      go (inr d) = d
+-- every route is simple
+pub route-simple : (g : Graph) → (GoesOnForever g → ⊥) → (s : ℕ) (ts : List ℕ) → Route g s ts → Different (visits g s ts)
+route-simple g finite s ts r = go (simple-or-endless g (Final g) s ts (r .0) (r .1))
+  where
+    go : EndlessWalk g ⊎ Different (visits g s ts) → Different (visits g s ts)
+    go (inl e) = absurd (finite e)
+    go (inr d) = d
 
-  cover : Covered max AtLeast picks-max g c
-  cover s ts r =
-      let h = simple-length g (Unfinished g) (Final g) closed s ts (start-below g s (r .0)) (r .1) (route-simple s ts r) in
-      (total g c s ts, in-costs g c s ts (in-within g (final g) s ts (r .0) (r .1) h), le-refl (total g c s ts))
+cover : (g : Graph) (c : Cost) → Closed g → (GoesOnForever g → ⊥) → Covered max AtLeast picks-max g c
+cover g c closed finite s ts r =
+    let h = simple-length g (Unfinished g) (Final g) closed s ts (start-below g s (r .0)) (r .1) (route-simple g finite s ts r) in
+    (total g c s ts, in-costs g c s ts (in-within g (final g) s ts (r .0) (r .1) h), le-refl (total g c s ts))
 
 -- ---- 4
 
@@ -177,6 +174,10 @@ module _ (g : Graph) (c : Cost) where
   greatest-unique (number k) STRANDED u v = absurd (u .2 (v .2))
   greatest-unique (number k) (number l) u v = ap number (extreme-unique max AtLeast picks-max g c k l (u .3) (v .3))
 
+  -- so whatever is the greatest figure is what is computed
+  pub greatest-computed : Closed g → (f : Figure) → IsGreatest g c f → f ≡ greatest g c
+  greatest-computed closed f u = greatest-unique f (greatest g c) u (greatest-is closed)
+
   -- and it can be shown
   pub greatest-shown : Closed g → (f : Figure) → IsGreatest g c f → (ts : List ℕ) × (j : ℕ) × Shown g c f ts j
   greatest-shown closed NONE u = ([], 0, refl)
@@ -187,4 +188,4 @@ module _ (g : Graph) (c : Cost) where
       (q .short, 0, (s, b, q .walk, q .different))
   greatest-shown closed (number k) u =
       let (s, ts, r, q) = u .3 .attained in
-      (ts, 0, (s, r, q, route-simple g c closed (u .1) s ts r))
+      (ts, 0, (s, r, q, route-simple g (u .1) s ts r))

@@ -4,21 +4,22 @@
 -- every such plan (`least-is`, `greatest-is`), so a figure equal to it does (`holds`). Assumes nothing.
 use Prim.Native.Nat.{ℕ, zero, suc, _<_}
 use mathlib.Core.Path.{_≡_, refl, sym, _∙_, ap, subst}
-use mathlib.Core.Bool.{Bool, true, false, _&&_, and-eq-true-iff, false≢true}
+use mathlib.Core.Bool.{Bool, true, _&&_, and-eq-true-iff}
 use mathlib.Core.List.{List, [], _∷_, _++_}
 use native.Mathlib.Nat.{not-suc-le-zero, le-of-suc-le-suc}
 use native.Mathlib.Decide.{ℕ-discrete}
 use native.Mathlib.Omega.{arith}
-use lib.Dec.{eqb, ltb, lit<}
+use lib.Dec.{T, eqb, ltb, lit<}
 use lib.ListN.{length, getD}
 use borrow.Author.Tests.{eqb-true, ltb-true}
-use Rattle.graph.specs.Graph.{Graph, states, count, marksOf, start, final, counted, transition, from, to, low, high, Closed}
-use Rattle.graph.specs.Route.{Cost}
-use Rattle.graph.specs.Figure.{Figure, number, NONE, STRANDED, ENDLESS, IsLeast, IsGreatest, leastDelayCost, greatestDelayCost, countCost}
-use Rattle.graph.specs.Compute.{least, greatest, leastDelay, greatestDelay, leastCount, greatestCount}
+use Rattle.graph.specs.Graph.{Graph, states, count, start, final, counted, from, to, low, high, Departs, Closed}
+use Rattle.graph.specs.Walk.{visits, Different}
+use Rattle.graph.specs.Route.{Route}
+use Rattle.graph.specs.Figure.{Figure, number, NONE, STRANDED, ENDLESS, IsLeast, IsGreatest, Shown, leastDelayCost, greatestDelayCost, countCost}
+use Rattle.graph.specs.Compute.{leastDelay, greatestDelay, leastCount, greatestCount}
 use Rattle.graph.specs.Known.{Row, Holds, known, misleading, P1, P4, P7, P8, unreached-dead-end, reached-dead-end, counted-ends}
 use Rattle.graph.proofs.Least.{least-is}
-use Rattle.graph.proofs.Greatest.{greatest-is}
+use Rattle.graph.proofs.Greatest.{greatest-is, route-simple}
 
 -- ---- the test
 
@@ -109,8 +110,47 @@ all-hold (r ∷ rs) e (suc i) h = all-hold rs (both (right r) (all-right rs) e .
 
 -- "P1 to P9 are shown to hold of the rules themselves, gathered into a table with one proof for the lot"; and so are the plans that mislead
 pub known-hold : (i : ℕ) → i < length (known ++ misleading) → Holds (getD (known ++ misleading) i P1)
-unfolding all-right marksOf start final counted transition from to low high
+unfolding all-right start final counted from to low high
 known-hold = all-hold (known ++ misleading) refl
+
+-- ---- the walks that 01 prints for P1
+
+-- no walk of P1 is endless, so each of its routes visits no state twice
+P1-different : (s : ℕ) (ts : List ℕ) → Route (P1 .plan) s ts → Different (visits (P1 .plan) s ts)
+P1-different s ts r = route-simple (P1 .plan) (known-hold 0 (lit< tt) .greatest-delay .1) s ts r
+
+takes : (s t : ℕ) → T (ltb t (count (P1 .plan))) → from (P1 .plan) t ≡ s → Departs (P1 .plan) s t
+takes s t l e = record { listed = lit< l; source = e }
+
+-- 0→1, 1→3
+P1-short : Route (P1 .plan) 0 (0 ∷ 2 ∷ [])
+unfolding start final from to
+P1-short = (refl, (refl, takes 0 0 tt refl, (refl, takes 1 2 tt refl, refl)))
+
+-- 0→1, 1→2, 2→3
+P1-long : Route (P1 .plan) 0 (0 ∷ 1 ∷ 3 ∷ [])
+unfolding start final from to
+P1-long = (refl, (refl, takes 0 0 tt refl, (refl, takes 1 1 tt refl, (refl, takes 2 3 tt refl, refl))))
+
+-- "least delay 7: 0 2"
+pub P1-least-delay : Shown (P1 .plan) (leastDelayCost (P1 .plan)) (number 7) (0 ∷ 2 ∷ []) 0
+unfolding low
+P1-least-delay = (0, P1-short, refl, P1-different 0 (0 ∷ 2 ∷ []) P1-short)
+
+-- "greatest delay 60: 0 1 3"
+pub P1-greatest-delay : Shown (P1 .plan) (greatestDelayCost (P1 .plan)) (number 60) (0 ∷ 1 ∷ 3 ∷ []) 0
+unfolding high
+P1-greatest-delay = (0, P1-long, refl, P1-different 0 (0 ∷ 1 ∷ 3 ∷ []) P1-long)
+
+-- "least count 1: 0 2"
+pub P1-least-count : Shown (P1 .plan) (countCost (P1 .plan)) (number 1) (0 ∷ 2 ∷ []) 0
+unfolding counted from to
+P1-least-count = (0, P1-short, refl, P1-different 0 (0 ∷ 2 ∷ []) P1-short)
+
+-- "greatest count 2: 0 1 3"
+pub P1-greatest-count : Shown (P1 .plan) (countCost (P1 .plan)) (number 2) (0 ∷ 1 ∷ 3 ∷ []) 0
+unfolding counted from to
+P1-greatest-count = (0, P1-long, refl, P1-different 0 (0 ∷ 1 ∷ 3 ∷ []) P1-long)
 
 -- ---- "What misleads people here"
 

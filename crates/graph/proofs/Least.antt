@@ -3,12 +3,12 @@
 -- Every route has a simple one at no greater cost, and that has fewer than n transitions, so its cost is listed. So the smallest of the list is the smallest over all routes,
 -- and where the list is empty there is no route (`least-is`). A number that is least is attained by some route, so by a simple one too, which costs no more and, the number being least,
 -- no less (`least-shown`). Assumes nothing.
-use Prim.Native.Nat.{ℕ, zero, suc, _≤_, _<_, min}
-use mathlib.Core.Path.{_≡_, refl, sym, _∙_, ap}
-use mathlib.Core.List.{List, [], _∷_}
+use Prim.Native.Nat.{ℕ, _≤_, min}
+use mathlib.Core.Path.{_≡_, refl, ap}
+use mathlib.Core.List.{List, []}
 use native.Mathlib.Nat.{le-antisymm, le-trans, le-of-eq}
 use Rattle.graph.specs.Graph.{Graph, final, Final, Unfinished, Closed}
-use Rattle.graph.specs.Route.{Route, Cost, total}
+use Rattle.graph.specs.Route.{Cost, total}
 use Rattle.graph.specs.Figure.{Figure, number, NONE, STRANDED, ENDLESS, IsLeast, Shown}
 use Rattle.graph.specs.Compute.{extreme, costs, least}
 use Rattle.graph.proofs.Walks.{start-below}
@@ -46,6 +46,10 @@ module _ (g : Graph) (c : Cost) where
   least-unique NONE ENDLESS u v = absurd v
   least-unique STRANDED h u v = absurd u
   least-unique ENDLESS h u v = absurd u
+
+  -- so whatever is the least figure is what is computed
+  pub least-computed : Closed g → (f : Figure) → IsLeast g c f → f ≡ least g c
+  least-computed closed f u = least-unique f (least g c) u (least-is closed)
 
   -- and it can be shown
   pub least-shown : (f : Figure) → IsLeast g c f → (ts : List ℕ) × (j : ℕ) × Shown g c f ts j

@@ -10,3 +10,5 @@ pub mod Greatest
 pub mod Bound
 pub mod Known
 pub mod Certificate
+pub mod Build
+pub mod Sentences

@@ -3,18 +3,18 @@
 -- By recursion on the transitions. The walk of none is simple. Otherwise make the rest of the walk simple first. If the first state is not on
 -- it, put the first transition back in front. If it is, at place i, then the walk from there on begins at the first state, and it is a part of a simple walk, so it is simple (`from-place`).
 -- Leaving transitions out never raises a cost. A simple walk visits at most n states, so it has fewer than n transitions. Assumes nothing.
-use Prim.Native.Nat.{ℕ, zero, suc, _+_, _≤_, _<_}
-use mathlib.Core.Path.{_≡_, refl, sym, _∙_, ap, subst}
+use Prim.Native.Nat.{ℕ, zero, suc, _≤_, _<_}
+use mathlib.Core.Path.{_≡_, refl, _∙_, subst}
 use mathlib.Core.Logic.{_⊎_, inl, inr}
 use mathlib.Core.List.{List, [], _∷_}
 use native.Mathlib.Nat.{not-suc-le-zero, le-of-suc-le-suc, le-refl, le-trans}
 use native.Mathlib.Omega.{arith}
 use lib.ListN.{length}
 use Rattle.graph.specs.Graph.{Graph, states, to, Closed}
-use Rattle.graph.specs.Walk.{Begins, WalkTo, visits, arrival, Different}
+use Rattle.graph.specs.Walk.{WalkTo, visits, arrival, Different}
 use Rattle.graph.specs.Route.{Cost, total}
 use Rattle.graph.proofs.Repeat.{nth, Found, Absent, find, different-cons, different-drop, different-length}
-use Rattle.graph.proofs.Walks.{start-below, length-visits, visits-below}
+use Rattle.graph.proofs.Walks.{length-visits, visits-below}
 
 different-one : (s : ℕ) → Different (s ∷ [])
 different-one s = different-cons s [] (λ i h e. not-suc-le-zero h) (λ i j l h e. not-suc-le-zero h)

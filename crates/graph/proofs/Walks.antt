@@ -2,16 +2,16 @@
 --
 -- All of it is by recursion on the list of transitions, for any condition on the states passed and on the last one; so it holds of routes, of
 -- unfinished walks and of walks to a dead end alike. Assumes nothing.
-use Prim.Native.Nat.{ℕ, zero, suc, _+_, _≤_, _<_, _/_, _%_}
-use mathlib.Core.Path.{_≡_, refl, sym, _∙_, ap, subst}
-use mathlib.Core.Bool.{Bool, true, false, false≢true}
+use Prim.Native.Nat.{ℕ, zero, suc, _≤_, _<_, _/_, _%_}
+use mathlib.Core.Path.{_≡_, refl, sym, _∙_, ap}
+use mathlib.Core.Bool.{false≢true}
 use mathlib.Core.List.{List, [], _∷_}
-use native.Mathlib.Nat.{not-suc-le-zero, le-of-suc-le-suc, not-le-of-lt}
+use native.Mathlib.Nat.{not-suc-le-zero, le-of-suc-le-suc}
 use native.Mathlib.Decide.{decLt}
 use native.Mathlib.Omega.{arith}
 use lib.Dec.{eqb}
-use lib.ListN.{length, getD, take, List·getD-eq-default}
-use Rattle.graph.specs.Graph.{Graph, states, count, marksOf, start, to, Departs, Closed}
+use lib.ListN.{length, take, List·getD-eq-default}
+use Rattle.graph.specs.Graph.{Graph, states, marksOf, start, to, Departs, Closed}
 use Rattle.graph.specs.Walk.{Begins, WalkTo, visits, arrival}
 use Rattle.graph.proofs.Repeat.{nth}
 

@@ -8,7 +8,7 @@ use Prim.Native.Nat.{ℕ, zero, suc, min, max}
 use mathlib.Core.Bool.{Bool, true, false, not, cond, _&&_}
 use mathlib.Core.List.{List, [], _∷_, _++_, map}
 use lib.Dec.{eqb}
-use Rattle.graph.specs.Graph.{Graph, states, count, start, final, from, to, counted}
+use Rattle.graph.specs.Graph.{Graph, states, count, start, final, from, to}
 use Rattle.graph.specs.Route.{Cost, total}
 use Rattle.graph.specs.Figure.{Figure, number, NONE, STRANDED, ENDLESS, leastDelayCost, greatestDelayCost, countCost}
 

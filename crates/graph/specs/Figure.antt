@@ -1,9 +1,9 @@
 -- The figures: their kinds, when a figure is the least or the greatest one for a cost, and what is shown with it.
 -- Document 01, "Routes and figures", from "Least delay" on. Assumes nothing.
-use Prim.Native.Nat.{ℕ, zero, suc, _≤_, _<_}
+use Prim.Native.Nat.{ℕ, _≤_, _<_}
 use mathlib.Core.Path.{_≡_}
-use mathlib.Core.Bool.{Bool, true, false}
-use mathlib.Core.List.{List, [], _∷_}
+use mathlib.Core.Bool.{true}
+use mathlib.Core.List.{List}
 use lib.ListN.{length, take}
 use Rattle.graph.specs.Graph.{Graph, start, counted}
 use Rattle.graph.specs.Walk.{Begins, visits, arrival, UnfinishedFrom, Different}

@@ -2,12 +2,11 @@
 --
 -- A cost is one number for each transition and one for the last state. Delays and counts are costs, so whatever is said and proved of a
 -- cost holds of both. Assumes nothing.
-use Prim.Native.Nat.{ℕ, zero, suc, _+_, _≤_}
-use mathlib.Core.Path.{_≡_}
+use Prim.Native.Nat.{ℕ, _+_}
 use mathlib.Core.Bool.{Bool, true, false}
 use mathlib.Core.List.{List, [], _∷_, map}
-use Rattle.graph.specs.Graph.{Graph, from, to, low, high, counted, Final, Unfinished, DeadEnd}
-use Rattle.graph.specs.Walk.{Begins, WalkTo, visits, UnfinishedFrom, EndlessWalk}
+use Rattle.graph.specs.Graph.{Graph, from, to, low, high, Final, Unfinished, DeadEnd}
+use Rattle.graph.specs.Walk.{Begins, WalkTo, visits, EndlessWalk}
 
 -- a "walk whose last state is final and no earlier one is", from any state
 abbrev pub RouteFrom : Graph → ℕ → List ℕ → Type 0

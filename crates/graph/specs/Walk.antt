@@ -2,12 +2,12 @@
 --
 -- A walk is a state, where it begins, and a list of transition numbers: the states on it follow. What a walk must meet is said of any state
 -- to begin at; `Begins` alone says at which states the walks of a plan do begin. Assumes nothing.
-use Prim.Native.Nat.{ℕ, zero, suc, _<_}
+use Prim.Native.Nat.{ℕ, suc, _<_}
 use mathlib.Core.Path.{_≡_}
-use mathlib.Core.Bool.{true, false}
+use mathlib.Core.Bool.{true}
 use mathlib.Core.List.{List, [], _∷_}
 use lib.ListN.{length, getD}
-use Rattle.graph.specs.Graph.{Graph, start, final, to, Departs, Unfinished}
+use Rattle.graph.specs.Graph.{Graph, start, to, Departs, Unfinished}
 
 -- HOW A WALK BEGINS: "A walk is a start state followed by .." (E5 changes this)
 abbrev pub Begins : Graph → ℕ → Type 0

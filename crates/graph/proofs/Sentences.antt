@@ -1,0 +1,61 @@
+-- Sentences of 01 that follow from the definitions in a line or two, so that a reader can hold the definitions against them; and calculators that demand 2 names, refuted.
+-- Assumes nothing.
+use Prim.Native.Nat.{ℕ, _<_}
+use mathlib.Core.Path.{_≡_, sym, _∙_}
+use mathlib.Core.Bool.{Bool}
+use mathlib.Core.List.{List, []}
+use lib.Dec.{lit<}
+use lib.ListN.{length}
+use Rattle.graph.specs.Graph.{Graph, low, high, Final, Unfinished, DeadEnd}
+use Rattle.graph.specs.Walk.{Begins, visits, arrival}
+use Rattle.graph.specs.Route.{Route, Cost, lows, highs, counts, delay, number-on}
+use Rattle.graph.specs.Figure.{Figure, number, NONE, STRANDED, ENDLESS, IsLeast, IsGreatest, Shown, greatestDelayCost}
+use Rattle.graph.specs.Known.{P2, P3}
+use Rattle.graph.proofs.Repeat.{nth}
+use Rattle.graph.proofs.Walks.{passed, stopped}
+use Rattle.graph.proofs.Cost.{delay-is, count-is}
+use Rattle.graph.proofs.Known.{known-hold}
+
+module _ (g : Graph) where
+  -- "A start that is final is a route of no transitions."
+  pub final-start : (s : ℕ) → Begins g s → Final g s → Route g s []
+  final-start s b f = (b, f)
+
+  -- a route's "last state is final" ..
+  pub last-final : (s : ℕ) (ts : List ℕ) → Route g s ts → Final g (arrival g s ts)
+  last-final s ts r = stopped g (Unfinished g) (Final g) s ts (r .1)
+
+  -- .. "and no earlier one is"
+  pub earlier-unfinished : (s : ℕ) (ts : List ℕ) → Route g s ts → (i : ℕ) → i < length ts → Unfinished g (nth (visits g s ts) i)
+  earlier-unfinished s ts r = passed g (Unfinished g) (Final g) s ts (r .1)
+
+  -- "A number or STRANDED shown with k at 0 means the walk of some start alone."
+  pub number-alone : (k j : ℕ) → Shown g (greatestDelayCost g) (number k) [] j → (s : ℕ) × Begins g s × Final g s
+  number-alone k j (s, r, q, d) = (s, r .0, r .1)
+
+  pub stranded-alone : (j : ℕ) → Shown g (greatestDelayCost g) STRANDED [] j → (s : ℕ) × Begins g s × DeadEnd g s
+  stranded-alone j (s, b, w, d) = (s, b, w)
+
+  -- the number shown is the sum over the walk shown, "of its lows for a least figure, and of its highs for a greatest one" ..
+  pub shown-lows : (k : ℕ) (ts : List ℕ) (j : ℕ) → Shown g (lows g) (number k) ts j → delay (low g) ts ≡ k
+  shown-lows k ts j (s, r, q, d) = sym (delay-is g (low g) s ts) ∙ q
+
+  pub shown-highs : (k : ℕ) (ts : List ℕ) (j : ℕ) → Shown g (highs g) (number k) ts j → delay (high g) ts ≡ k
+  shown-highs k ts j (s, r, q, d) = sym (delay-is g (high g) s ts) ∙ q
+
+  -- .. or the number of counted states on it: "one that quotes a handover count which its walk lacks" shows no such walk
+  pub shown-count : (p : ℕ → Bool) (k : ℕ) (ts : List ℕ) (j : ℕ) → Shown g (counts g p) (number k) ts j → (s : ℕ) × Begins g s × (number-on g p s ts ≡ k)
+  shown-count p k ts j (s, r, q, d) = (s, r .0, sym (count-is g p (Unfinished g) (Final g) s ts (r .1)) ∙ q)
+
+-- "a calculator that says NONE, STRANDED or ENDLESS before looking", and "one that quotes a fixed figure": no figure is right for both P2 and P3, whatever the cost
+pub least-not-fixed : (c c′ : Cost) (f : Figure) → IsLeast (P2 .plan) c f → IsLeast (P3 .plan) c′ f → ⊥
+least-not-fixed c c′ (number k) h₂ h₃ = let (s, ts, r, q) = h₃ .attained in known-hold 2 (lit< tt) .least-delay s ts r
+least-not-fixed c c′ NONE h₂ h₃ = let (s, ts, r, q) = known-hold 1 (lit< tt) .least-delay .attained in h₂ s ts r
+least-not-fixed c c′ STRANDED h₂ h₃ = h₂
+least-not-fixed c c′ ENDLESS h₂ h₃ = h₂
+
+pub greatest-not-fixed : (c c′ : Cost) (f : Figure) → IsGreatest (P2 .plan) c f → IsGreatest (P3 .plan) c′ f → ⊥
+greatest-not-fixed c c′ (number k) h₂ h₃ = h₃ .2 (known-hold 2 (lit< tt) .greatest-delay .2)
+greatest-not-fixed c c′ NONE h₂ h₃ = known-hold 1 (lit< tt) .greatest-delay .0 h₂
+greatest-not-fixed c c′ STRANDED h₂ h₃ = known-hold 1 (lit< tt) .greatest-delay .2 (h₂ .2)
+greatest-not-fixed c c′ ENDLESS h₂ h₃ = known-hold 1 (lit< tt) .greatest-delay .1 (h₂ .1)
