@@ -1,7 +1,8 @@
 -- What is shown fits into n places, and no number is too large for the record.
 --
--- The states of what is shown are below n and differ, all of them for a number or STRANDED, all but the last for ENDLESS; so they are at most n. A route that is shown for a number
--- has at most 511 transitions, n being at most 512, each of at most 2,047 seconds: 1,046,017 seconds, or 512 counted states. Assumes nothing.
+-- The states of what is shown are below n and differ, all of them for a number or STRANDED, all but the last for ENDLESS; so they are at
+-- most n. A route that is shown for a number has at most 511 transitions, n being at most 512, each of at most 2,047 seconds: 1,046,017
+-- seconds, or 512 counted states. Assumes nothing.
 use Prim.Native.Nat.{ℕ, _+_, _*_, _≤_, _<_, zero-le}
 use mathlib.Core.Path.{_≡_}
 use mathlib.Core.Bool.{Bool}
@@ -25,8 +26,8 @@ module _ (g : Graph) (closed : Closed g) (c : Cost) where
   -- "n places" are enough for every walk that is shown
   pub shown-fits : (f : Figure) (ts : List ℕ) (j : ℕ) → Shown g c f ts j → length ts ≤ states g
   shown-fits (number k) ts j (s, r, q, d) = le-of-lt (simple-length g (Unfinished g) (Final g) closed s ts (start-below g s (r .0)) (r .1) d)
-  shown-fits STRANDED ts j (s, b, w, d) = le-of-lt (simple-length g (Unfinished g) (DeadEnd g) closed s ts (start-below g s b) w d)
-  shown-fits ENDLESS ts j (s, b, w, l, e, d) =
+  shown-fits STRANDED ts j (s, (b, w), d) = le-of-lt (simple-length g (Unfinished g) (DeadEnd g) closed s ts (start-below g s b) w d)
+  shown-fits ENDLESS ts j (s, (b, w), l, e, d) =
       let k = length ts in
       let xs = visits g s ts in
       let hk : k ≤ length xs = omega (arith, length-visits g s ts) in

@@ -1,8 +1,8 @@
 -- Walks put together as a search does it: one transition after another, or place by place from what stands in arrays.
 --
--- A transition that departs from the last state makes the walk one longer, with one more state and its cost added (`walk-snoc` and what follows). And where the states are given by place, together with
--- what each transition does at its place, the list of transitions is a walk and its states are the given ones (`walk-by-places`, `visits-by-places`).
--- All by recursion on the transitions. Assumes nothing.
+-- A transition that departs from the last state makes the walk one longer, with one more state and its cost added (`walk-snoc` and what
+-- follows). And where the states are given by place, together with what each transition does at its place, the list of transitions is a
+-- walk and its states are the given ones (`walk-by-places`, `visits-by-places`). All by recursion on the transitions. Assumes nothing.
 use Prim.Native.Nat.{ℕ, zero, suc, _+_, _≤_, _<_, suc-le-suc}
 use mathlib.Core.Path.{_≡_, refl, sym, _∙_, ap}
 use mathlib.Core.List.{List, [], _∷_, _++_}

@@ -1,10 +1,13 @@
 -- What a search has to leave behind so that its figures are right. About no code: values, ranks and choices are functions on states.
 --
--- 1. A bound on every route from a state, by induction on the route from its last state back: it holds of the close at a final state, and is carried over each transition out of an unfinished one
---    (`route-bound`). Least values are such a bound from below (`least-values`), greatest values one from above (`greatest-values`).
--- 2. A rank that falls along the transitions between the unfinished states that starts reach: no walk among them is longer than the rank of its first state, so none is endless (`no-endless`); and where
---    each of them has a transition out, none is a dead end (`no-stranded`). So every start leads to an answer (`rank-answers`).
--- 3. A transition chosen at each unfinished state, that leads on with a lower rank and accounts for the value: following the choices is a route that costs the value and visits no state twice (`follow`).
+-- 1. A bound on every route from a state, by induction on the route from its last state back: it holds of the close at a final state, and
+--    is carried over each transition out of an unfinished one (`route-bound`). Least values are such a bound from below (`least-values`),
+--    greatest values one from above (`greatest-values`).
+-- 2. A rank that falls along the transitions between the unfinished states that starts reach: no walk among them is longer than the rank of
+--    its first state, so none is endless (`no-endless`); and where each of them has a transition out, none is a dead end (`no-stranded`).
+--    So every start leads to an answer (`rank-answers`).
+-- 3. A transition chosen at each unfinished state, that leads on with a lower rank and accounts for the value: following the choices is a
+--    route that costs the value and visits no state twice (`follow`).
 -- 4. Together, values at a best start are the least figure (`least-number`, `least-none`), or the greatest (`greatest-number`).
 -- Assumes nothing.
 use Prim.Native.Nat.{ℕ, zero, suc, _+_, _≤_, _<_}
@@ -42,7 +45,8 @@ module _ (g : Graph) (c : Cost) where
       over : (s t x : ℕ) → Unfinished g s → Departs g s t → Has (to g t) × (value (to g t) ≤ x) → Has s × (value s ≤ c .step t + x)
       over s t x u d (h, l) = let (h′, l′) = v .over s t u d h in (h′, omega arith)
 
-  -- values for unfinished states of a set that transitions do not leave, but to final states: at least the close; over a transition, at least its cost and the value behind it
+  -- values for unfinished states of a set that transitions do not leave, but to final states: at least the close; over a transition, at
+  -- least its cost and the value behind it
   pub record GreatestValues (In : ℕ → Type 0) (value : ℕ → ℕ) : Type 0 where
     pub at-final : (s : ℕ) → Final g s → c .close s ≤ value s
     pub stays : (s t : ℕ) → In s → Departs g s t → Unfinished g (to g t) → In (to g t)
@@ -88,7 +92,7 @@ module _ (g : Graph) (In : ℕ → Type 0) (rank : ℕ → ℕ) where
 
     -- if each state of the set has a transition out
     pub no-stranded : ((s : ℕ) → In s → (t : ℕ) × Departs g s t) → EndsUnanswered g → ⊥
-    no-stranded out (s, ts, b, w) = stranded-in out s ts (r .begins s b (stranded-unfinished s ts w)) w
+    no-stranded out (s, ts, (b, w)) = stranded-in out s ts (r .begins s b (stranded-unfinished s ts w)) w
 
     pub rank-answers : Closed g → ((s : ℕ) → In s → (t : ℕ) × Departs g s t) → (s : ℕ) → Begins g s → LeadsToAnswer g s
     rank-answers closed out = leads-to-answer g closed no-endless (no-stranded out)

@@ -1,9 +1,9 @@
 -- The costs are what 01 says in its own words, and what they come to at most.
 --
 -- A delay is the sum of the durations of the transitions. A count is the number of states on the walk, first and last included, of which p
--- says yes: each transition of a walk departs from the state before it, so counting the states departed from, and then the last one, counts each visit once.
--- Each is by recursion on the transitions. So is the bound: where a transition costs at most h and the last state adds at most h′, k transitions cost
--- at most k * h + h′. Assumes nothing.
+-- says yes: each transition of a walk departs from the state before it, so counting the states departed from, and then the last one, counts
+-- each visit once. Each is by recursion on the transitions. So is the bound: where a transition costs at most h and the last state adds at
+-- most h′, k transitions cost at most k * h + h′. Assumes nothing.
 use Prim.Native.Nat.{ℕ, _+_, _*_, _≤_, _<_, zero-le}
 use mathlib.Core.Path.{_≡_, refl, sym, ap, ap₂}
 use mathlib.Core.Bool.{Bool, true, false}

@@ -1,10 +1,11 @@
 -- When an endless walk of unfinished states exists.
 --
--- 1. A walk through unfinished states whose state after k transitions is the state after j, with j < k, goes on forever: walk on to place k, be at place j again,
---    and so on. The place that the endless walk is at goes up by one, and from k - 1 back to j (`next`).
--- 2. An endless walk has a walk of every length: its first k transitions (`first-transitions`).
--- 3. So a plan of n states has an endless walk exactly when n transitions can be walked from a start through unfinished states: by 2 one way; and by 1 the other, since n + 1 states
---    below n hold a repeat. Up to the first repeat, that walk is what 01 asks to be shown for ENDLESS (`repeat-shown`).
+-- 1. A walk through unfinished states whose state after k transitions is the state after j, with j < k, goes on forever: walk on to place
+--    k, be at place j again, and so on. The place that the endless walk is at goes up by one, and from k - 1 back to j (`next`).
+-- 2. An endless walk has a walk of every length: its first k transitions (`run-walk`).
+-- 3. So a plan of n states has an endless walk exactly when n transitions can be walked from a start through unfinished states: by 2 one
+--    way; and by 1 the other, since n + 1 states below n hold a repeat. Up to the first repeat, that walk is what 01 asks to be shown for
+--    ENDLESS (`repeat-shown`).
 -- 4. Where no endless walk exists, every walk through unfinished states visits no state twice (`simple-or-endless`).
 -- Assumes nothing.
 use Prim.Native.Nat.{ℕ, zero, suc, _≤_, _<_, zero-le}
@@ -112,8 +113,7 @@ module _ (g : Graph) (c : Cost) (stop : ℕ → Type 0) (s : ℕ) (ts : List ℕ
       let k-unfinished : Unfinished g (nth xs k) = rw (r .same) j-unfinished in
       let returns : arrival g s (take k ts) ≡ arrival g s (take j ts) = sym (state-after g s ts k hk) ∙ r .same ∙ state-after g s ts j (omega arith) in (
         s,
-        b,
-        front g (Unfinished g) stop (Unfinished g) s ts k w hk k-unfinished,
+        (b, front g (Unfinished g) stop (Unfinished g) s ts k w hk k-unfinished),
         omega arith,
         rw (take-take j k ts (omega arith)) returns,
         rw (lk, visits-take g s ts k hk, take-take k (suc k) xs (omega arith)) (different-take xs k (r .apart)),
@@ -130,7 +130,7 @@ module _ (g : Graph) (c : Cost) where
 
   -- .. and what is shown goes on forever
   pub shown-endless : (ts : List ℕ) (j : ℕ) → Shown g c ENDLESS ts j → EndlessWalk g
-  shown-endless ts j (s, b, w, l, e, d) =
+  shown-endless ts j (s, (b, w), l, e, d) =
       repeated-endless g (Unfinished g) s ts b w j (length ts) l (le-refl (length ts)) (state-last g s ts ∙ e ∙ sym (state-after g s ts j (le-of-lt l)))
 
 -- ---- 4

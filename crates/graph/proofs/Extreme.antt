@@ -1,9 +1,10 @@
 -- The smallest and the largest of a list of costs, by one argument.
 --
--- `pick` takes one of two numbers, and `before` says that a number is the one to be taken rather than another: min with ≤, or max with ≥ (`Picks`).
--- So what is folded out of a list is in the list, and before all of it (`fold-in`, `fold-before`). If every route has a listed cost before its own, then
--- that number is before what any route costs, and a route costs it; and if nothing is listed there is no route (`extreme-is`).
--- Two numbers that routes cost and that are before all costs are before each other, so they are equal (`extreme-unique`). Assumes nothing.
+-- `pick` takes one of two numbers, and `before` says that a number is the one to be taken rather than another: min with ≤, or max with ≥
+-- (`Picks`). So what is folded out of a list is in the list, and before all of it (`fold-in`, `fold-before`). If every route has a listed
+-- cost before its own, then that number is before what any route costs, and a route costs it; and if nothing is listed there is no route
+-- (`extreme-is`). Two numbers that routes cost and that are before all costs are before each other, so they are equal (`extreme-unique`).
+-- Assumes nothing.
 use Prim.Native.Nat.{ℕ, _≤_, min, max}
 use mathlib.Core.Path.{_≡_, refl}
 use mathlib.Core.Logic.{_⊎_, inl, inr}

@@ -1,10 +1,13 @@
 -- The greatest figure exists, is one, and can be shown: for any cost.
 --
--- 1. Each of the three tests says yes exactly when its kind applies. An endless walk exists exactly when n transitions can be walked from a start through unfinished states (Endless.antt).
---    A walk to a dead end has a simple one, of fewer than n transitions.
--- 2. Where neither an endless walk nor a walk to a dead end exists, every start leads to an answer: walk on from it, and within n transitions it ends in a final state, as it can neither be stuck nor go on (`go-on`).
--- 3. There, too, every route is simple, so its cost is listed: the largest of the list is the largest over all routes. By 2 the list is not empty.
--- 4. So what is computed is the greatest figure (`greatest-is`); each kind excludes the ones after it, so it is the only one (`greatest-unique`); and each kind can be shown (`greatest-shown`).
+-- 1. Each of the three tests says yes exactly when its kind applies. An endless walk exists exactly when n transitions can be walked from a
+--    start through unfinished states (Endless.antt). A walk to a dead end has a simple one, of fewer than n transitions.
+-- 2. Where neither an endless walk nor a walk to a dead end exists, every start leads to an answer: walk on from it, and within n
+--    transitions it ends in a final state, as it can neither be stuck nor go on (`go-on`).
+-- 3. There, too, every route is simple, so its cost is listed: the largest of the list is the largest over all routes. By 2 the list is not
+--    empty.
+-- 4. So what is computed is the greatest figure (`greatest-is`); each kind excludes the ones after it, so it is the only one
+--    (`greatest-unique`); and each kind can be shown (`greatest-shown`).
 -- Assumes nothing.
 use Prim.Native.Nat.{ℕ, zero, suc, max}
 use mathlib.Core.Path.{_≡_, refl, sym, _∙_, ap, subst}
@@ -71,8 +74,9 @@ module _ (g : Graph) where
     sound = λ e.
         let (r, m) = of-nonempty (within g (deadEnd g)) e in
         let (b, w) = of-within g (deadEnd g) r m in
-        (r .0, r .1, b, with-stop g (Unfinished g) (Yes (deadEnd g)) (DeadEnd g) (of-deadEnd g) (r .0) (r .1) w);
-    complete = λ u. let (s, ts, b, w) = u in
+        (r .0, r .1, (b, with-stop g (Unfinished g) (Yes (deadEnd g)) (DeadEnd g) (of-deadEnd g) (r .0) (r .1) w));
+    complete = λ u. let (s, ts, bw) = u in
+        let (b, w) = bw in
         let q = simple g (Unfinished g) (DeadEnd g) s ts w in
         let h = simple-length g (Unfinished g) (DeadEnd g) closed s (q .short) (start-below g s b) (q .walk) (q .different) in
         in-nonempty (within g (deadEnd g)) (in-within g (deadEnd g) s (q .short) b (with-stop g (Unfinished g) (DeadEnd g) (Yes (deadEnd g)) (in-deadEnd g) s (q .short) (q .walk)) h);
@@ -108,7 +112,7 @@ module _ (g : Graph) where
     where
       go : Onward (states g) s → LeadsToAnswer g s
       go (inl (ts, w)) = (ts, (b, w))
-      go (inr (inl (ts, w))) = absurd (free (s, ts, b, w))
+      go (inr (inl (ts, w))) = absurd (free (s, ts, (b, w)))
       go (inr (inr (ts, w, l))) = absurd (finite (long-endless g (Unfinished g) s ts b w closed (le-of-eq (sym l))))
 
 -- ---- 3
@@ -183,9 +187,9 @@ module _ (g : Graph) (c : Cost) where
   greatest-shown closed NONE u = ([], 0, refl)
   greatest-shown closed ENDLESS u = endless-shown g c closed (u .1)
   greatest-shown closed STRANDED u =
-      let (s, ts, b, w) = u .2 in
-      let q = simple g (Unfinished g) (DeadEnd g) s ts w in
-      (q .short, 0, (s, b, q .walk, q .different))
+      let (s, ts, w) = u .2 in
+      let q = simple g (Unfinished g) (DeadEnd g) s ts (w .1) in
+      (q .short, 0, (s, (w .0, q .walk), q .different))
   greatest-shown closed (number k) u =
       let (s, ts, r, q) = u .3 .attained in
       (ts, 0, (s, r, q, route-simple g (u .1) s ts r))

@@ -1,7 +1,9 @@
--- P1 to P9, and the plans that mislead, hold of the rules themselves: one computed test over the tables, and one lemma that turns it into the rules.
+-- P1 to P9, and the plans that mislead, hold of the rules themselves: one computed test over the tables, and one lemma that turns it into
+-- the rules.
 --
--- The test computes the four figures of a row's plan and compares them with the row's, and looks that each transition leads to a state. What is computed meets the rules for
--- every such plan (`least-is`, `greatest-is`), so a figure equal to it does (`holds`). Assumes nothing.
+-- The test computes the four figures of a row's plan and compares them with the row's, and looks that each transition leads to a state.
+-- What is computed meets the rules for every such plan (`least-is`, `greatest-is`), so a figure equal to it does (`holds`). Assumes
+-- nothing.
 use Prim.Native.Nat.{ℕ, zero, suc, _<_}
 use mathlib.Core.Path.{_≡_, refl, sym, _∙_, ap, subst}
 use mathlib.Core.Bool.{Bool, true, _&&_, and-eq-true-iff}

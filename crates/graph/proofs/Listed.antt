@@ -1,7 +1,7 @@
 -- The lists of specs/Compute.antt hold just the walks that they are said to hold.
 --
--- First what is in a list that is taken by a test, gathered over numbers, or not empty. Then, by recursion on the number of transitions, a list of
--- transitions is in `walks` exactly when it is a walk of that length through unfinished states to a state where the test says yes;
+-- First what is in a list that is taken by a test, gathered over numbers, or not empty. Then, by recursion on the number of transitions, a
+-- list of transitions is in `walks` exactly when it is a walk of that length through unfinished states to a state where the test says yes;
 -- `begun` adds the start, and `within` all lengths below n. Last, the test for a dead end says yes exactly at a dead end. Assumes nothing.
 use Prim.Native.Nat.{ℕ, zero, suc, _<_}
 use mathlib.Core.Path.{_≡_, refl, sym, _∙_, ap, subst}

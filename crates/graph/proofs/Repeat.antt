@@ -3,8 +3,8 @@
 -- A sequence here is a function f, of which the first k numbers are looked at: f 0, .., f (k - 1). They are apart when no two are equal.
 -- 1. Whether x is among the first k is found by looking at each (`find`).
 -- 2. So the first repeat is found: the least k at which f k is among the numbers before it, or else they are all apart (`first-repeat`).
--- 3. If the first k are apart and all below n, then k ≤ n (`pigeonhole`), by induction on n. If n - 1 is not among them, they are all below n - 1.
---    If it stands at place p, put the last one there instead: the first k - 1 are then apart and below n - 1.
+-- 3. If the first k are apart and all below n, then k ≤ n (`pigeonhole`), by induction on n. If n - 1 is not among them, they are all below
+--    n - 1. If it stands at place p, put the last one there instead: the first k - 1 are then apart and below n - 1.
 -- 4. So among n + 1 numbers below n there is a first repeat (`repeat-below`).
 -- The states on a walk are such a sequence, and `Different` of the specs says that they are apart (the last part). Assumes nothing.
 use Prim.Native.Nat.{ℕ, zero, suc, _≤_, _<_, zero-le, suc-le-suc}

@@ -1,5 +1,5 @@
--- Sentences of 01 that follow from the definitions in a line or two, so that a reader can hold the definitions against them; and calculators that demand 2 names, refuted.
--- Assumes nothing.
+-- Sentences of 01 that follow from the definitions in a line or two, so that a reader can hold the definitions against them; and
+-- calculators that demand 2 names, refuted. Assumes nothing.
 use Prim.Native.Nat.{ℕ, _<_}
 use mathlib.Core.Path.{_≡_, sym, _∙_}
 use mathlib.Core.Bool.{Bool}
@@ -34,7 +34,7 @@ module _ (g : Graph) where
   number-alone k j (s, r, q, d) = (s, r .0, r .1)
 
   pub stranded-alone : (j : ℕ) → Shown g (greatestDelayCost g) STRANDED [] j → (s : ℕ) × Begins g s × DeadEnd g s
-  stranded-alone j (s, b, w, d) = (s, b, w)
+  stranded-alone j (s, (b, w), d) = (s, b, w)
 
   -- the number shown is the sum over the walk shown, "of its lows for a least figure, and of its highs for a greatest one" ..
   pub shown-lows : (k : ℕ) (ts : List ℕ) (j : ℕ) → Shown g (lows g) (number k) ts j → delay (low g) ts ≡ k
@@ -47,7 +47,8 @@ module _ (g : Graph) where
   pub shown-count : (p : ℕ → Bool) (k : ℕ) (ts : List ℕ) (j : ℕ) → Shown g (counts g p) (number k) ts j → (s : ℕ) × Begins g s × (number-on g p s ts ≡ k)
   shown-count p k ts j (s, r, q, d) = (s, r .0, sym (count-is g p (Unfinished g) (Final g) s ts (r .1)) ∙ q)
 
--- "a calculator that says NONE, STRANDED or ENDLESS before looking", and "one that quotes a fixed figure": no figure is right for both P2 and P3, whatever the cost
+-- "a calculator that says NONE, STRANDED or ENDLESS before looking", and "one that quotes a fixed figure": no figure is right for both P2
+-- and P3, whatever the cost
 pub least-not-fixed : (c c′ : Cost) (f : Figure) → IsLeast (P2 .plan) c f → IsLeast (P3 .plan) c′ f → ⊥
 least-not-fixed c c′ (number k) h₂ h₃ = let (s, ts, r, q) = h₃ .attained in known-hold 2 (lit< tt) .least-delay s ts r
 least-not-fixed c c′ NONE h₂ h₃ = let (s, ts, r, q) = known-hold 1 (lit< tt) .least-delay .attained in h₂ s ts r

@@ -1,8 +1,9 @@
 -- Every walk has a simple one: from the same state to the same state, no state visited twice, and at no greater cost.
 --
--- By recursion on the transitions. The walk of none is simple. Otherwise make the rest of the walk simple first. If the first state is not on
--- it, put the first transition back in front. If it is, at place i, then the walk from there on begins at the first state, and it is a part of a simple walk, so it is simple (`from-place`).
--- Leaving transitions out never raises a cost. A simple walk visits at most n states, so it has fewer than n transitions. Assumes nothing.
+-- By recursion on the transitions. The walk of none is simple. Otherwise make the rest of the walk simple first. If the first state is not
+-- on it, put the first transition back in front. If it is, at place i, then the walk from there on begins at the first state, and it is a
+-- part of a simple walk, so it is simple (`from-place`). Leaving transitions out never raises a cost. A simple walk visits at most n
+-- states, so it has fewer than n transitions. Assumes nothing.
 use Prim.Native.Nat.{ℕ, zero, suc, _≤_, _<_}
 use mathlib.Core.Path.{_≡_, refl, _∙_, subst}
 use mathlib.Core.Logic.{_⊎_, inl, inr}

@@ -1,9 +1,9 @@
 -- The figures by computation, for any plan: list the walks of so many transitions and look among them.
 --
--- This says what a figure IS in a form that can be computed, and not how to find one fast: the lists grow with the power of the transitions.
--- A route that visits no state twice has fewer transitions than the plan has states, and n transitions in a row without an answer
--- visit some state twice. So n is enough to look at. proofs/Least.antt and proofs/Greatest.antt show that what is computed here is what Figure.antt says.
--- Assumes nothing.
+-- This says what a figure IS in a form that can be computed, and not how to find one fast: the lists grow with the power of the
+-- transitions. A route that visits no state twice has fewer transitions than the plan has states, and n transitions in a row without an
+-- answer visit some state twice. So n is enough to look at. proofs/Least.antt and proofs/Greatest.antt show that what is computed here is
+-- what Figure.antt says. Assumes nothing.
 use Prim.Native.Nat.{ℕ, zero, suc, min, max}
 use mathlib.Core.Bool.{Bool, true, false, not, cond, _&&_}
 use mathlib.Core.List.{List, [], _∷_, _++_, map}

@@ -6,8 +6,8 @@ use mathlib.Core.Bool.{true}
 use mathlib.Core.List.{List}
 use lib.ListN.{length, take}
 use Rattle.graph.specs.Graph.{Graph, start, counted}
-use Rattle.graph.specs.Walk.{Begins, visits, arrival, UnfinishedFrom, Different}
-use Rattle.graph.specs.Route.{Route, StrandedFrom, GoesOnForever, EndsUnanswered, Cost, total, lows, highs, counts}
+use Rattle.graph.specs.Walk.{visits, arrival, UnfinishedWalk, Different}
+use Rattle.graph.specs.Route.{Route, StrandedWalk, GoesOnForever, EndsUnanswered, Cost, total, lows, highs, counts}
 
 -- "its number or kind"
 pub data Figure : Type 0 where
@@ -81,9 +81,10 @@ abbrev pub Shown : Graph → Cost → Figure → List ℕ → ℕ → Type 0
 -- "For a number: a route that attains the figure and visits no state twice."
 Shown g c (number k) ts j = (s : ℕ) × Route g s ts × (total g c s ts ≡ k) × Different (visits g s ts)
 -- "For STRANDED: an unfinished walk to a dead end, no state twice."
-Shown g c STRANDED ts j = (s : ℕ) × Begins g s × StrandedFrom g s ts × Different (visits g s ts)
--- "For ENDLESS: an unfinished walk and a place j below k, where the state after k transitions is the state after j, and the first k states differ."
+Shown g c STRANDED ts j = (s : ℕ) × StrandedWalk g s ts × Different (visits g s ts)
+-- "For ENDLESS: an unfinished walk and a place j below k, where the state after k transitions is the state after j, and the first k states
+-- differ."
 Shown g c ENDLESS ts j =
-    (s : ℕ) × Begins g s × UnfinishedFrom g s ts × (j < length ts) × (arrival g s ts ≡ arrival g s (take j ts)) × Different (take (length ts) (visits g s ts))
+    (s : ℕ) × UnfinishedWalk g s ts × (j < length ts) × (arrival g s ts ≡ arrival g s (take j ts)) × Different (take (length ts) (visits g s ts))
 -- "For NONE: k is 0."
 Shown g c NONE ts j = length ts ≡ 0

@@ -84,6 +84,7 @@ pub record DeadEnd (g : Graph) (s : ℕ) : Type 0 where
   pub unfinished : Unfinished g s
   pub shut : (t : ℕ) → Departs g s t → ⊥
 
--- what the theorems ask of a plan, and its limits give: every transition leads to a state of the plan ("a state number not below n" is refused)
+-- what the theorems ask of a plan, and its limits give: every transition leads to a state of the plan ("a state number not below n" is
+-- refused)
 abbrev pub Closed : Graph → Type 0
 Closed g = (t : ℕ) → t < count g → to g t < states g

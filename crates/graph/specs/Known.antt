@@ -1,5 +1,5 @@
--- The plans with known figures, P1 to P9, and the plans that mislead: document 01, "Plans with known figures" and "What misleads people here".
--- proofs/Known.antt proves `Holds` of every row. Assumes nothing.
+-- The plans with known figures, P1 to P9, and the plans that mislead: document 01, "Plans with known figures" and "What misleads people
+-- here". proofs/Known.antt proves `Holds` of every row. Assumes nothing.
 use Prim.Native.Nat.{ℕ}
 use mathlib.Core.List.{List, [], _∷_}
 use Rattle.graph.specs.Graph.{Graph, Transition}
@@ -71,7 +71,8 @@ known = P1 ∷ P2 ∷ P3 ∷ P4 ∷ P5 ∷ P6 ∷ P7 ∷ P8 ∷ P9 ∷ []
 
 -- ---- "What misleads people here": P8, P7 and P4 above, and three rows of our own
 
--- "Letting a loop or dead end that no start reaches turn the greatest figure": P7 without its loop, so that state 2 is a dead end that nothing reaches
+-- "Letting a loop or dead end that no start reaches turn the greatest figure": P7 without its loop, so that state 2 is a dead end that
+-- nothing reaches
 abbrev pub unreached-dead-end : Row
 unreached-dead-end = row (4 ∷ 2 ∷ 0 ∷ []) (join 0 1 2 3 ∷ []) (number 2) (number 3) (number 0) (number 0)
 

@@ -6,15 +6,14 @@ use Prim.Native.Nat.{ℕ, _+_}
 use mathlib.Core.Bool.{Bool, true, false}
 use mathlib.Core.List.{List, [], _∷_, map}
 use Rattle.graph.specs.Graph.{Graph, from, to, low, high, Final, Unfinished, DeadEnd}
-use Rattle.graph.specs.Walk.{Begins, WalkTo, visits, EndlessWalk}
+use Rattle.graph.specs.Walk.{WalkTo, FromStart, visits, EndlessWalk}
 
--- a "walk whose last state is final and no earlier one is", from any state
+-- "A route is a finite walk whose last state is final and no earlier one is."; first from any state
 abbrev pub RouteFrom : Graph → ℕ → List ℕ → Type 0
 RouteFrom g = WalkTo g (Unfinished g) (Final g)
 
--- "A route is a finite walk whose last state is final and no earlier one is."
 abbrev pub Route : Graph → ℕ → List ℕ → Type 0
-Route g s ts = Begins g s × RouteFrom g s ts
+Route g = FromStart g (RouteFrom g)
 
 -- "A start leads to an answer when a route begins at it."
 abbrev pub LeadsToAnswer : Graph → ℕ → Type 0
@@ -24,13 +23,16 @@ LeadsToAnswer g s = (ts : List ℕ) × Route g s ts
 abbrev pub GoesOnForever : Graph → Type 0
 GoesOnForever g = EndlessWalk g
 
--- a walk of unfinished states that ends in a dead end, from any state
+-- a walk of unfinished states that ends in a dead end; first from any state
 abbrev pub StrandedFrom : Graph → ℕ → List ℕ → Type 0
 StrandedFrom g = WalkTo g (Unfinished g) (DeadEnd g)
 
+abbrev pub StrandedWalk : Graph → ℕ → List ℕ → Type 0
+StrandedWalk g = FromStart g (StrandedFrom g)
+
 -- ".. and one can end unanswered when a walk of unfinished states ends in a dead end."
 abbrev pub EndsUnanswered : Graph → Type 0
-EndsUnanswered g = (s : ℕ) × (ts : List ℕ) × Begins g s × StrandedFrom g s ts
+EndsUnanswered g = (s : ℕ) × (ts : List ℕ) × StrandedWalk g s ts
 
 -- ---- costs
 

@@ -1,7 +1,7 @@
 -- Walks by transition numbers. Document 01, "Routes and figures", first paragraph.
 --
--- A walk is a state, where it begins, and a list of transition numbers: the states on it follow. What a walk must meet is said of any state
--- to begin at; `Begins` alone says at which states the walks of a plan do begin. Assumes nothing.
+-- A walk is a state, where it begins, and a list of transition numbers: the states on it follow. What a walk must meet is said first of a walk
+-- from any state; how the walks of a plan begin is said by `FromStart` alone, and at the end for an endless one. Assumes nothing.
 use Prim.Native.Nat.{ℕ, suc, _<_}
 use mathlib.Core.Path.{_≡_}
 use mathlib.Core.Bool.{true}
@@ -9,11 +9,7 @@ use mathlib.Core.List.{List, [], _∷_}
 use lib.ListN.{length, getD}
 use Rattle.graph.specs.Graph.{Graph, start, to, Departs, Unfinished}
 
--- HOW A WALK BEGINS: "A walk is a start state followed by .." (E5 changes this)
-abbrev pub Begins : Graph → ℕ → Type 0
-Begins g s = start g s ≡ true
-
--- ".. transitions of the plan, each departing where the one before arrived": the list ts walked from s.
+-- "transitions of the plan, each departing where the one before arrived": the list ts walked from s, any state.
 -- `pass` holds of each state that the walk goes on from, and `stop` of the last one.
 abbrev pub WalkTo : Graph → (ℕ → Type 0) → (ℕ → Type 0) → ℕ → List ℕ → Type 0
 WalkTo g pass stop s [] = stop s
@@ -29,9 +25,20 @@ abbrev pub arrival : Graph → ℕ → List ℕ → ℕ
 arrival g s [] = s
 arrival g s (t ∷ ts) = arrival g (to g t) ts
 
--- "a walk of unfinished states", from any state
+-- a state that a walk of the plan begins at
+abbrev pub Begins : Graph → ℕ → Type 0
+Begins g s = start g s ≡ true
+
+-- HOW A WALK BEGINS (E5 changes this): "A walk is a start state followed by" its transitions, and K is asked of it
+abbrev pub FromStart : Graph → (ℕ → List ℕ → Type 0) → ℕ → List ℕ → Type 0
+FromStart g K s ts = Begins g s × K s ts
+
+-- "a walk of unfinished states"; first from any state
 abbrev pub UnfinishedFrom : Graph → ℕ → List ℕ → Type 0
 UnfinishedFrom g = WalkTo g (Unfinished g) (Unfinished g)
+
+abbrev pub UnfinishedWalk : Graph → ℕ → List ℕ → Type 0
+UnfinishedWalk g = FromStart g (UnfinishedFrom g)
 
 -- "visits no state twice": no two places of the list hold the same
 abbrev pub Different : List ℕ → Type 0
