@@ -69,17 +69,17 @@ module _ (g : Graph) (In : ℕ → Type 0) (rank : ℕ → ℕ) where
     pub onward : (s t : ℕ) → In s → Departs g s t → Unfinished g (to g t) → In (to g t) × (rank (to g t) < rank s)
 
   module _ (r : FallingRank) where
-    sinks : (e : EndlessWalk g) (i : ℕ) → In (e .state i) × (i + rank (e .state i) ≤ rank (e .state 0))
-    sinks e zero = (r .begins (e .state 0) (e .begins) (e .unfinished 0), omega arith)
-    sinks e (suc i) =
-        let (here, l) = sinks e i in
+    in-and-falls : (e : EndlessWalk g) (i : ℕ) → In (e .state i) × (i + rank (e .state i) ≤ rank (e .state 0))
+    in-and-falls e zero = (r .begins (e .state 0) (e .begins) (e .unfinished 0), omega arith)
+    in-and-falls e (suc i) =
+        let (here, l) = in-and-falls e i in
         let (there, falls) = r .onward (e .state i) (e .taken i) here (e .departs i) (rw (e .arrives i) (e .unfinished (suc i))) in
         let falls′ : rank (e .state (suc i)) < rank (e .state i) = rw (e .arrives i) at falls in
         (rw (e .arrives i) at there, omega arith)
 
     -- after so many steps the rank would be below 0
     pub no-endless : GoesOnForever g → ⊥
-    no-endless e = omega (arith, sinks e (suc (rank (e .state 0))) .1)
+    no-endless e = omega (arith, in-and-falls e (suc (rank (e .state 0))) .1)
 
     -- a walk from the set to a dead end: its first state is unfinished, and its last is in the set
     stranded-unfinished : (s : ℕ) (ts : List ℕ) → StrandedFrom g s ts → Unfinished g s

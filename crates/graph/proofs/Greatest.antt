@@ -22,7 +22,7 @@ use Rattle.graph.specs.Route.{RouteFrom, Route, LeadsToAnswer, StrandedF
 use Rattle.graph.specs.Figure.{Figure, number, NONE, STRANDED, ENDLESS, IsGreatest, NoStart, Shown}
 use Rattle.graph.specs.Compute.{given, gather, leaving, deadEnd, extreme, begun, within, costs, anyStart, anyEndless, anyStranded, greatest}
 use Rattle.graph.proofs.Walks.{start-below, with-stop}
-use Rattle.graph.proofs.Simple.{simple, simple-length}
+use Rattle.graph.proofs.Simple.{simple, simple-length, short-length}
 use Rattle.graph.proofs.Endless.{run, length-run, run-walk, long-endless, endless-shown, simple-or-endless}
 use Rattle.graph.proofs.Listed.{_∈_, Yes, of-given, in-given, of-gather, in-gather, of-nonempty, in-nonempty, of-begun, in-begun, of-within, in-within, of-leaving, in-leaving, of-deadEnd, in-deadEnd}
 use Rattle.graph.proofs.Extreme.{AtLeast, picks-max, Covered, IsExtreme, in-costs, extreme-is, extreme-unique}
@@ -51,7 +51,9 @@ module _ (g : Graph) where
         let (x, m) = of-nonempty (gather marked (states g)) e in
         let (s, h, n) = of-gather marked (states g) m in
         (s, of-given (start g s) n .0);
-    complete = λ p. in-nonempty (gather marked (states g)) (in-gather marked (states g) (p .0) (start-below g (p .0) (p .1)) (in-given (start g (p .0)) (p .1) (List·Memᴰ·head refl)));
+    complete = λ p.
+        let (s, b) = p in
+        in-nonempty (gather marked (states g)) (in-gather marked (states g) s (start-below g s b) (in-given (start g s) b (List·Memᴰ·head refl)));
   }
 
   any-endless : Closed g → Tests (anyEndless g) (GoesOnForever g)
@@ -75,11 +77,12 @@ module _ (g : Graph) where
         let (r, m) = of-nonempty (within g (deadEnd g)) e in
         let (b, w) = of-within g (deadEnd g) r m in
         (r .0, r .1, (b, with-stop g (Unfinished g) (Yes (deadEnd g)) (DeadEnd g) (of-deadEnd g) (r .0) (r .1) w));
-    complete = λ u. let (s, ts, bw) = u in
-        let (b, w) = bw in
-        let q = simple g (Unfinished g) (DeadEnd g) s ts w in
-        let h = simple-length g (Unfinished g) (DeadEnd g) closed s (q .short) (start-below g s b) (q .walk) (q .different) in
-        in-nonempty (within g (deadEnd g)) (in-within g (deadEnd g) s (q .short) b (with-stop g (Unfinished g) (DeadEnd g) (Yes (deadEnd g)) (in-deadEnd g) s (q .short) (q .walk)) h);
+    complete = λ u.
+        let (s, ts, w) = u in
+        let q = simple g (Unfinished g) (DeadEnd g) s ts (w .1) in
+        let h = short-length g (Unfinished g) (DeadEnd g) closed s ts (w .0) q in
+        let v = with-stop g (Unfinished g) (DeadEnd g) (Yes (deadEnd g)) (in-deadEnd g) s (q .short) (q .walk) in
+        in-nonempty (within g (deadEnd g)) (in-within g (deadEnd g) s (q .short) (w .0) v h);
   }
 
 -- ---- 2
@@ -108,11 +111,11 @@ module _ (g : Graph) where
       here false e (t ∷ us) q rest = one-more k s t e (of-leaving g s t (rw q (List·Memᴰ·head refl))) (rest t)
 
   pub leads-to-answer : Closed g → (GoesOnForever g → ⊥) → (EndsUnanswered g → ⊥) → (s : ℕ) → Begins g s → LeadsToAnswer g s
-  leads-to-answer closed finite free s b = go (go-on (states g) s)
+  leads-to-answer closed finite unstranded s b = go (go-on (states g) s)
     where
       go : Onward (states g) s → LeadsToAnswer g s
       go (inl (ts, w)) = (ts, (b, w))
-      go (inr (inl (ts, w))) = absurd (free (s, ts, (b, w)))
+      go (inr (inl (ts, w))) = absurd (unstranded (s, ts, (b, w)))
       go (inr (inr (ts, w, l))) = absurd (finite (long-endless g (Unfinished g) s ts b w closed (le-of-eq (sym l))))
 
 -- ---- 3
@@ -136,11 +139,12 @@ module _ (g : Graph) (c : Cost) where
   some-start : (s : ℕ) → Begins g s → NoStart g → ⊥
   some-start s b no-start = no-start s b
 
-  is-largest : (f : Figure) → (NoStart g → ⊥) → (GoesOnForever g → ⊥) → (EndsUnanswered g → ⊥) → (s : ℕ) → LeadsToAnswer g s → IsExtreme max AtLeast picks-max g c f → IsGreatest g c f
-  is-largest (number k) started finite free s a h = (started, finite, free, h)
-  is-largest NONE started finite free s a h = absurd (h s (a .0) (a .1))
-  is-largest STRANDED started finite free s a h = absurd h
-  is-largest ENDLESS started finite free s a h = absurd h
+  is-largest : (f : Figure) → (NoStart g → ⊥) → (GoesOnForever g → ⊥) → (EndsUnanswered g → ⊥)
+      → (s : ℕ) → LeadsToAnswer g s → IsExtreme max AtLeast picks-max g c f → IsGreatest g c f
+  is-largest (number k) started finite unstranded s a h = (started, finite, unstranded, h)
+  is-largest NONE started finite unstranded s a h = absurd (h s (a .0) (a .1))
+  is-largest STRANDED started finite unstranded s a h = absurd h
+  is-largest ENDLESS started finite unstranded s a h = absurd h
 
   -- what is computed is the greatest figure
   pub greatest-is : Closed g → IsGreatest g c (greatest g c)
@@ -155,8 +159,8 @@ module _ (g : Graph) (c : Cost) where
       go true false false p q r =
           let (s, b) = any-start g .sound p in
           let finite = refuted (any-endless g closed) q in
-          let free = refuted (any-stranded g closed) r in
-          is-largest (extreme max (costs g c)) (some-start s b) finite free s (leads-to-answer g closed finite free s b)
+          let unstranded = refuted (any-stranded g closed) r in
+          is-largest (extreme max (costs g c)) (some-start s b) finite unstranded s (leads-to-answer g closed finite unstranded s b)
           (extreme-is max AtLeast picks-max g c (cover g c closed finite))
 
   -- and there is only one: each kind excludes those after it

@@ -11,8 +11,7 @@ use Rattle.graph.specs.Graph.{Graph, final, Final, Unfinished, Closed}
 use Rattle.graph.specs.Route.{Cost, total}
 use Rattle.graph.specs.Figure.{Figure, number, NONE, STRANDED, ENDLESS, IsLeast, Shown}
 use Rattle.graph.specs.Compute.{extreme, costs, least}
-use Rattle.graph.proofs.Walks.{start-below}
-use Rattle.graph.proofs.Simple.{simple, simple-length}
+use Rattle.graph.proofs.Simple.{simple, short-length}
 use Rattle.graph.proofs.Listed.{in-within}
 use Rattle.graph.proofs.Extreme.{AtMost, picks-min, Covered, IsExtreme, in-costs, extreme-is, extreme-unique}
 
@@ -20,7 +19,7 @@ module _ (g : Graph) (c : Cost) where
   cover : Closed g → Covered min AtMost picks-min g c
   cover closed s ts r =
       let q = simple g (Unfinished g) (Final g) s ts (r .1) in
-      let h = simple-length g (Unfinished g) (Final g) closed s (q .short) (start-below g s (r .0)) (q .walk) (q .different) in
+      let h = short-length g (Unfinished g) (Final g) closed s ts (r .0) q in
       (total g c s (q .short), in-costs g c s (q .short) (in-within g (final g) s (q .short) (r .0) (q .walk) h), q .cheaper c)
 
   is-least : (f : Figure) → IsExtreme min AtMost picks-min g c f → IsLeast g c f

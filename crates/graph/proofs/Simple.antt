@@ -12,10 +12,10 @@ use native.Mathlib.Nat.{not-suc-le-zero, le-of-suc-le-suc, le-refl, le-trans}
 use native.Mathlib.Omega.{arith}
 use lib.ListN.{length}
 use Rattle.graph.specs.Graph.{Graph, states, to, Closed}
-use Rattle.graph.specs.Walk.{WalkTo, visits, arrival, Different}
+use Rattle.graph.specs.Walk.{Begins, WalkTo, visits, arrival, Different}
 use Rattle.graph.specs.Route.{Cost, total}
 use Rattle.graph.proofs.Repeat.{nth, Found, Absent, find, different-cons, different-drop, different-length}
-use Rattle.graph.proofs.Walks.{length-visits, visits-below}
+use Rattle.graph.proofs.Walks.{start-below, length-visits, visits-below}
 
 different-one : (s : ℕ) → Different (s ∷ [])
 different-one s = different-cons s [] (λ i h e. not-suc-le-zero h) (λ i j l h e. not-suc-le-zero h)
@@ -78,3 +78,6 @@ module _ (g : Graph) (pass stop : ℕ → Type 0) where
   -- a simple walk has fewer than n transitions
   pub simple-length : Closed g → (s : ℕ) (ts : List ℕ) → s < states g → WalkTo g pass stop s ts → Different (visits g s ts) → length ts < states g
   simple-length c s ts h w d = omega (arith, length-visits g s ts, different-length (states g) (visits g s ts) d (visits-below g pass stop c s ts h w))
+
+  pub short-length : Closed g → (s : ℕ) (ts : List ℕ) → Begins g s → (q : SimpleWalk s s ts) → length (q .short) < states g
+  short-length c s ts b q = simple-length c s (q .short) (start-below g s b) (q .walk) (q .different)
