@@ -8,20 +8,27 @@
 --    So every start leads to an answer (`rank-answers`).
 -- 3. A transition chosen at each unfinished state, that leads on with a lower rank and accounts for the value: following the choices is a
 --    route that costs the value and visits no state twice (`follow`).
--- 4. Together, values at a best start are the least figure (`least-number`, `least-none`), or the greatest (`greatest-number`).
+-- 4. A tree of the states found, each by a transition from a state found before it: it holds a walk from a start to each, that visits no
+--    state twice (`tree-walk`).
+-- 5. Together, values at a best start are the least figure (`least-number`, `least-none`), or the greatest (`greatest-number`); and walks
+--    that may be shown prove the other kinds (`greatest-endless`, `greatest-stranded`).
 -- Assumes nothing.
 use Prim.Native.Nat.{ℕ, zero, suc, _+_, _≤_, _<_}
 use mathlib.Core.Path.{_≡_, refl, sym, _∙_, ap}
 use mathlib.Core.Bool.{Bool, true, false}
-use mathlib.Core.List.{List, [], _∷_}
-use native.Mathlib.Nat.{not-suc-le-zero, le-of-suc-le-suc, le-refl, le-trans, le-of-lt}
+use mathlib.Core.List.{List, [], _∷_, _++_}
+use mathlib.Core.Logic.{_⊎_, inl, inr}
+use native.Mathlib.Nat.{not-suc-le-zero, le-of-suc-le-suc, le-refl, le-trans, le-of-lt, le-of-eq}
 use native.Mathlib.Omega.{arith}
 use lib.ListN.{length}
-use Rattle.graph.specs.Graph.{Graph, final, to, Departs, Final, Unfinished, Closed}
-use Rattle.graph.specs.Walk.{Begins, visits, Different, EndlessWalk}
+use Rattle.graph.specs.Graph.{Graph, count, final, from, to, Departs, Final, Unfinished, DeadEnd, Closed}
+use Rattle.graph.specs.Walk.{Begins, visits, arrival, UnfinishedWalk, Different, EndlessWalk}
 use Rattle.graph.specs.Route.{RouteFrom, LeadsToAnswer, StrandedFrom, GoesOnForever, EndsUnanswered, Cost, total}
-use Rattle.graph.specs.Figure.{number, NONE, IsLeast, IsGreatest, Shown}
-use Rattle.graph.proofs.Repeat.{nth, different-cons}
+use Rattle.graph.specs.Figure.{number, NONE, STRANDED, ENDLESS, IsLeast, IsGreatest, Shown}
+use Rattle.graph.proofs.Repeat.{nth, different-cons, different-one, different-snoc, Snoc, nth-snoc}
+use Rattle.graph.proofs.Build.{arrival-snoc, visits-snoc, walk-snoc}
+use Rattle.graph.proofs.Walks.{with-last}
+use Rattle.graph.proofs.Endless.{shown-endless}
 use Rattle.graph.proofs.Greatest.{leads-to-answer}
 
 -- ---- 1
@@ -45,20 +52,19 @@ module _ (g : Graph) (c : Cost) where
       over : (s t x : ℕ) → Unfinished g s → Departs g s t → Has (to g t) × (value (to g t) ≤ x) → Has s × (value s ≤ c .step t + x)
       over s t x u d (h, l) = let (h′, l′) = v .over s t u d h in (h′, omega arith)
 
-  -- values for unfinished states of a set that transitions do not leave, but to final states: at least the close; over a transition, at
-  -- least its cost and the value behind it
+  -- values for the unfinished states of a set: at a final state at least the close; over a transition, at least its cost and the value
+  -- behind it
   pub record GreatestValues (In : ℕ → Type 0) (value : ℕ → ℕ) : Type 0 where
     pub at-final : (s : ℕ) → Final g s → c .close s ≤ value s
-    pub stays : (s t : ℕ) → In s → Departs g s t → Unfinished g (to g t) → In (to g t)
     pub over : (s t : ℕ) → In s → Departs g s t → c .step t + value (to g t) ≤ value s
 
-  -- no route from the set costs more
-  pub greatest-values : (In : ℕ → Type 0) (value : ℕ → ℕ) → GreatestValues In value
+  -- where transitions lead from the set only to it and to final states, no route from it costs more
+  pub greatest-values : (In : ℕ → Type 0) (value : ℕ → ℕ) → GreatestValues In value → ((s t : ℕ) → In s → Departs g s t → Unfinished g (to g t) → In (to g t))
       → (s : ℕ) (ts : List ℕ) → (Unfinished g s → In s) → RouteFrom g s ts → total g c s ts ≤ value s
-  greatest-values In value v s ts i r = route-bound (λ s x. (Unfinished g s → In s) → x ≤ value s) (λ s f i. v .at-final s f) over s ts r i
+  greatest-values In value v stays s ts i r = route-bound (λ s x. (Unfinished g s → In s) → x ≤ value s) (λ s f i. v .at-final s f) over s ts r i
     where
       over : (s t x : ℕ) → Unfinished g s → Departs g s t → ((Unfinished g (to g t) → In (to g t)) → x ≤ value (to g t)) → (Unfinished g s → In s) → c .step t + x ≤ value s
-      over s t x u d bound i = let h = bound (v .stays s t (i u) d) in omega (arith, v .over s t (i u) d)
+      over s t x u d bound i = let h = bound (stays s t (i u) d) in omega (arith, v .over s t (i u) d)
 
 -- ---- 2
 
@@ -126,7 +132,7 @@ module _ (g : Graph) (c : Cost) (In : ℕ → Type 0) (value rank : ℕ → ℕ)
       route = f;
       costs = sym (p .at-final s f);
       falls = one;
-      different = different-cons s [] (λ i h e. not-suc-le-zero h) (λ i j l h e. not-suc-le-zero h);
+      different = different-one s;
     }
       where
         one : (i : ℕ) → i < 1 → Unfinished g (nth (s ∷ []) i) → Unfinished g s × (rank (nth (s ∷ []) i) ≤ rank s)
@@ -180,6 +186,87 @@ module _ (g : Graph) (c : Cost) (In : ℕ → Type 0) (value rank : ℕ → ℕ)
 
 -- ---- 4
 
+module _ (g : Graph) (In : ℕ → Type 0) (order : ℕ → ℕ) where
+  -- the transition by which s was found, from a state that was found before it
+  pub record FoundBy (s : ℕ) : Type 0 where
+    pub via : ℕ
+    pub listed : via < count g
+    pub arrives : to g via ≡ s
+    pub inside : In (from g via)
+    pub earlier : order (from g via) < order s
+
+  pub record Tree : Type 0 where
+    pub unfinished : (s : ℕ) → In s → Unfinished g s
+    pub origin : (s : ℕ) → In s → Begins g s ⊎ FoundBy s
+
+  -- an unfinished walk from a start to s, that visits no state twice
+  pub record TreeWalk (s : ℕ) : Type 0 where
+    pub first : ℕ
+    pub taken : List ℕ
+    pub walk : UnfinishedWalk g first taken
+    pub arrives : arrival g first taken ≡ s
+    pub rises : (i : ℕ) → i < length (visits g first taken) → order (nth (visits g first taken) i) ≤ order s
+    pub different : Different (visits g first taken)
+
+  module _ (p : Tree) where
+    from-start : (s : ℕ) → In s → Begins g s → TreeWalk s
+    from-start s i b = record { first = s; taken = []; walk = (b, p .unfinished s i); arrives = refl; rises = one; different = different-one s }
+      where
+        one : (i : ℕ) → i < 1 → order (nth (s ∷ []) i) ≤ order s
+        one zero h = le-refl (order s)
+        one (suc i) h = absurd (not-suc-le-zero (le-of-suc-le-suc h))
+
+    one-further : (s : ℕ) → In s → (f : FoundBy s) → TreeWalk (from g (f .via)) → TreeWalk s
+    one-further s i f q = record {
+      first = q .first;
+      taken = q .taken ++ (f .via ∷ []);
+      walk = (
+        q .walk .0,
+        walk-snoc g (Unfinished g) (Unfinished g) (Unfinished g) (q .first) (q .taken) (f .via) (q .walk .1)
+            (rw (q .arrives) (p .unfinished (from g (f .via)) (f .inside))) (record { listed = f .listed; source = sym (q .arrives) })
+            (rw (f .arrives) (p .unfinished s i)),
+      );
+      arrives = arrival-snoc g (q .first) (q .taken) (f .via) ∙ f .arrives;
+      rises = rw (visits-snoc g (q .first) (q .taken) (f .via)) rises;
+      different = rw (visits-snoc g (q .first) (q .taken) (f .via)) (different-snoc before (to g (f .via)) new (q .different));
+    }
+      where
+        before : List ℕ
+        before = visits g (q .first) (q .taken)
+
+        lower : (k : ℕ) → k < length before → order (nth before k) < order s
+        lower k h = omega (arith, q .rises k h, f .earlier)
+
+        rises : (k : ℕ) → k < length (before ++ (to g (f .via) ∷ [])) → order (nth (before ++ (to g (f .via) ∷ [])) k) ≤ order s
+        rises k h = go (nth-snoc before (to g (f .via)) k h)
+          where
+            go : Snoc before (to g (f .via)) k → order (nth (before ++ (to g (f .via) ∷ [])) k) ≤ order s
+            go (inl u) = rw (u .1) (le-of-lt (lower k (u .0)))
+            go (inr u) = le-of-eq (ap order (u .1 ∙ f .arrives))
+
+        new : (k : ℕ) → k < length before → nth before k ≡ to g (f .via) → ⊥
+        new k h e = omega (arith, lower k h, ap order (e ∙ f .arrives))
+
+    tree-within : (n s : ℕ) → In s → order s < n → TreeWalk s
+    tree-within zero s i h = absurd (not-suc-le-zero h)
+    tree-within (suc n) s i h = go (λ x j l. tree-within n x j l) (p .origin s i)
+      where
+        go : ((x : ℕ) → In x → order x < n → TreeWalk x) → Begins g s ⊎ FoundBy s → TreeWalk s
+        go rest (inl b) = from-start s i b
+        go rest (inr f) = one-further s i f (rest (from g (f .via)) (f .inside) (omega (arith, f .earlier)))
+
+    pub tree-walk : (s : ℕ) → In s → TreeWalk s
+    tree-walk s i = tree-within (suc (order s)) s i (le-refl (suc (order s)))
+
+    -- a state found that no transition leaves: the walk to it is what 01 asks to be shown for STRANDED
+    pub tree-stranded : (c : Cost) (s : ℕ) → In s → ((t : ℕ) → Departs g s t → ⊥) → (ts : List ℕ) × Shown g c STRANDED ts 0
+    tree-stranded c s i shut =
+        let q = tree-walk s i in
+        let last : DeadEnd g (arrival g (q .first) (q .taken)) = rw (q .arrives) (record { unfinished = p .unfinished s i; shut = shut }) in
+        (q .taken, (q .first, (q .walk .0, with-last g (Unfinished g) (Unfinished g) (DeadEnd g) (q .first) (q .taken) (q .walk .1) last), q .different))
+
+-- ---- 5
+
 module _ (g : Graph) (c : Cost) (In : ℕ → Type 0) (value rank : ℕ → ℕ) where
   -- no start has a value: there is no route
   pub least-none : LeastValues g c In value → ((s : ℕ) → Begins g s → In s → ⊥) → IsLeast g c NONE
@@ -202,6 +289,17 @@ module _ (g : Graph) (c : Cost) (In : ℕ → Type 0) (value rank : ℕ → ℕ)
     no-stranded g In rank r (λ x i. let q = p .choice x i (unfinished x i) in (q .next, q .departs)),
     record {
       attained = let f = follow g c In value rank p s (r .begins s b) in (s, f .taken, (b, f .route), f .costs);
-      bound = λ x ts q. le-trans (greatest-values g c In value v x ts (r .begins x (q .0)) (q .1)) (best x (q .0));
+      bound = λ x ts q. le-trans (greatest-values g c In value v stays x ts (r .begins x (q .0)) (q .1)) (best x (q .0));
     },
   )
+    where
+      stays : (x t : ℕ) → In x → Departs g x t → Unfinished g (to g t) → In (to g t)
+      stays x t i d u = r .onward x t i d u .0
+
+  -- a walk that is shown for ENDLESS
+  pub greatest-endless : (ts : List ℕ) (j : ℕ) → Shown g c ENDLESS ts j → IsGreatest g c ENDLESS
+  greatest-endless ts j shown = (λ no-start. no-start (shown .0) (shown .1 .0), shown-endless g c ts j shown)
+
+  -- a walk that is shown for STRANDED, where the rank falls
+  pub greatest-stranded : FallingRank g In rank → (ts : List ℕ) (j : ℕ) → Shown g c STRANDED ts j → IsGreatest g c STRANDED
+  greatest-stranded r ts j shown = (λ no-start. no-start (shown .0) (shown .1 .0), no-endless g In rank r, (shown .0, ts, shown .1))

@@ -9,6 +9,6 @@ pub mod Least
 pub mod Greatest
 pub mod Bound
 pub mod Known
-pub mod Certificate
 pub mod Build
+pub mod Certificate
 pub mod Sentences

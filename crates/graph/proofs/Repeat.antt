@@ -8,11 +8,11 @@
 -- 4. So among n + 1 numbers below n there is a first repeat (`repeat-below`).
 -- The states on a walk are such a sequence, and `Different` of the specs says that they are apart (the last part). Assumes nothing.
 use Prim.Native.Nat.{ℕ, zero, suc, _≤_, _<_, zero-le, suc-le-suc}
-use mathlib.Core.Path.{_≡_, refl, sym, _∙_}
+use mathlib.Core.Path.{_≡_, refl, sym, _∙_, ap}
 use mathlib.Core.Bool.{Bool, true, false, cond}
 use mathlib.Core.Logic.{_⊎_, inl, inr}
-use mathlib.Core.List.{List, [], _∷_}
-use native.Mathlib.Nat.{not-suc-le-zero, le-step, le-of-suc-le-suc, lt-irrefl, lt-of-lt-of-le}
+use mathlib.Core.List.{List, [], _∷_, _++_}
+use native.Mathlib.Nat.{not-suc-le-zero, le-step, le-of-suc-le-suc, lt-irrefl, lt-trans, lt-of-lt-of-le, zero-lt-suc}
 use native.Mathlib.Decide.{ℕ-discrete, decLt}
 use native.Mathlib.Omega.{arith}
 use lib.Dec.{eqb}
@@ -176,6 +176,32 @@ pub different-cons : (x : ℕ) (xs : List ℕ) → ((i : ℕ) → i < length xs 
 different-cons x xs new d i zero l h e = not-suc-le-zero l
 different-cons x xs new d zero (suc j) l h e = new j (le-of-suc-le-suc h) (sym e)
 different-cons x xs new d (suc i) (suc j) l h e = d i j (le-of-suc-le-suc l) (le-of-suc-le-suc h) e
+
+pub different-one : (x : ℕ) → Different (x ∷ [])
+different-one x = different-cons x [] (λ i h e. not-suc-le-zero h) (λ i j l h e. not-suc-le-zero h)
+
+-- each place of a list with one more at its end is a place of the list, or the end
+abbrev pub Snoc : List ℕ → ℕ → ℕ → Type 0
+Snoc xs x i = ((i < length xs) × (nth (xs ++ (x ∷ [])) i ≡ nth xs i)) ⊎ ((i ≡ length xs) × (nth (xs ++ (x ∷ [])) i ≡ x))
+
+pub nth-snoc : (xs : List ℕ) (x i : ℕ) → i < length (xs ++ (x ∷ [])) → Snoc xs x i
+nth-snoc [] x zero h = inr (refl, refl)
+nth-snoc [] x (suc i) h = absurd (not-suc-le-zero (le-of-suc-le-suc h))
+nth-snoc (y ∷ ys) x zero h = inl (zero-lt-suc (length ys), refl)
+nth-snoc (y ∷ ys) x (suc i) h = go (nth-snoc ys x i (le-of-suc-le-suc h))
+  where
+    go : Snoc ys x i → Snoc (y ∷ ys) x (suc i)
+    go (inl u) = inl (suc-le-suc (u .0), u .1)
+    go (inr u) = inr (ap suc (u .0), u .1)
+
+pub different-snoc : (xs : List ℕ) (x : ℕ) → ((i : ℕ) → i < length xs → nth xs i ≡ x → ⊥) → Different xs → Different (xs ++ (x ∷ []))
+different-snoc xs x new d i j l h e = go (nth-snoc xs x i (lt-trans l h)) (nth-snoc xs x j h)
+  where
+    go : Snoc xs x i → Snoc xs x j → ⊥
+    go (inl u) (inl v) = d i j l (v .0) (sym (u .1) ∙ e ∙ v .1)
+    go (inl u) (inr v) = new i (u .0) (sym (u .1) ∙ e ∙ v .1)
+    go (inr u) (inl v) = omega arith
+    go (inr u) (inr v) = omega arith
 
 pub different-drop : (i : ℕ) (xs : List ℕ) → Different xs → Different (drop i xs)
 different-drop zero xs d = d

@@ -14,11 +14,8 @@ use lib.ListN.{length}
 use Rattle.graph.specs.Graph.{Graph, states, to, Closed}
 use Rattle.graph.specs.Walk.{Begins, WalkTo, visits, arrival, Different}
 use Rattle.graph.specs.Route.{Cost, total}
-use Rattle.graph.proofs.Repeat.{nth, Found, Absent, find, different-cons, different-drop, different-length}
+use Rattle.graph.proofs.Repeat.{nth, Found, Absent, find, different-cons, different-one, different-drop, different-length}
 use Rattle.graph.proofs.Walks.{start-below, length-visits, visits-below}
-
-different-one : (s : ℕ) → Different (s ∷ [])
-different-one s = different-cons s [] (λ i h e. not-suc-le-zero h) (λ i j l h e. not-suc-le-zero h)
 
 module _ (g : Graph) (pass stop : ℕ → Type 0) where
   -- a simple walk from x to where the walk from s by ts leads, at no greater cost

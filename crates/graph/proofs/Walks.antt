@@ -90,3 +90,7 @@ module _ (g : Graph) (pass stop : ℕ → Type 0) where
   pub with-stop : (stop′ : ℕ → Type 0) → ((x : ℕ) → stop x → stop′ x) → (s : ℕ) (ts : List ℕ) → WalkTo g pass stop s ts → WalkTo g pass stop′ s ts
   with-stop stop′ f s [] w = f s w
   with-stop stop′ f s (t ∷ ts) w = (w .0, w .1, with-stop stop′ f (to g t) ts (w .2))
+
+  pub with-last : (stop′ : ℕ → Type 0) (s : ℕ) (ts : List ℕ) → WalkTo g pass stop s ts → stop′ (arrival g s ts) → WalkTo g pass stop′ s ts
+  with-last stop′ s [] w q = q
+  with-last stop′ s (t ∷ ts) w q = (w .0, w .1, with-last stop′ (to g t) ts (w .2) q)
