@@ -1,14 +1,19 @@
+-- The theorems, in the order to read them.
+-- Walks: a list of numbers below n has a repeat; what every walk has; simple walks; endless walks; what walks cost.
 pub mod Repeat
 pub mod Walks
 pub mod Simple
 pub mod Endless
 pub mod Cost
+-- Figures: the computed lists hold just the walks; smallest and largest by one argument; the least and the greatest figure; their bounds.
 pub mod Listed
 pub mod Extreme
 pub mod Least
 pub mod Greatest
 pub mod Bound
-pub mod Known
+-- For a search: walks built step by step, and certificates.
 pub mod Build
 pub mod Certificate
+-- Document 01's plans and sentences.
+pub mod Known
 pub mod Sentences

@@ -76,7 +76,8 @@ countCost g = counts g (counted g)
 
 -- ---- what is shown
 
--- the walk of transition numbers ts, k of them, with the place j, is as 01 asks for the figure:
+-- the walk of transition numbers ts, k of them, with the place j, is as 01 asks for the figure. "Only ENDLESS has a j", so no other line
+-- speaks of it; and "which of several such walks is shown is left free".
 abbrev pub Shown : Graph → Cost → Figure → List ℕ → ℕ → Type 0
 -- "For a number: a route that attains the figure and visits no state twice."
 Shown g c (number k) ts j = (s : ℕ) × Route g s ts × (total g c s ts ≡ k) × Different (visits g s ts)

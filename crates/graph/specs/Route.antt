@@ -8,7 +8,8 @@ use mathlib.Core.List.{List, [], _∷_, map}
 use Rattle.graph.specs.Graph.{Graph, from, to, low, high, Final, Unfinished, DeadEnd}
 use Rattle.graph.specs.Walk.{WalkTo, FromStart, visits, EndlessWalk}
 
--- "A route is a finite walk whose last state is final and no earlier one is."; first from any state
+-- "A route is a finite walk whose last state is final and no earlier one is."; first from any state.
+-- "A start that is final is a route of no transitions": the walk of no transitions stops where it begins.
 abbrev pub RouteFrom : Graph → ℕ → List ℕ → Type 0
 RouteFrom g = WalkTo g (Unfinished g) (Final g)
 
@@ -23,7 +24,8 @@ LeadsToAnswer g s = (ts : List ℕ) × Route g s ts
 abbrev pub GoesOnForever : Graph → Type 0
 GoesOnForever g = EndlessWalk g
 
--- a walk of unfinished states that ends in a dead end; first from any state
+-- a walk of unfinished states that ends in a dead end; first from any state.
+-- The hunt for a dead end "considers only states that unfinished walks reach".
 abbrev pub StrandedFrom : Graph → ℕ → List ℕ → Type 0
 StrandedFrom g = WalkTo g (Unfinished g) (DeadEnd g)
 
