@@ -128,13 +128,13 @@ bits-of-state os at v h e =
 -- ---- one transition
 
 -- what the limits say of a transition
-record Bounded (n : ℕ) (t : Transition) : Type 0 where
-  from : t .from < n
-  to : t .to < n
-  low : t .low ≤ t .high
-  high : t .high ≤ 2047
+pub record Bounded (n : ℕ) (t : Transition) : Type 0 where
+  pub from : t .from < n
+  pub to : t .to < n
+  pub low : t .low ≤ t .high
+  pub high : t .high ≤ 2047
 
-bounded : (n : ℕ) (t : Transition) → transitionOk n t ≡ true → Bounded n t
+pub bounded : (n : ℕ) (t : Transition) → transitionOk n t ≡ true → Bounded n t
 bounded n t h =
     let p = and-true (endsOk n t) (durationsOk t) h in
     let e = and-true (ltb (t .from) n) (ltb (t .to) n) (p .0) in

@@ -1,0 +1,162 @@
+-- Lists that a function tabulates: their elements, their parts, and a test of them all. Assumes nothing.
+use mathlib.Core.Bool.{Bool, true, false, _&&_}
+use mathlib.Core.List.{List, [], _∷_, _++_}
+use mathlib.Core.Logic.{_≢_, _⊎_, inl, inr}
+use mathlib.Core.Path.{_≡_, refl, sym, ap, ap₂, _∙_}
+use Prim.Native.Nat.{ℕ, zero, suc, _+_, _-_, _≤_, _<_}
+use native.Mathlib.Nat.{not-suc-le-zero, eq-or-lt-of-le, le-of-suc-le-suc}
+use native.Mathlib.Omega.{arith}
+use lib.ListN.{length, getD, take, drop, set, length-append, length-drop, length-set, List·getD-append}
+use lib.Seq.{ext-getD, getD-at, getD-set-same, getD-set-other, getD-take, getD-drop, getD-append-add, length-take-le, paste, paste-suc, length-paste-head}
+use native.Mathlib.Decide.{decLt, ℕ-discrete}
+use native.Mathlib.Numerals.{add-one}
+use Rattle.rules.specs.Limits.{all}
+use Rattle.rules.proofs.Results.{all-append}
+use Rattle.plan.specs.View.{tabulate}
+
+same-or-not : (a b : ℕ) → (a ≡ b) ⊎ (a ≢ b)
+same-or-not a b = go (ℕ-discrete a b)
+  where
+    go : Dec (a ≡ b) → (a ≡ b) ⊎ (a ≢ b)
+    go (yes e) = inl e
+    go (no d) = inr d
+
+below-or-not : (a b : ℕ) → (a < b) ⊎ (b ≤ a)
+below-or-not a b = go (decLt a b)
+  where
+    go : Dec (a < b) → (a < b) ⊎ (b ≤ a)
+    go (yes l) = inl l
+    go (no d) = inr (omega (arith, d))
+
+and-false : (b c : Bool) → c ≡ false → (b && c) ≡ false
+and-false true c e = e
+and-false false c e = refl
+
+and-more : (b c d : Bool) → (b && c) ≡ false → (c ≡ false → d ≡ false) → (b && d) ≡ false
+and-more true c d e f = f e
+and-more false c d e f = refl
+
+module _ {A : Type 0} where
+  pub length-tabulate : (n : ℕ) (f : ℕ → A) → length (tabulate n f) ≡ n
+  unfolding tabulate
+  length-tabulate zero f = refl
+  length-tabulate (suc n) f = length-append (tabulate n f) (f n ∷ []) ∙ omega (arith, length-tabulate n f)
+
+  pub getD-tabulate : (n : ℕ) (f : ℕ → A) (i : ℕ) (d : A) → i < n → getD (tabulate n f) i d ≡ f i
+  unfolding tabulate
+  getD-tabulate zero f i d h = absurd (not-suc-le-zero h)
+  getD-tabulate (suc n) f i d h = go (λ l. getD-tabulate n f i d l) (eq-or-lt-of-le (le-of-suc-le-suc h))
+    where
+      go : (i < n → getD (tabulate n f) i d ≡ f i) → (i ≡ n) ⊎ (i < n) → getD (tabulate n f ++ (f n ∷ [])) i d ≡ f i
+      go ih (inl e) = getD-at (tabulate n f) (f n) [] d i (length-tabulate n f ∙ sym e) ∙ ap f (sym e)
+      go ih (inr l) = List·getD-append (tabulate n f) (f n ∷ []) d i (rw (length-tabulate n f) l) ∙ ih l
+
+  -- a list is what its elements tabulate
+  pub tabulate-of : (d : A) (l : List A) (n : ℕ) (f : ℕ → A) → length l ≡ n → ((i : ℕ) → i < n → getD l i d ≡ f i) → tabulate n f ≡ l
+  tabulate-of d l n f e h =
+      ext-getD d (tabulate n f) l (length-tabulate n f ∙ sym e)
+      (λ i k. let k′ : i < n = rw (length-tabulate n f) at k in getD-tabulate n f i d k′ ∙ sym (h i k′))
+
+  pub tabulate-same : (n : ℕ) (f g : ℕ → A) → ((i : ℕ) → i < n → f i ≡ g i) → tabulate n f ≡ tabulate n g
+  unfolding tabulate
+  tabulate-same zero f g h = refl
+  tabulate-same (suc n) f g h =
+      ap₂ {C = List A} (λ (l : List A) (x : A). l ++ (x ∷ [])) (tabulate-same n f g (λ i k. h i (omega arith))) (h n (omega arith))
+
+  -- a test of all of them
+  pub all-tabulate : (test : A → Bool) (n : ℕ) (f : ℕ → A) → ((i : ℕ) → i < n → test (f i) ≡ true) → all test (tabulate n f) ≡ true
+  unfolding tabulate all
+  all-tabulate test zero f h = refl
+  all-tabulate test (suc n) f h =
+      all-append test (tabulate n f) (f n ∷ []) (all-tabulate test n f (λ i k. h i (omega arith))) (rw (h n (omega arith)) refl)
+
+  -- a test that fails of one of them fails
+  all-front : (test : A → Bool) (xs ys : List A) → all test xs ≡ false → all test (xs ++ ys) ≡ false
+  unfolding all
+  all-front test [] ys e = absurd (let z : _≡_ {A = ℕ} 0 1 = cc in omega arith)
+  all-front test (x ∷ xs) ys e = and-more (test x) (all test xs) (all test (xs ++ ys)) e (λ p. all-front test xs ys p)
+
+  all-last : (test : A → Bool) (xs : List A) (x : A) → test x ≡ false → all test (xs ++ (x ∷ [])) ≡ false
+  unfolding all
+  all-last test [] x e = rw e refl
+  all-last test (y ∷ xs) x e = and-false (test y) (all test (xs ++ (x ∷ []))) (all-last test xs x e)
+
+  pub not-all-tabulate : (test : A → Bool) (n : ℕ) (f : ℕ → A) (i : ℕ) → i < n → test (f i) ≡ false → all test (tabulate n f) ≡ false
+  unfolding tabulate
+  not-all-tabulate test zero f i h e = absurd (not-suc-le-zero h)
+  not-all-tabulate test (suc n) f i h e = go (λ l. not-all-tabulate test n f i l e) (eq-or-lt-of-le (le-of-suc-le-suc h))
+    where
+      go : (i < n → all test (tabulate n f) ≡ false) → (i ≡ n) ⊎ (i < n) → all test (tabulate n f ++ (f n ∷ [])) ≡ false
+      go ih (inl p) = all-last test (tabulate n f) (f n) (ap (λ (k : ℕ). test (f k)) (sym p) ∙ e)
+      go ih (inr l) = all-front test (tabulate n f) (f n ∷ []) (ih l)
+
+-- an element set, one put at the end, and one taken out
+pub tabulate-set : (n : ℕ) (l : List ℕ) (k v : ℕ) → k < length l → tabulate n (λ (i : ℕ). getD (set l k v) i 0) ≡ set (tabulate n (λ (i : ℕ). getD l i 0)) k v
+tabulate-set n l k v h = tabulate-of 0 (set (tabulate n f) k v) n (λ (i : ℕ). getD (set l k v) i 0) (length-set (tabulate n f) k v ∙ length-tabulate n f) each
+  where
+    f : ℕ → ℕ
+    f i = getD l i 0
+    go : (i : ℕ) → i < n → (k ≡ i) ⊎ (k ≢ i) → getD (set (tabulate n f) k v) i 0 ≡ getD (set l k v) i 0
+    go i hi (inl e) =
+        ap (λ (j : ℕ). getD (set (tabulate n f) k v) j 0) (sym e) ∙ getD-set-same (tabulate n f) k v 0 (rw (length-tabulate n f, e) hi)
+        ∙ sym (getD-set-same l k v 0 h) ∙ ap (λ (j : ℕ). getD (set l k v) j 0) e
+    go i hi (inr d) =
+        let d′ : i ≢ k = λ e. d (sym e) in
+        getD-set-other (tabulate n f) k i v 0 d′ ∙ getD-tabulate n f i 0 hi ∙ sym (getD-set-other l k i v 0 d′)
+    each : (i : ℕ) → i < n → getD (set (tabulate n f) k v) i 0 ≡ getD (set l k v) i 0
+    each i hi = go i hi (same-or-not k i)
+
+module _ {A : Type 0} where
+  pub tabulate-more : (n : ℕ) (f g : ℕ → A) (a : A) → ((i : ℕ) → i < n → g i ≡ f i) → g n ≡ a → tabulate (n + 1) g ≡ tabulate n f ++ (a ∷ [])
+  unfolding tabulate
+  tabulate-more n f g a h e =
+      ap (λ (k : ℕ). tabulate k g) (add-one n) ∙ ap₂ {C = List A} (λ (l : List A) (x : A). l ++ (x ∷ [])) (tabulate-same n g f h) e
+
+  pub tabulate-without : (d : A) (n k : ℕ) (f g : ℕ → A) → k < n → ((i : ℕ) → i < k → g i ≡ f i) → ((i : ℕ) → k ≤ i → i + 1 < n → g i ≡ f (i + 1))
+      → tabulate (n - 1) g ≡ take k (tabulate n f) ++ drop (suc k) (tabulate n f)
+  tabulate-without d n k f g h before after = tabulate-of d (F ++ B) (n - 1) g lengths each
+    where
+      T : List A
+      T = tabulate n f
+      F : List A
+      F = take k T
+      B : List A
+      B = drop (suc k) T
+      F-length : length F ≡ k
+      F-length = length-take-le k T (omega (arith, length-tabulate n f))
+      lengths : length (F ++ B) ≡ n - 1
+      lengths = length-append F B ∙ ap₂ _+_ F-length (length-drop (suc k) T) ∙ omega (arith, length-tabulate n f)
+      go : (i : ℕ) → i < n - 1 → (i < k) ⊎ (k ≤ i) → getD (F ++ B) i d ≡ g i
+      go i hi (inl l) =
+          List·getD-append F B d i (rw F-length l) ∙ getD-take k T i d l ∙ getD-tabulate n f i d (omega arith) ∙ sym (before i l)
+      go i hi (inr l) =
+          let p : length F + (i - k) ≡ i = ap (λ (x : ℕ). x + (i - k)) F-length ∙ omega arith in
+          let q : suc k + (i - k) ≡ i + 1 = omega arith in
+          ap (λ (j : ℕ). getD (F ++ B) j d) (sym p) ∙ getD-append-add F B (i - k) d ∙ getD-drop (suc k) T (i - k) d
+          ∙ ap (λ (j : ℕ). getD T j d) q ∙ getD-tabulate n f (i + 1) d (omega arith) ∙ sym (after i l (omega arith))
+      each : (i : ℕ) → i < n - 1 → getD (F ++ B) i d ≡ g i
+      each i hi = go i hi (below-or-not i k)
+
+-- a turn of the loop that moves places down: the store of the next place
+pub moved-more : (l : List ℕ) (k j : ℕ) → k + j + 1 < length l
+    → set (paste l k (drop (suc k) l) j) (k + j) (getD (paste l k (drop (suc k) l) j) (k + j + 1) 0) ≡ paste l k (drop (suc k) l) (suc j)
+moved-more l k j h =
+    let s : List ℕ = drop (suc k) l in
+    let ls : length s ≡ length l - suc k = length-drop (suc k) l in
+    let lp : length (take k l ++ take j s) ≡ k + j = length-paste-head l k s j (omega arith) (omega arith) in
+    let e : length (take k l ++ take j s) + 1 ≡ k + j + 1 = ap (λ (n : ℕ). n + 1) lp in
+    let q : suc k + j ≡ k + j + 1 = omega arith in
+    let v : getD (paste l k s j) (k + j + 1) 0 ≡ getD s j 0 =
+        ap (λ (n : ℕ). getD (paste l k s j) n 0) (sym e) ∙ getD-append-add (take k l ++ take j s) (drop (k + j) l) 1 0
+        ∙ getD-drop (k + j) l 1 0 ∙ sym (getD-drop (suc k) l j 0 ∙ ap (λ (n : ℕ). getD l n 0) q) in
+    ap (λ (x : ℕ). set (paste l k s j) (k + j) x) v ∙ paste-suc l k s j 0 (omega arith) (omega arith)
+
+pub moved-turn : (l next : List ℕ) (k i : ℕ) → k ≤ i → i + 1 < length l → next ≡ paste l k (drop (suc k) l) (i - k)
+    → set next i (getD next (i + 1) 0) ≡ paste l k (drop (suc k) l) (i + 1 - k)
+moved-turn l next k i hk hi e =
+    let j : ℕ = i - k in
+    let s : List ℕ = drop (suc k) l in
+    let p : i ≡ k + j = omega arith in
+    let n : suc j ≡ i + 1 - k = omega arith in
+    ap (λ (x : List ℕ). set x i (getD x (i + 1) 0)) e ∙ ap (λ (n : ℕ). set (paste l k s j) n (getD (paste l k s j) (n + 1) 0)) p
+    ∙ moved-more l k j (omega arith) ∙ ap (λ (n : ℕ). paste l k s n) n

@@ -1,0 +1,42 @@
+-- Plan values and what they stand for: the counts are the lists' lengths, so the limits of the plan are those of the counts and the arrays.
+-- Assumes nothing.
+use mathlib.Core.Bool.{Bool, true, false, _&&_}
+use mathlib.Core.List.{List, [], _∷_, _++_}
+use mathlib.Core.Path.{_≡_, refl, sym, ap, ap₂, _∙_}
+use Prim.Native.Nat.{ℕ, zero, suc, _+_, _-_, _≤_, _<_}
+use lib.ListN.{length, getD, take, drop, set}
+use Rattle.graph.specs.Graph.{Graph, Transition, states, count}
+use Rattle.rules.specs.Limits.{all, within, stateCountOk, transitionCountOk, marksOk, transitionOk}
+use Rattle.plan.specs.declared.Plan.{Plan}
+use Rattle.plan.specs.View.{view, marksOf, transitionOf, transitionsOf}
+use Rattle.plan.proofs.Lists.{length-tabulate}
+
+pub states-view : (p : Plan) → states (view p) ≡ p .states
+unfolding view
+states-view p = length-tabulate (p .states) (λ (i : ℕ). getD (p .marks) i 0)
+
+pub count-view : (p : Plan) → count (view p) ≡ p .transitions
+unfolding view
+count-view p = length-tabulate (p .transitions) (transitionOf (p .from) (p .to) (p .low) (p .high))
+
+-- the limits, over the counts and the arrays
+pub within-view : (p : Plan) → within (view p)
+    ≡ (stateCountOk (p .states) && transitionCountOk (p .transitions) && all marksOk (marksOf (p .states) (p .marks))
+      && all (transitionOk (p .states)) (transitionsOf (p .transitions) (p .from) (p .to) (p .low) (p .high)))
+unfolding view within
+within-view p = rw (states-view p, count-view p)
+
+-- a limit that does not hold, the ones before it holding, and the last one where those before it hold
+module _ (p : Plan) where
+  pub states-out : stateCountOk (p .states) ≡ false → false ≡ within (view p)
+  states-out s = sym (within-view p ∙ rw s)
+
+  pub count-out : stateCountOk (p .states) ≡ true → transitionCountOk (p .transitions) ≡ false → false ≡ within (view p)
+  count-out s t = sym (within-view p ∙ rw (s, t))
+
+  pub marks-out : stateCountOk (p .states) ≡ true → transitionCountOk (p .transitions) ≡ true → all marksOk (marksOf (p .states) (p .marks)) ≡ false → false ≡ within (view p)
+  marks-out s t m = sym (within-view p ∙ rw (s, t, m))
+
+  pub transitions-left : stateCountOk (p .states) ≡ true → transitionCountOk (p .transitions) ≡ true → all marksOk (marksOf (p .states) (p .marks)) ≡ true
+      → all (transitionOk (p .states)) (transitionsOf (p .transitions) (p .from) (p .to) (p .low) (p .high)) ≡ within (view p)
+  transitions-left s t m = sym (within-view p ∙ rw (s, t, m))

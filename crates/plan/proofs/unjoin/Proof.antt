@@ -1,0 +1,94 @@
+-- `plan::unjoin` meets its contract: each test is the next ground of the rule, in the rule's order, and each array has its later places moved down.
+-- Assumes nothing.
+use Prim.Native.Nat.{ℕ, _+_, _-_, _≤_, _<_}
+use mathlib.Core.Bool.{Bool, true, false, not, _&&_}
+use mathlib.Core.Path.{_≡_, refl, sym, ap, _∙_}
+use native.Mathlib.Omega.{arith}
+use borrow.Author.Needs.{needs}
+use borrow.Author.Tests.{le-leb, lt-leb, leb-true, ltb-true, not-true, not-false}
+use lib.Dec.{leb, ltb}
+use lib.ListN.{length}
+use Rattle.rules.specs.declared.Refusal.the-variants.{PlanLimits, StateCount, StateNumber, Duration, ListFull, TransitionNumber, MarksValue}
+use Rattle.rules.specs.Limits.{within, stateCountOk, endsOk, durationsOk}
+use Rattle.rules.specs.Refusal.{Result, accepted, refused}
+use Rattle.rules.specs.Rules.{freshRule, markRule, joinRule, unjoinRule, freshGraph, withMark, withTransition, without}
+use Rattle.rules.proofs.Results.{and-true}
+use Rattle.rules.proofs.ReadWrite.{limited}
+use Rattle.plan.specs.View.{view, transition, blankPlan, noPlan}
+use Rattle.plan.proofs.Edits.{refusal, acceptance, view-blank, marked, view-marked, joined, view-joined, unjoined, view-unjoined}
+use Rattle.plan.proofs.Values.{states-view, count-view}
+use Rattle.plan.proofs.unjoin.Statement.{statement}
+use Rattle.plan.proofs.unjoin.Tie as tie
+use Rattle.plan.proofs.unjoin.Reads as reads
+use Rattle.plan.proofs.unjoin.Lts as lts
+use Rattle.plan.proofs.places.without.Reads as without-reads
+use Rattle.plan.proofs.within.Reads as within-reads
+
+within-requires : tie.Need-within-requires
+within-requires c κs = search needs
+
+returns : tie.Need-returns
+unfolding unjoinRule
+returns c = 
+    let p = c .before .before .args .plan in
+    let w : within (view p) ≡ false = sym (c .before .within .ensures) ∙ not-true _ (c .if1 .taken) in
+    refusal p (unjoinRule (view p) (c .before .before .args .number)) PlanLimits (rw w)
+
+returns-2 : tie.Need-returns-2
+unfolding unjoinRule
+returns-2 c = 
+    let p = c .before .before .before .args .plan in
+    let w : within (view p) ≡ true = sym (c .before .before .within .ensures) ∙ not-false _ (c .before .if1 .left) in
+    refusal p (unjoinRule (view p) (c .before .before .before .args .number)) TransitionNumber (rw (w, count-view p, le-leb (p .transitions) (c .before .before .before .args .number) (c .if2 .taken)))
+
+sub-t17 : tie.Need-sub-t17
+sub-t17 c = search needs
+
+room : (c : tie.After-high) → (c .before .before .before .before .before .before .before .before .args .number < c .before .before .before .before .before .before .before .before .args .plan .transitions) × (c .before .before .before .before .before .before .before .before .args .plan .transitions ≤ 2048)
+room c =
+    let p = c .before .before .before .before .before .before .before .before .args .plan in
+    let w : within (view p) ≡ true = sym (c .before .before .before .before .before .before .before .within .ensures) ∙ not-false _ (c .before .before .before .before .before .before .if1 .left) in
+    (omega arith, omega (arith, limited (view p) w, count-view p))
+
+without-requires : tie.Need-without-requires
+without-requires c κs = room c
+
+without-requires-2 : tie.Need-without-requires-2
+without-requires-2 c κs = room (c .before)
+
+without-requires-3 : tie.Need-without-requires-3
+without-requires-3 c κs = room (c .before .before)
+
+without-requires-4 : tie.Need-without-requires-4
+without-requires-4 c κs = room (c .before .before .before)
+
+returns-3 : tie.Need-returns-3
+unfolding unjoinRule
+returns-3 c = 
+    let p = c .before .before .before .before .before .before .before .before .before .before .before .before .args .plan in
+    let k = c .before .before .before .before .before .before .before .before .before .before .before .before .args .number in
+    let w : within (view p) ≡ true = sym (c .before .before .before .before .before .before .before .before .before .before .before .within .ensures) ∙ not-false _ (c .before .before .before .before .before .before .before .before .before .before .if1 .left) in
+    let r = room (c .before .before .before .before) in
+    let lf : length (p .from) ≡ 2048 = search needs in
+    let lt : length (p .to) ≡ 2048 = search needs in
+    let ll : length (p .low) ≡ 2048 = search needs in
+    let lh : length (p .high) ≡ 2048 = search needs in
+    let e : record { states = p .states; transitions = p .transitions - 1; marks = p .marks; from = c .before .before .before .without .result; to = c .before .before .without2 .result; low = c .before .without3 .result; high = c .without4 .result } ≡ unjoined p k =
+        λ i. record { states = p .states; transitions = p .transitions - 1; marks = p .marks; from = c .before .before .before .without .ensures i; to = c .before .before .without2 .ensures i; low = c .before .without3 .ensures i; high = c .without4 .ensures i } in
+    acceptance p _ (unjoinRule (view p) k) (without (view p) k)
+    (rw (w, count-view p, lt-leb (p .transitions) k (r .0)))
+    (ap view e ∙ view-unjoined p k (r .0) (omega arith) (omega arith) (omega arith) (omega arith))
+
+pub unjoin-spec : {M : Type 1} → statement M
+unjoin-spec =
+    tie.close
+    (tie.spec
+    within-requires
+    returns
+    returns-2
+    sub-t17
+    without-requires
+    without-requires-2
+    without-requires-3
+    without-requires-4
+    returns-3)

@@ -1,0 +1,57 @@
+-- `plan::within` meets its contract: each test is one of the limits, over the counts and the arrays.
+-- Assumes nothing.
+use mathlib.Core.Path.{sym, _∙_}
+use borrow.Author.Needs.{needs}
+use borrow.Author.Tests.{le-leb, lt-leb, leb-true, not-true, not-false}
+use lib.Dec.{leb}
+use Rattle.rules.proofs.Results.{and-true}
+use Rattle.plan.proofs.Values.{states-out, count-out, marks-out, transitions-left}
+use Rattle.plan.proofs.within.Statement.{statement}
+use Rattle.plan.proofs.within.Tie as tie
+use Rattle.plan.proofs.within.Reads as reads
+use Rattle.plan.proofs.within.Lts as lts
+use Rattle.plan.proofs.limits.marks_within.Reads as marks-within-reads
+use Rattle.plan.proofs.limits.state_count_ok.Reads as state-count-ok-reads
+use Rattle.plan.proofs.limits.transitions_within.Reads as transitions-within-reads
+
+state-count-ok-requires : tie.Need-state-count-ok-requires
+state-count-ok-requires c κs = search needs
+
+returns : tie.Need-returns
+returns c = states-out (c .before .before .args .plan) (sym (c .before .state-count-ok .ensures) ∙ not-true _ (c .if1 .taken))
+
+returns-2 : tie.Need-returns-2
+returns-2 c = 
+    let s = sym (c .before .before .state-count-ok .ensures) ∙ not-false _ (c .before .if1 .left) in
+    count-out (c .before .before .before .args .plan) s (lt-leb _ _ (c .if2 .taken))
+
+marks-within-requires : tie.Need-marks-within-requires
+marks-within-requires c κs = 
+    let s = sym (c .before .before .before .before .state-count-ok .ensures) ∙ not-false _ (c .before .before .before .if1 .left) in
+    leb-true (c .before .before .before .before .before .args .plan .states) 512 (and-true (leb 1 (c .before .before .before .before .before .args .plan .states)) (leb (c .before .before .before .before .before .args .plan .states) 512) s .1)
+
+returns-3 : tie.Need-returns-3
+returns-3 c = 
+    let s = sym (c .before .before .before .before .before .before .state-count-ok .ensures) ∙ not-false _ (c .before .before .before .before .before .if1 .left) in
+    marks-out (c .before .before .before .before .before .before .before .args .plan) s (le-leb _ _ (c .before .before .before .before .if2 .left)) (sym (c .before .marks-within .ensures) ∙ not-true _ (c .if3 .taken))
+
+transitions-within-requires : tie.Need-transitions-within-requires
+transitions-within-requires c κs = search needs
+
+returns-4 : tie.Need-returns-4
+returns-4 c = 
+    let s = sym (c .before .before .before .before .before .before .before .before .before .before .before .before .before .before .before .state-count-ok .ensures) ∙ not-false _ (c .before .before .before .before .before .before .before .before .before .before .before .before .before .before .if1 .left) in
+    c .transitions-within .ensures
+    ∙ transitions-left (c .before .before .before .before .before .before .before .before .before .before .before .before .before .before .before .before .args .plan) s (le-leb _ _ (c .before .before .before .before .before .before .before .before .before .before .before .before .before .if2 .left)) (sym (c .before .before .before .before .before .before .before .before .before .before .marks-within .ensures) ∙ not-false _ (c .before .before .before .before .before .before .before .before .before .if3 .left))
+
+pub within-spec : {M : Type 1} → statement M
+within-spec =
+    tie.close
+    (tie.spec
+    state-count-ok-requires
+    returns
+    returns-2
+    marks-within-requires
+    returns-3
+    transitions-within-requires
+    returns-4)

@@ -1,0 +1,18 @@
+-- What the calls promise. Document 01: "every public call has a promise for all inputs, refused ones too, that equates its result, the plan and
+-- each lent place afterwards with a definition". Assumes nothing.
+use mathlib.Core.List.{List}
+use mathlib.Core.Path.{_≡_}
+use Prim.Native.Nat.{ℕ}
+use Rattle.graph.specs.Graph.{Graph}
+use Rattle.rules.specs.Refusal.{Result, refused, answerOf, said}
+use Rattle.rules.specs.Rules.{next}
+use Rattle.plan.specs.declared.Plan.{Plan}
+use Rattle.plan.specs.declared.Edited.{Edited}
+use Rattle.plan.specs.View.{view}
+
+-- a call that was given the plan p and for which the rules give o: its answer and the plan afterwards are the rules', and a refusal returns
+-- the very plan value that was passed in
+pub record Edit (p : Plan) (o : Result Graph) (r : Edited) : Type 0 where
+  pub answer : said (r .answer) ≡ answerOf o
+  pub plan : view (r .plan) ≡ next (view p) o
+  pub kept : (k : ℕ) → o ≡ refused k → r .plan ≡ p

@@ -1,0 +1,151 @@
+// The call plan: its edits and its image. Every call takes the plan by value, refuses bad input by its row of the table, and returns a plan.
+ghost use mathlib.Core.Path.{_≡_};
+ghost use Rattle.rules.specs.Limits.{within as withinLimits};
+ghost use Rattle.rules.specs.Rules.{freshRule, markRule, joinRule, unjoinRule};
+ghost use Rattle.plan.specs.View.{view, blankPlan, noPlan, transition};
+ghost use Rattle.plan.specs.Promise.{Edit};
+
+use rules::Answer;
+use rules::Refusal;
+
+mod limits;
+mod places;
+
+// A plan: the two counts, a marks value for each state, and four fields for each transition. Places past the counts hold no part of it.
+pub struct Plan {
+    pub states: usize,
+    pub transitions: usize,
+    pub marks: [u8; 512],
+    pub from: [u16; 2048],
+    pub to: [u16; 2048],
+    pub low: [u16; 2048],
+    pub high: [u16; 2048],
+}
+
+// The answer of a call that makes or changes a plan, and the plan afterwards.
+pub struct Edited {
+    pub answer: Answer,
+    pub plan: Plan,
+}
+
+// Whether a plan value is within the limits of a plan.
+pub fn within(plan: Plan) -> bool
+    ensures { λ r. ⌜ r ≡ withinLimits (view plan) ⌝ }
+{
+    let n = plan.states;
+    let m = plan.transitions;
+    if !limits::state_count_ok(n) {
+        return false;
+    }
+    if 2048 < m {
+        return false;
+    }
+    let marks = plan.marks;
+    if !limits::marks_within(&marks, n) {
+        return false;
+    }
+    let from = plan.from;
+    let to = plan.to;
+    let low = plan.low;
+    let high = plan.high;
+    limits::transitions_within(&from, &to, &low, &high, n, m)
+}
+
+// The plan with n states, all marks 0 and no transitions.
+fn blank(n: usize) -> Plan
+    ensures { λ r. ⌜ r ≡ blankPlan n ⌝ }
+{
+    Plan {
+        states: n,
+        transitions: 0,
+        marks: [0u8; 512],
+        from: [0u16; 2048],
+        to: [0u16; 2048],
+        low: [0u16; 2048],
+        high: [0u16; 2048],
+    }
+}
+
+// A fresh plan with n states. A refusal makes none: the plan value beside it has 0 states, all else zero.
+pub fn fresh(n: usize) -> Edited
+    ensures { λ r. ⌜ Edit noPlan (freshRule n) r ⌝ }
+{
+    if !limits::state_count_ok(n) {
+        return Edited { answer: Answer::Refused(Refusal::StateCount), plan: blank(0) };
+    }
+    Edited { answer: Answer::Accepted, plan: blank(n) }
+}
+
+// Makes a state's marks value the value given.
+pub fn mark(plan: Plan, state: usize, value: usize) -> Edited
+    ensures { λ r. ⌜ Edit plan (markRule (view plan) state value) r ⌝ }
+{
+    if !within(plan) {
+        return Edited { answer: Answer::Refused(Refusal::PlanLimits), plan: plan };
+    }
+    if plan.states <= state {
+        return Edited { answer: Answer::Refused(Refusal::StateNumber), plan: plan };
+    }
+    if 7 < value {
+        return Edited { answer: Answer::Refused(Refusal::MarksValue), plan: plan };
+    }
+    let mut next = plan;
+    next.marks[state] = value as u8;
+    Edited { answer: Answer::Accepted, plan: next }
+}
+
+// Puts a transition at the end of the list.
+pub fn join(plan: Plan, from: usize, to: usize, low: usize, high: usize) -> Edited
+    ensures { λ r. ⌜ Edit plan (joinRule (view plan) (transition from to low high)) r ⌝ }
+{
+    if !within(plan) {
+        return Edited { answer: Answer::Refused(Refusal::PlanLimits), plan: plan };
+    }
+    let n = plan.states;
+    let m = plan.transitions;
+    if !limits::ends_ok(n, from, to) {
+        return Edited { answer: Answer::Refused(Refusal::StateNumber), plan: plan };
+    }
+    if !limits::durations_ok(low, high) {
+        return Edited { answer: Answer::Refused(Refusal::Duration), plan: plan };
+    }
+    if 2048 <= m {
+        return Edited { answer: Answer::Refused(Refusal::ListFull), plan: plan };
+    }
+    let mut next = plan;
+    next.from[m] = from as u16;
+    next.to[m] = to as u16;
+    next.low[m] = low as u16;
+    next.high[m] = high as u16;
+    next.transitions = m + 1;
+    Edited { answer: Answer::Accepted, plan: next }
+}
+
+// Takes a transition out of the list; later ones move down by one.
+pub fn unjoin(plan: Plan, number: usize) -> Edited
+    ensures { λ r. ⌜ Edit plan (unjoinRule (view plan) number) r ⌝ }
+{
+    if !within(plan) {
+        return Edited { answer: Answer::Refused(Refusal::PlanLimits), plan: plan };
+    }
+    let m = plan.transitions;
+    if m <= number {
+        return Edited { answer: Answer::Refused(Refusal::TransitionNumber), plan: plan };
+    }
+    let n = plan.states;
+    let marks = plan.marks;
+    let from = plan.from;
+    let to = plan.to;
+    let low = plan.low;
+    let high = plan.high;
+    let kept = Plan {
+        states: n,
+        transitions: m - 1,
+        marks: marks,
+        from: places::without(from, number, m),
+        to: places::without(to, number, m),
+        low: places::without(low, number, m),
+        high: places::without(high, number, m),
+    };
+    Edited { answer: Answer::Accepted, plan: kept }
+}

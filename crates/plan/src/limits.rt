@@ -1,0 +1,91 @@
+// The limits of a plan's states and transitions, and of the arrays that hold them.
+ghost use mathlib.Core.Path.{_≡_};
+ghost use mathlib.Core.Bool.{_&&_};
+ghost use Prim.Native.Nat.{_≤_, _<_};
+ghost use lib.Dec.{leb, ltb};
+ghost use Rattle.plan.specs.View.{marksOf, transitionOf, transitionsOf};
+ghost use Rattle.rules.specs.Limits.{all, stateCountOk, marksOk, transitionOk};
+
+// Whether a plan may have n states.
+pub fn state_count_ok(n: usize) -> bool
+    ensures { λ r. ⌜ r ≡ stateCountOk n ⌝ }
+{
+    if 1 <= n { n <= 512 } else { false }
+}
+
+// Whether both ends of a transition are states of a plan with n of them.
+pub fn ends_ok(n: usize, from: usize, to: usize) -> bool
+    ensures { λ r. ⌜ r ≡ (ltb from n && ltb to n) ⌝ }
+{
+    if from < n { to < n } else { false }
+}
+
+// Whether a low and a high duration are within the limits.
+pub fn durations_ok(low: usize, high: usize) -> bool
+    ensures { λ r. ⌜ r ≡ (leb low high && leb high 2047) ⌝ }
+{
+    if low <= high { high <= 2047 } else { false }
+}
+
+// A stored number as a machine word.
+pub fn wide(x: u16) -> usize
+    ensures { λ r. ⌜ r ≡ x ⌝ }
+{
+    x as usize
+}
+
+// Whether the first n marks values are at most 7.
+pub fn marks_within(marks: &[u8; 512], n: usize) -> bool
+    requires { ⌜ n ≤ 512 ⌝ }
+    ensures { λ r. ⌜ r ≡ all marksOk (marksOf n (now (marks .entry))) ⌝ }
+{
+    let mut i = 0;
+    while i < n {
+        if 7 < marks[i] {
+            return false;
+        }
+        i += 1;
+    }
+    true
+}
+
+// Whether the transition at place i joins states of a plan with n of them, and has durations within the limits.
+fn transition_within(
+    from: &[u16; 2048],
+    to: &[u16; 2048],
+    low: &[u16; 2048],
+    high: &[u16; 2048],
+    n: usize,
+    i: usize,
+) -> bool
+    requires { ⌜ i < 2048 ⌝ }
+    ensures { λ r. ⌜ r ≡ transitionOk n (transitionOf (now (from .entry)) (now (to .entry)) (now (low .entry)) (now (high .entry)) i) ⌝ }
+{
+    if ends_ok(n, wide(from[i]), wide(to[i])) {
+        durations_ok(wide(low[i]), wide(high[i]))
+    } else {
+        false
+    }
+}
+
+// Whether the first m transitions are within the limits of a plan with n states.
+pub fn transitions_within(
+    from: &[u16; 2048],
+    to: &[u16; 2048],
+    low: &[u16; 2048],
+    high: &[u16; 2048],
+    n: usize,
+    m: usize,
+) -> bool
+    requires { ⌜ m ≤ 2048 ⌝ }
+    ensures { λ r. ⌜ r ≡ all (transitionOk n) (transitionsOf m (now (from .entry)) (now (to .entry)) (now (low .entry)) (now (high .entry))) ⌝ }
+{
+    let mut i = 0;
+    while i < m {
+        if !transition_within(from, to, low, high, n, i) {
+            return false;
+        }
+        i += 1;
+    }
+    true
+}
