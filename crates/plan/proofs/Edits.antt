@@ -16,9 +16,10 @@ use Rattle.rules.specs.Rules.{freshGraph, withMark, withTransition, without, ne
 use Rattle.rules.proofs.Results.{never}
 use Rattle.plan.specs.declared.Plan.{Plan}
 use Rattle.plan.specs.declared.Edited.{Edited}
-use Rattle.plan.specs.View.{view, tabulate, transitionOf, transition, blankPlan}
+use Rattle.arrays.specs.Tables.{tabulate, transitionOf, transition}
+use Rattle.plan.specs.View.{view, blankPlan}
 use Rattle.plan.specs.Promise.{Edit}
-use Rattle.plan.proofs.Lists.{tabulate-of, tabulate-set, tabulate-more, tabulate-without}
+use Rattle.arrays.proofs.Lists.{tabulate-of, tabulate-set, tabulate-more, tabulate-without}
 
 -- ---- promises kept
 

@@ -8,8 +8,9 @@ use lib.ListN.{length, getD, take, drop, set}
 use Rattle.graph.specs.Graph.{Graph, Transition, states, count}
 use Rattle.rules.specs.Limits.{all, within, stateCountOk, transitionCountOk, marksOk, transitionOk}
 use Rattle.plan.specs.declared.Plan.{Plan}
-use Rattle.plan.specs.View.{view, marksOf, transitionOf, transitionsOf}
-use Rattle.plan.proofs.Lists.{length-tabulate}
+use Rattle.arrays.specs.Tables.{marksOf, transitionOf, transitionsOf}
+use Rattle.plan.specs.View.{view}
+use Rattle.arrays.proofs.Lists.{length-tabulate}
 
 pub states-view : (p : Plan) → states (view p) ≡ p .states
 unfolding view

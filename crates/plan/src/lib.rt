@@ -2,14 +2,13 @@
 ghost use mathlib.Core.Path.{_≡_};
 ghost use Rattle.rules.specs.Limits.{within as withinLimits};
 ghost use Rattle.rules.specs.Rules.{freshRule, markRule, joinRule, unjoinRule};
-ghost use Rattle.plan.specs.View.{view, blankPlan, noPlan, transition};
+ghost use Rattle.arrays.specs.Tables.{transition};
+ghost use Rattle.plan.specs.View.{view, blankPlan, noPlan};
 ghost use Rattle.plan.specs.Promise.{Edit};
 
 use rules::Answer;
 use rules::Refusal;
 
-mod limits;
-mod places;
 
 // A plan: the two counts, a marks value for each state, and four fields for each transition. Places past the counts hold no part of it.
 pub struct Plan {
@@ -34,21 +33,21 @@ pub fn within(plan: Plan) -> bool
 {
     let n = plan.states;
     let m = plan.transitions;
-    if !limits::state_count_ok(n) {
+    if !arrays::limits::state_count_ok(n) {
         return false;
     }
     if 2048 < m {
         return false;
     }
     let marks = plan.marks;
-    if !limits::marks_within(&marks, n) {
+    if !arrays::limits::marks_within(&marks, n) {
         return false;
     }
     let from = plan.from;
     let to = plan.to;
     let low = plan.low;
     let high = plan.high;
-    limits::transitions_within(&from, &to, &low, &high, n, m)
+    arrays::limits::transitions_within(&from, &to, &low, &high, n, m)
 }
 
 // The plan with n states, all marks 0 and no transitions.
@@ -70,7 +69,7 @@ fn blank(n: usize) -> Plan
 pub fn fresh(n: usize) -> Edited
     ensures { λ r. ⌜ Edit noPlan (freshRule n) r ⌝ }
 {
-    if !limits::state_count_ok(n) {
+    if !arrays::limits::state_count_ok(n) {
         return Edited { answer: Answer::Refused(Refusal::StateCount), plan: blank(0) };
     }
     Edited { answer: Answer::Accepted, plan: blank(n) }
@@ -103,10 +102,10 @@ pub fn join(plan: Plan, from: usize, to: usize, low: usize, high: usize) -> Edit
     }
     let n = plan.states;
     let m = plan.transitions;
-    if !limits::ends_ok(n, from, to) {
+    if !arrays::limits::ends_ok(n, from, to) {
         return Edited { answer: Answer::Refused(Refusal::StateNumber), plan: plan };
     }
-    if !limits::durations_ok(low, high) {
+    if !arrays::limits::durations_ok(low, high) {
         return Edited { answer: Answer::Refused(Refusal::Duration), plan: plan };
     }
     if 2048 <= m {
@@ -142,10 +141,10 @@ pub fn unjoin(plan: Plan, number: usize) -> Edited
         states: n,
         transitions: m - 1,
         marks: marks,
-        from: places::without(from, number, m),
-        to: places::without(to, number, m),
-        low: places::without(low, number, m),
-        high: places::without(high, number, m),
+        from: arrays::places::without(from, number, m),
+        to: arrays::places::without(to, number, m),
+        low: arrays::places::without(low, number, m),
+        high: arrays::places::without(high, number, m),
     };
     Edited { answer: Answer::Accepted, plan: kept }
 }

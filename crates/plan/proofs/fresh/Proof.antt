@@ -14,7 +14,8 @@ use Rattle.rules.specs.Refusal.{Result, accepted, refused}
 use Rattle.rules.specs.Rules.{freshRule, markRule, joinRule, unjoinRule, freshGraph, withMark, withTransition, without}
 use Rattle.rules.proofs.Results.{and-true}
 use Rattle.rules.proofs.ReadWrite.{limited}
-use Rattle.plan.specs.View.{view, transition, blankPlan, noPlan}
+use Rattle.arrays.specs.Tables.{transition}
+use Rattle.plan.specs.View.{view, blankPlan, noPlan}
 use Rattle.plan.proofs.Edits.{refusal, acceptance, view-blank, marked, view-marked, joined, view-joined, unjoined, view-unjoined}
 use Rattle.plan.proofs.Values.{states-view, count-view}
 use Rattle.plan.proofs.fresh.Statement.{statement}
@@ -22,7 +23,7 @@ use Rattle.plan.proofs.fresh.Tie as tie
 use Rattle.plan.proofs.fresh.Reads as reads
 use Rattle.plan.proofs.fresh.Lts as lts
 use Rattle.plan.proofs.blank.Reads as blank-reads
-use Rattle.plan.proofs.limits.state_count_ok.Reads as state-count-ok-reads
+use Rattle.arrays.proofs.limits.state_count_ok.Reads as state-count-ok-reads
 
 state-count-ok-requires : tie.Need-state-count-ok-requires
 state-count-ok-requires c κs = search needs

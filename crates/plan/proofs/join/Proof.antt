@@ -14,15 +14,16 @@ use Rattle.rules.specs.Refusal.{Result, accepted, refused}
 use Rattle.rules.specs.Rules.{freshRule, markRule, joinRule, unjoinRule, freshGraph, withMark, withTransition, without}
 use Rattle.rules.proofs.Results.{both-true}
 use Rattle.rules.proofs.ReadWrite.{limited, Bounded, bounded}
-use Rattle.plan.specs.View.{view, transition, blankPlan, noPlan}
+use Rattle.arrays.specs.Tables.{transition}
+use Rattle.plan.specs.View.{view, blankPlan, noPlan}
 use Rattle.plan.proofs.Edits.{refusal, acceptance, view-blank, marked, view-marked, joined, view-joined, unjoined, view-unjoined}
 use Rattle.plan.proofs.Values.{states-view, count-view}
 use Rattle.plan.proofs.join.Statement.{statement}
 use Rattle.plan.proofs.join.Tie as tie
 use Rattle.plan.proofs.join.Reads as reads
 use Rattle.plan.proofs.join.Lts as lts
-use Rattle.plan.proofs.limits.durations_ok.Reads as durations-ok-reads
-use Rattle.plan.proofs.limits.ends_ok.Reads as ends-ok-reads
+use Rattle.arrays.proofs.limits.durations_ok.Reads as durations-ok-reads
+use Rattle.arrays.proofs.limits.ends_ok.Reads as ends-ok-reads
 use Rattle.plan.proofs.within.Reads as within-reads
 
 within-requires : tie.Need-within-requires

@@ -14,7 +14,8 @@ use Rattle.rules.specs.Refusal.{Result, accepted, refused}
 use Rattle.rules.specs.Rules.{freshRule, markRule, joinRule, unjoinRule, freshGraph, withMark, withTransition, without}
 use Rattle.rules.proofs.Results.{and-true}
 use Rattle.rules.proofs.ReadWrite.{limited}
-use Rattle.plan.specs.View.{view, transition, blankPlan, noPlan}
+use Rattle.arrays.specs.Tables.{transition}
+use Rattle.plan.specs.View.{view, blankPlan, noPlan}
 use Rattle.plan.proofs.Edits.{refusal, acceptance, view-blank, marked, view-marked, joined, view-joined, unjoined, view-unjoined}
 use Rattle.plan.proofs.Values.{states-view, count-view}
 use lib.ListN.{length, set}

@@ -10,9 +10,9 @@ use Rattle.plan.proofs.within.Statement.{statement}
 use Rattle.plan.proofs.within.Tie as tie
 use Rattle.plan.proofs.within.Reads as reads
 use Rattle.plan.proofs.within.Lts as lts
-use Rattle.plan.proofs.limits.marks_within.Reads as marks-within-reads
-use Rattle.plan.proofs.limits.state_count_ok.Reads as state-count-ok-reads
-use Rattle.plan.proofs.limits.transitions_within.Reads as transitions-within-reads
+use Rattle.arrays.proofs.limits.marks_within.Reads as marks-within-reads
+use Rattle.arrays.proofs.limits.state_count_ok.Reads as state-count-ok-reads
+use Rattle.arrays.proofs.limits.transitions_within.Reads as transitions-within-reads
 
 state-count-ok-requires : tie.Need-state-count-ok-requires
 state-count-ok-requires c κs = search needs

@@ -1,11 +1,11 @@
--- `plan::limits::ends_ok` meets its contract: the branch says what the first test is.
+-- `arrays::limits::ends_ok` meets its contract: the branch says what the first test is.
 -- Assumes nothing.
 use borrow.Author.Needs.{needs}
 use borrow.Author.Tests.{lt-ltb, le-ltb, le-leb, lt-leb}
-use Rattle.plan.proofs.limits.ends_ok.Statement.{statement}
-use Rattle.plan.proofs.limits.ends_ok.Tie as tie
-use Rattle.plan.proofs.limits.ends_ok.Reads as reads
-use Rattle.plan.proofs.limits.ends_ok.Lts as lts
+use Rattle.arrays.proofs.limits.ends_ok.Statement.{statement}
+use Rattle.arrays.proofs.limits.ends_ok.Tie as tie
+use Rattle.arrays.proofs.limits.ends_ok.Reads as reads
+use Rattle.arrays.proofs.limits.ends_ok.Lts as lts
 
 returns : tie.Need-returns
 returns c = rw (lt-ltb _ _ (c .if1 .taken))

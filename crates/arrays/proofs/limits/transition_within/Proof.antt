@@ -1,4 +1,4 @@
--- `plan::limits::transition_within` meets its contract: what the two tests say of the numbers read is what the limits say of the transition.
+-- `arrays::limits::transition_within` meets its contract: what the two tests say of the numbers read is what the limits say of the transition.
 -- Assumes nothing.
 use Prim.Native.Nat.{ℕ, _+_, _-_, _≤_, _<_}
 use mathlib.Core.Bool.{Bool, true, false, _&&_, not}
@@ -7,13 +7,13 @@ use native.Mathlib.Omega.{arith}
 use borrow.Author.Needs.{needs}
 use lib.Dec.{ltb, leb}
 use lib.ListN.{getD}
-use Rattle.plan.proofs.limits.transition_within.Statement.{statement}
-use Rattle.plan.proofs.limits.transition_within.Tie as tie
-use Rattle.plan.proofs.limits.transition_within.Reads as reads
-use Rattle.plan.proofs.limits.transition_within.Lts as lts
-use Rattle.plan.proofs.limits.durations_ok.Reads as durations-ok-reads
-use Rattle.plan.proofs.limits.ends_ok.Reads as ends-ok-reads
-use Rattle.plan.proofs.limits.wide.Reads as wide-reads
+use Rattle.arrays.proofs.limits.transition_within.Statement.{statement}
+use Rattle.arrays.proofs.limits.transition_within.Tie as tie
+use Rattle.arrays.proofs.limits.transition_within.Reads as reads
+use Rattle.arrays.proofs.limits.transition_within.Lts as lts
+use Rattle.arrays.proofs.limits.durations_ok.Reads as durations-ok-reads
+use Rattle.arrays.proofs.limits.ends_ok.Reads as ends-ok-reads
+use Rattle.arrays.proofs.limits.wide.Reads as wide-reads
 
 mul-wide : tie.Need-mul-wide
 mul-wide c = search needs

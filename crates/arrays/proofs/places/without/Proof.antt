@@ -1,4 +1,4 @@
--- `plan::places::without` meets its contract. The invariant: the places from number up to i hold what stood one place later.
+-- `arrays::places::without` meets its contract. The invariant: the places from number up to i hold what stood one place later.
 -- Assumes nothing.
 use Prim.Native.Nat.{ℕ, suc, _+_, _-_, _≤_, _<_}
 use mathlib.Core.List.{List}
@@ -7,11 +7,11 @@ use native.Mathlib.Omega.{arith}
 use borrow.Author.Needs.{needs}
 use lib.ListN.{length, getD, drop, set, length-set}
 use lib.Seq.{paste, paste-zero}
-use Rattle.plan.proofs.Lists.{moved-turn}
-use Rattle.plan.proofs.places.without.Statement.{statement}
-use Rattle.plan.proofs.places.without.Tie as tie
-use Rattle.plan.proofs.places.without.Reads as reads
-use Rattle.plan.proofs.places.without.Lts as lts
+use Rattle.arrays.proofs.Lists.{moved-turn}
+use Rattle.arrays.proofs.places.without.Statement.{statement}
+use Rattle.arrays.proofs.places.without.Tie as tie
+use Rattle.arrays.proofs.places.without.Reads as reads
+use Rattle.arrays.proofs.places.without.Lts as lts
 
 abbrev Inv-loop : tie.InvT-loop
 Inv-loop number m next₀ i₀ next i = (number ≤ i) × (i + 1 ≤ m) × (length next ≡ 2048) × (next ≡ paste next₀ number (drop (suc number) next₀) (i - number))

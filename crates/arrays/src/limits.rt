@@ -3,7 +3,7 @@ ghost use mathlib.Core.Path.{_≡_};
 ghost use mathlib.Core.Bool.{_&&_};
 ghost use Prim.Native.Nat.{_≤_, _<_};
 ghost use lib.Dec.{leb, ltb};
-ghost use Rattle.plan.specs.View.{marksOf, transitionOf, transitionsOf};
+ghost use Rattle.arrays.specs.Tables.{marksOf, transitionOf, transitionsOf};
 ghost use Rattle.rules.specs.Limits.{all, stateCountOk, marksOk, transitionOk};
 
 // Whether a plan may have n states.

@@ -12,7 +12,7 @@ use native.Mathlib.Decide.{decLt, ℕ-discrete}
 use native.Mathlib.Numerals.{add-one}
 use Rattle.rules.specs.Limits.{all}
 use Rattle.rules.proofs.Results.{all-append}
-use Rattle.plan.specs.View.{tabulate}
+use Rattle.arrays.specs.Tables.{tabulate}
 
 same-or-not : (a b : ℕ) → (a ≡ b) ⊎ (a ≢ b)
 same-or-not a b = go (ℕ-discrete a b)

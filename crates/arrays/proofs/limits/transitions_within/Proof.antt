@@ -1,4 +1,4 @@
--- `plan::limits::transitions_within` meets its contract. The invariant: every transition passed is within the limits.
+-- `arrays::limits::transitions_within` meets its contract. The invariant: every transition passed is within the limits.
 -- Assumes nothing.
 use Prim.Native.Nat.{ℕ, _+_, _-_, _≤_, _<_}
 use mathlib.Core.Bool.{Bool, true, false, _&&_, not}
@@ -10,13 +10,13 @@ use lib.ListN.{getD}
 use borrow.Author.Count.{below-none, below-more}
 use borrow.Author.Tests.{not-true, not-false}
 use Rattle.rules.specs.Limits.{all, transitionOk}
-use Rattle.plan.specs.View.{transitionOf}
-use Rattle.plan.proofs.Lists.{all-tabulate, not-all-tabulate}
-use Rattle.plan.proofs.limits.transitions_within.Statement.{statement}
-use Rattle.plan.proofs.limits.transitions_within.Tie as tie
-use Rattle.plan.proofs.limits.transitions_within.Reads as reads
-use Rattle.plan.proofs.limits.transitions_within.Lts as lts
-use Rattle.plan.proofs.limits.transition_within.Reads as transition-within-reads
+use Rattle.arrays.specs.Tables.{transitionOf}
+use Rattle.arrays.proofs.Lists.{all-tabulate, not-all-tabulate}
+use Rattle.arrays.proofs.limits.transitions_within.Statement.{statement}
+use Rattle.arrays.proofs.limits.transitions_within.Tie as tie
+use Rattle.arrays.proofs.limits.transitions_within.Reads as reads
+use Rattle.arrays.proofs.limits.transitions_within.Lts as lts
+use Rattle.arrays.proofs.limits.transition_within.Reads as transition-within-reads
 
 abbrev Inv-loop : tie.InvT-loop
 Inv-loop from to low high n m i₀ i = (i ≤ m) × ((k : ℕ) → k < i → transitionOk n (transitionOf from to low high k) ≡ true)

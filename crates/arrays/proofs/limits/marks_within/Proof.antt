@@ -1,4 +1,4 @@
--- `plan::limits::marks_within` meets its contract. The invariant: every marks value passed is at most 7.
+-- `arrays::limits::marks_within` meets its contract. The invariant: every marks value passed is at most 7.
 -- Assumes nothing.
 use Prim.Native.Nat.{ℕ, _+_, _-_, _≤_, _<_}
 use mathlib.Core.Bool.{true, false, _&&_, not}
@@ -9,11 +9,11 @@ use borrow.Author.Needs.{needs}
 use borrow.Author.Tests.{le-leb, lt-leb}
 use lib.ListN.{getD}
 use Rattle.rules.specs.Limits.{all, marksOk}
-use Rattle.plan.proofs.Lists.{all-tabulate, not-all-tabulate}
-use Rattle.plan.proofs.limits.marks_within.Statement.{statement}
-use Rattle.plan.proofs.limits.marks_within.Tie as tie
-use Rattle.plan.proofs.limits.marks_within.Reads as reads
-use Rattle.plan.proofs.limits.marks_within.Lts as lts
+use Rattle.arrays.proofs.Lists.{all-tabulate, not-all-tabulate}
+use Rattle.arrays.proofs.limits.marks_within.Statement.{statement}
+use Rattle.arrays.proofs.limits.marks_within.Tie as tie
+use Rattle.arrays.proofs.limits.marks_within.Reads as reads
+use Rattle.arrays.proofs.limits.marks_within.Lts as lts
 
 abbrev Inv-loop : tie.InvT-loop
 Inv-loop marks n i₀ i = (i ≤ n) × ((k : ℕ) → k < i → marksOk (getD marks k 0) ≡ true)
