@@ -12,7 +12,7 @@ use native.Mathlib.Decide.{decLt, ℕ-discrete}
 use native.Mathlib.Numerals.{add-one}
 use Rattle.rules.specs.Limits.{all}
 use Rattle.rules.proofs.Results.{all-append}
-use Rattle.arrays.specs.Tables.{tabulate}
+use Rattle.arrays.specs.Tables.{tabulate, transition, transitionOf}
 
 same-or-not : (a b : ℕ) → (a ≡ b) ⊎ (a ≢ b)
 same-or-not a b = go (ℕ-discrete a b)
@@ -160,3 +160,16 @@ moved-turn l next k i hk hi e =
     let n : suc j ≡ i + 1 - k = omega arith in
     ap (λ (x : List ℕ). set x i (getD x (i + 1) 0)) e ∙ ap (λ (n : ℕ). set (paste l k s j) n (getD (paste l k s j) (n + 1) 0)) p
     ∙ moved-more l k j (omega arith) ∙ ap (λ (n : ℕ). paste l k s n) n
+
+pub same-transition : {a b c d a′ b′ c′ d′ : ℕ} → a ≡ a′ → b ≡ b′ → c ≡ c′ → d ≡ d′ → transition a b c d ≡ transition a′ b′ c′ d′
+same-transition ea eb ec ed = λ i. record { from = ea i; to = eb i; low = ec i; high = ed i }
+
+-- the transitions of four arrays after a store at one place
+module _ (f t l h : List ℕ) (i a b c d : ℕ) where
+  pub transition-other : (k : ℕ) → k ≢ i → transitionOf (set f i a) (set t i b) (set l i c) (set h i d) k ≡ transitionOf f t l h k
+  transition-other k n =
+      same-transition (getD-set-other f i k a 0 n) (getD-set-other t i k b 0 n) (getD-set-other l i k c 0 n) (getD-set-other h i k d 0 n)
+
+  pub transition-here : i < length f → i < length t → i < length l → i < length h → transitionOf (set f i a) (set t i b) (set l i c) (set h i d) i ≡ transition a b c d
+  transition-here hf ht hl hh =
+      same-transition (getD-set-same f i a 0 hf) (getD-set-same t i b 0 ht) (getD-set-same l i c 0 hl) (getD-set-same h i d 0 hh)

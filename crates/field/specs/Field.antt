@@ -53,7 +53,7 @@ pub record Within (os : List ℕ) (at w : ℕ) : Type 0 where
   pub some : 0 < w
   pub most : w ≤ 32
   pub inside : at + w ≤ 8 * length os
-  pub near : at < 2 ^ 32
+  pub near : at + w < 2 ^ 32
 
 -- a width in bits, and a value
 pub record Field : Type 0 where

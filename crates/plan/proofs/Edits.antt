@@ -7,7 +7,7 @@ use mathlib.Core.Path.{_≡_, refl, sym, ap, ap₂, _∙_}
 use Prim.Native.Nat.{ℕ, zero, suc, _+_, _-_, _≤_, _<_}
 use native.Mathlib.Omega.{arith}
 use lib.ListN.{length, getD, take, drop, set, replicate, length-replicate, getD-replicate, length-append, length-drop, List·getD-append}
-use lib.Seq.{paste, getD-set-same, getD-set-other, getD-take, getD-drop, getD-append-add, length-take-le}
+use lib.Seq.{paste, getD-take, getD-drop, getD-append-add, length-take-le}
 use Rattle.graph.specs.Graph.{Graph, Transition, states, count}
 use Rattle.rules.specs.declared.Answer.the-variants.{Accepted, Refused}
 use Rattle.rules.specs.declared.Refusal.{Refusal}
@@ -19,7 +19,7 @@ use Rattle.plan.specs.declared.Edited.{Edited}
 use Rattle.arrays.specs.Tables.{tabulate, transitionOf, transition}
 use Rattle.plan.specs.View.{view, blankPlan}
 use Rattle.plan.specs.Promise.{Edit}
-use Rattle.arrays.proofs.Lists.{tabulate-of, tabulate-set, tabulate-more, tabulate-without}
+use Rattle.arrays.proofs.Lists.{tabulate-of, tabulate-set, tabulate-more, tabulate-without, same-transition, transition-other, transition-here}
 
 -- ---- promises kept
 
@@ -37,9 +37,6 @@ view-blank n h =
     ap {B = Graph} (λ (l : List ℕ). record { marks = l; transitions = [] })
     (tabulate-of 0 (replicate n 0) n (λ (i : ℕ). getD (replicate 512 0) i 0) (length-replicate n 0)
     (λ i k. getD-replicate n i 0 0 k ∙ sym (getD-replicate 512 i 0 0 (omega arith))))
-
-same : {a b c d a′ b′ c′ d′ : ℕ} → a ≡ a′ → b ≡ b′ → c ≡ c′ → d ≡ d′ → transition a b c d ≡ transition a′ b′ c′ d′
-same ea eb ec ed = λ i. record { from = ea i; to = eb i; low = ec i; high = ed i }
 
 module _ (p : Plan) where
   -- the plan value with a marks value set
@@ -66,11 +63,8 @@ module _ (p : Plan) where
       let m : ℕ = p .transitions in
       ap {B = Graph} (λ (ts : List Transition). record { marks = tabulate (p .states) (λ (i : ℕ). getD (p .marks) i 0); transitions = ts })
       (tabulate-more m (transitionOf (p .from) (p .to) (p .low) (p .high)) (transitionOf (set (p .from) m f) (set (p .to) m t) (set (p .low) m l) (set (p .high) m h)) (transition f t l h)
-      (λ i k. same (other (p .from) f i k) (other (p .to) t i k) (other (p .low) l i k) (other (p .high) h i k))
-      (same (getD-set-same (p .from) m f 0 hf) (getD-set-same (p .to) m t 0 ht) (getD-set-same (p .low) m l 0 hl) (getD-set-same (p .high) m h 0 hh)))
-    where
-      other : (xs : List ℕ) (v i : ℕ) → i < p .transitions → getD (set xs (p .transitions) v) i 0 ≡ getD xs i 0
-      other xs v i k = getD-set-other xs (p .transitions) i v 0 (omega arith)
+      (λ i k. transition-other (p .from) (p .to) (p .low) (p .high) m f t l h i (omega arith))
+      (transition-here (p .from) (p .to) (p .low) (p .high) m f t l h hf ht hl hh))
 
   -- the plan value with a transition taken out: each array with the later places moved down by one
   abbrev pub moved : List ℕ → ℕ → List ℕ
@@ -108,5 +102,5 @@ module _ (p : Plan) where
       ap {B = Graph} (λ (ts : List Transition). record { marks = tabulate (p .states) (λ (i : ℕ). getD (p .marks) i 0); transitions = ts })
       (tabulate-without (transition 0 0 0 0) (p .transitions) k (transitionOf (p .from) (p .to) (p .low) (p .high))
       (transitionOf (moved (p .from) k) (moved (p .to) k) (moved (p .low) k) (moved (p .high) k)) h
-      (λ i l. same (moved-before (p .from) k i h hf l) (moved-before (p .to) k i h ht l) (moved-before (p .low) k i h hl l) (moved-before (p .high) k i h hh l))
-      (λ i l r. same (moved-after (p .from) k i hf l r) (moved-after (p .to) k i ht l r) (moved-after (p .low) k i hl l r) (moved-after (p .high) k i hh l r)))
+      (λ i l. same-transition (moved-before (p .from) k i h hf l) (moved-before (p .to) k i h ht l) (moved-before (p .low) k i h hl l) (moved-before (p .high) k i h hh l))
+      (λ i l r. same-transition (moved-after (p .from) k i hf l r) (moved-after (p .to) k i ht l r) (moved-after (p .low) k i hl l r) (moved-after (p .high) k i hh l r)))

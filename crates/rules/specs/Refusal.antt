@@ -60,3 +60,8 @@ answerOf (refused k) = refused k
 abbrev pub said : Answer → Result (Unit {0})
 said Accepted = accepted tt
 said (Refused r) = refused (number r)
+
+-- what an answer of the code says of what it made
+abbrev pub outcome : {A : Type 0} → Answer → A → Result A
+outcome Accepted a = accepted a
+outcome (Refused r) a = refused (number r)
