@@ -90,6 +90,15 @@ module _ {A : Type 0} where
       go ih (inl p) = all-last test (tabulate n f) (f n) (ap (λ (k : ℕ). test (f k)) (sym p) ∙ e)
       go ih (inr l) = all-front test (tabulate n f) (f n ∷ []) (ih l)
 
+module _ {A : Type 0} (test : A → Bool) (n : ℕ) (f : ℕ → A) where
+  -- a test that holds of all of them holds of each
+  pub all-at : all test (tabulate n f) ≡ true → (i : ℕ) → i < n → test (f i) ≡ true
+  all-at h i l = go (test (f i)) refl
+    where
+      go : (b : Bool) → test (f i) ≡ b → b ≡ true
+      go true e = refl
+      go false e = sym (not-all-tabulate test n f i l e) ∙ h
+
 -- an element set, one put at the end, and one taken out
 pub tabulate-set : (n : ℕ) (l : List ℕ) (k v : ℕ) → k < length l → tabulate n (λ (i : ℕ). getD (set l k v) i 0) ≡ set (tabulate n (λ (i : ℕ). getD l i 0)) k v
 tabulate-set n l k v h = tabulate-of 0 (set (tabulate n f) k v) n (λ (i : ℕ). getD (set l k v) i 0) (length-set (tabulate n f) k v ∙ length-tabulate n f) each

@@ -2,6 +2,7 @@
 pub mod limits;
 pub mod places;
 pub mod reading;
+pub mod writing;
 
 // A transition by its four numbers.
 pub struct Transition {

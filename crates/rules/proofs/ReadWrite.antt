@@ -27,15 +27,15 @@ use Rattle.rules.proofs.Fields.{width-each, collect-of-bits, bits-of-co
 
 -- ---- the length
 
-state-width : (v : ℕ) → widthOfAll (stateFields v) ≡ 8
+pub state-width : (v : ℕ) → widthOfAll (stateFields v) ≡ 8
 unfolding widthOfAll
 state-width v = refl
 
-transition-width : (t : Transition) → widthOfAll (transitionFields t) ≡ 40
+pub transition-width : (t : Transition) → widthOfAll (transitionFields t) ≡ 40
 unfolding widthOfAll
 transition-width t = refl
 
-header-width : (n m : ℕ) → widthOfAll (headerFields n m) ≡ 32
+pub header-width : (n m : ℕ) → widthOfAll (headerFields n m) ≡ 32
 unfolding widthOfAll
 header-width n m = refl
 
@@ -157,16 +157,22 @@ ok-checked n t u e =
     let s = then-accepted (refuseIf (not (durationsOk t)) Duration) (accepted t) u (r .1) in
     (cc, both-true (endsOk n t) (durationsOk t) (holds (endsOk n t) StateNumber (r .0)) (holds (durationsOk t) Duration (s .0)))
 
-transition-of-bits : (os : List ℕ) (at n : ℕ) (t : Transition) (rest : List Bool) → n ≤ 512 → transitionOk n t ≡ true
-    → drop at (bits os) ≡ bitsOfAll (transitionFields t) ++ rest → checked n (transitionAt os at) ≡ accepted t
-unfolding AllFit valueAt
-transition-of-bits os at n t rest hn h e =
+-- its fields fit their widths
+pub transition-fits : (n : ℕ) (t : Transition) → n ≤ 512 → transitionOk n t ≡ true → AllFit (transitionFields t)
+unfolding AllFit
+transition-fits n t hn h =
     let k = bounded n t h in
     let hf : t .from < 2 ^ 9 = omega arith in
     let ht : t .to < 2 ^ 9 = omega arith in
     let hl : t .low < 2 ^ 11 = omega arith in
     let hh : t .high < 2 ^ 11 = omega arith in
-    let u = sym (four os at 9 9 11 11) ∙ unpack-of-bits os (transitionFields t) at rest (hf, (ht, (hl, (hh, tt)))) e in
+    (hf, (ht, (hl, (hh, tt))))
+
+transition-of-bits : (os : List ℕ) (at n : ℕ) (t : Transition) (rest : List Bool) → n ≤ 512 → transitionOk n t ≡ true
+    → drop at (bits os) ≡ bitsOfAll (transitionFields t) ++ rest → checked n (transitionAt os at) ≡ accepted t
+unfolding valueAt
+transition-of-bits os at n t rest hn h e =
+    let u = sym (four os at 9 9 11 11) ∙ unpack-of-bits os (transitionFields t) at rest (transition-fits n t hn h) e in
     let a : fieldAt os at 9 ≡ t .from = ap (valueAt 0) u in
     let b : fieldAt os (at + 9) 9 ≡ t .to = ap (valueAt 1) u in
     let c : fieldAt os (at + 18) 11 ≡ t .low = ap (valueAt 2) u in
