@@ -1,0 +1,10 @@
+pub mod Loop
+pub mod Sets
+pub mod Chain
+pub mod Plan
+pub mod Lower
+pub mod Upper
+pub mod Pairs
+pub mod Counts
+pub mod Agreement
+pub mod Corners

@@ -1,0 +1,5 @@
+pub mod Procedure
+pub mod Sets
+pub mod Bounds
+pub mod Counts
+pub mod Agreement

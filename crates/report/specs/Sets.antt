@@ -1,0 +1,58 @@
+-- Sets of states, and the successors and predecessors of a set: what figures 3 and 4 are written in.
+--
+-- A set of states is its yes-or-no on states. The states are the numbers below n, and no other number is ever looked at: `any` is the only
+-- way to ask whether some state is in a set. Assumes nothing.
+use Prim.Native.Nat.{ℕ, zero, suc}
+use mathlib.Core.Bool.{Bool, true, false, not, _&&_, _||_, Bool·beq}
+use lib.Dec.{eqb}
+use Rattle.graph.specs.Graph.{Graph, states, count, final, from, to}
+
+abbrev pub States : Type 0
+States = ℕ → Bool
+
+-- some number below n is in the set
+unfoldable pub any : States → ℕ → Bool
+any A zero = false
+any A (suc n) = any A n || A n
+
+infixl 35 _∩_
+infixl 30 _∪_
+infixl 30 _Δ_
+abbrev pub _∩_ : States → States → States
+A ∩ B = λ s. A s && B s
+
+abbrev pub _∪_ : States → States → States
+A ∪ B = λ s. A s || B s
+
+-- the states that are in one of the two alone
+abbrev pub _Δ_ : States → States → States
+A Δ B = λ s. not (Bool·beq (A s) (B s))
+
+-- TRUE, every state
+abbrev pub TRUE : States
+TRUE = λ s. true
+
+-- not_final, "the set of all states that are not in final" (section 4, above figure 4)
+abbrev pub not-final : Graph → States
+not-final g = λ s. not (final g s)
+
+-- A = ∅
+unfoldable pub empty : Graph → States → Bool
+empty g A = not (any A (states g))
+
+-- A = B
+unfoldable pub same : Graph → States → States → Bool
+unfolding empty
+same g A B = empty g (A Δ B)
+
+-- N(s, s') "evaluates to true when there is a transition in the model from the state .. to the state .." (section 3, first paragraph)
+unfoldable pub N : Graph → ℕ → ℕ → Bool
+N g s s′ = any (λ t. eqb (from g t) s && eqb (to g t) s′) (count g)
+
+-- "T(S) = {s' | N(s, s') holds for some s ∈ S}" (section 4, first paragraph)
+unfoldable pub T : Graph → States → States
+T g A = λ s′. any (λ s. A s && N g s s′) (states g)
+
+-- "T⁻¹(S') = {s | N(s, s') holds for some s' ∈ S'}" (section 4, above figure 4)
+unfoldable pub T⁻¹ : Graph → States → States
+T⁻¹ g A = λ s. any (λ s′. A s′ && N g s s′) (states g)
