@@ -1,37 +1,32 @@
--- Runs of the procedures on small plans, turn by turn; where they part from document 01; and that the premises can be met.
+-- Runs of the procedures on small plans, turn by turn, and where they part from document 01.
 --
 -- A run is written out: so many `turns`, then `ends`. Each test is computed. First plans of document 01 with durations of 1: what misleads people
--- there does not mislead the procedures. Then plans that `ReportPlan` leaves out: a dead end, no start, no transition at all. There upper's value is
--- not the figure, so no premise can be spared: "Where they .. assume more than a plan offers (dead ends, no start), this paper rules."
--- Last, whether a plan is one that demand 2 names is a computed test, P1 with durations of 1 passes it, and its runs give its four figures.
--- Assumes nothing.
+-- there does not mislead the procedures. Then plans that `ReportPlan` leaves out: other durations, a dead end, no start, no transition at all. There a
+-- procedure's value is not the figure: "Where they .. assume more than a plan offers (dead ends, no start), this paper rules."
+-- Last, why figure 5 is not read by how far in its lines stand. Assumes nothing.
 use Prim.Native.Nat.{ℕ, _<_}
-use mathlib.Core.Path.{_≡_, refl, sym, _∙_}
-use mathlib.Core.Bool.{Bool, true, false, not, _&&_, true≢false, false≢true, and-eq-true-iff}
-use mathlib.Core.Logic.{_⊎_, inl, inr}
+use mathlib.Core.Path.{_≡_, refl, sym, _∙_, ap}
+use mathlib.Core.Bool.{true, false, not, cond, _&&_, true≢false, false≢true}
 use mathlib.Core.List.{List, [], _∷_}
 use native.Mathlib.Nat.{not-suc-le-zero}
 use native.Mathlib.Omega.{arith}
-use lib.Dec.{eqb, ltb, lit<}
-use borrow.Author.Tests.{eqb-true, ltb-true, not-true, not-false}
-use Rattle.graph.specs.Graph.{Graph, Transition, states, count, marksOf, start, final, counted, transition, from, to, low, high, Departs, Unfinished}
-use Rattle.graph.specs.Figure.{number, NONE, STRANDED, IsLeast, IsGreatest, leastDelayCost, greatestDelayCost, countCost}
-use Rattle.graph.specs.Known.{join, P2, P3, P5}
+use lib.Dec.{lit<}
+use Rattle.graph.specs.Graph.{Graph, Transition, marksOf, start, final, counted, transition, from, to}
+use Rattle.graph.specs.Compute.{nonempty}
+use Rattle.graph.specs.Figure.{number, NONE, STRANDED, IsLeast, IsGreatest, leastDelayCost, greatestDelayCost}
+use Rattle.graph.specs.Known.{join, P1, P2, P3, P5}
 use Rattle.graph.proofs.Walks.{start-below}
 use Rattle.graph.proofs.Known.{known-hold}
-use Rattle.report.specs.Procedure.{ends, turns, Returns}
+use Rattle.report.specs.Procedure.{Loop, ends, turns, Procedure, Returns}
 use Rattle.report.specs.Sets.{States, any, empty, same, N, T, T⁻¹}
 use Rattle.report.specs.Bounds.{Bound, finite, ∞, lower, upper}
-use Rattle.report.specs.Counts.{those, Nₐ, Tₐ, updated, mincount, maxcount}
-use Rattle.report.specs.Agreement.{ReportPlan}
-use Rattle.report.proofs.Sets.{decided, any-of, in-any}
-use Rattle.report.proofs.Agreement.{agreement, least-count, greatest-count}
+use Rattle.report.specs.Counts.{those, at, Nₐ, Tₐ, updated, Vars, mincount, maxcount}
 
 -- a→b with durations of 1
-abbrev step : ℕ → ℕ → Transition
+abbrev pub step : ℕ → ℕ → Transition
 step a b = join a b 1 1
 
-abbrev plan : List ℕ → List Transition → Graph
+abbrev pub plan : List ℕ → List Transition → Graph
 plan ms ts = record { marks = ms; transitions = ts }
 
 -- what lower and upper return
@@ -47,7 +42,7 @@ pub record Counts (g : Graph) (least greatest : Bound) : Type 0 where
 -- ---- plans of document 01
 
 -- P1: the way 0, 1, 3 is the shortest, and 0, 1, 2, 3 the longest
-abbrev P1₁ : Graph
+abbrev pub P1₁ : Graph
 P1₁ = plan (4 ∷ 1 ∷ 1 ∷ 2 ∷ []) (step 0 1 ∷ step 1 2 ∷ step 1 3 ∷ step 2 3 ∷ [])
 
 pub P1-bounds : Bounds P1₁ (finite 2) (finite 3)
@@ -103,7 +98,12 @@ pub ends-counted : Counts (plan (5 ∷ 3 ∷ []) (step 0 1 ∷ [])) (finite 2) (
 unfolding any N marksOf start final counted from to transition those Nₐ Tₐ updated
 ends-counted = record { fewest = (_, turns refl (ends refl), refl); most = (_, turns refl (ends refl), refl) }
 
--- ---- where upper parts from document 01
+-- ---- where lower and upper part from document 01
+
+-- Other durations: P1 as it is. Lower returns 2, the number of transitions, and the least delay is 7.
+pub durations : Returns (lower (P1 .plan)) (finite 2) × IsLeast (P1 .plan) (leastDelayCost (P1 .plan)) (number 7)
+unfolding any empty same N T T⁻¹ marksOf start final from to transition
+durations = ((_, turns refl (turns refl (ends refl)), refl), known-hold 0 (lit< tt) .least-delay)
 
 -- "Reading upper's result at a dead end as a delay: its walk has no answer." P3, whose start is a dead end: upper returns 1, and the figure is STRANDED.
 pub dead-end : Returns (upper (P3 .plan)) (finite 1) × IsGreatest (P3 .plan) (greatestDelayCost (P3 .plan)) STRANDED
@@ -139,70 +139,24 @@ no-final = (
   ((λ none. none 0 refl), (λ e. not-suc-le-zero (e .departs 0 .listed)), (0, [], (refl, record { unfinished = refl; shut = λ t d. not-suc-le-zero (d .listed) }))),
 )
 
--- ---- the premises can be met
+-- ---- figure 5 as its lines stand in
 
--- whether a plan is one that demand 2 names, by computation: no transition leads astray or lasts other than 1, some state is a start, no state is a dead end
-astray : Graph → ℕ → Bool
-astray g t = not (ltb (to g t) (states g) && (eqb (low g t) 1 && eqb (high g t) 1))
+-- With "R' = .." and the lines below it under "if Reached_final ≠ ∅ then", a turn that reaches no final state leaves all variables as they are.
+abbrev pub indented : Graph → States → Procedure Vars Bound
+indented g c = record {
+  begin = mincount g c .begin;
+  first = λ v. cond (nonempty (at (final g) (v .R))) (mincount g c .first v) v;
+  stop = λ v. nonempty (at (final g) (v .R)) && not (nonempty (v .R′));
+  rest = λ v. cond (nonempty (at (final g) (v .R))) (mincount g c .rest v) v;
+  answer = λ v. v .current;
+}
 
-shut : Graph → ℕ → Bool
-shut g s = not (final g s) && not (any (λ t. eqb (from g t) s) (count g))
-
-report-plan : Graph → Bool
-report-plan g = not (any (astray g) (count g)) && (any (start g) (states g) && not (any (shut g) (states g)))
-
-both : (a b : Bool) → a && b ≡ true → (a ≡ true) × (b ≡ true)
-both a b h = and-eq-true-iff a b .0 h
-
--- what no number below n is, none is
-none-below : (A : States) (n : ℕ) → not (any A n) ≡ true → (s : ℕ) → s < n → A s ≡ false
-none-below A n h s l = go (decided (A s))
+-- So on P1, whose start is not final, it never returns.
+pub never-returns : (b : Bound) → Returns (indented P1₁ (counted P1₁)) b → ⊥
+unfolding any N marksOf start final counted from to transition those
+never-returns b (e, r, h) = stays r refl
   where
-    go : (A s ≡ true) ⊎ (A s ≡ false) → A s ≡ false
-    go (inl y) = absurd (true≢false (sym (in-any A n s l y) ∙ not-true (any A n) h))
-    go (inr e) = e
-
-not-astray : (g : Graph) (t : ℕ) → astray g t ≡ false → (to g t < states g) × (low g t ≡ 1) × (high g t ≡ 1)
-unfolding astray
-not-astray g t h =
-    let (i, d) = both (ltb (to g t) (states g)) _ (not-false (ltb (to g t) (states g) && (eqb (low g t) 1 && eqb (high g t) 1)) h) in
-    let (l, u) = both (eqb (low g t) 1) (eqb (high g t) 1) d in
-    (ltb-true (to g t) (states g) i, eqb-true (low g t) 1 l, eqb-true (high g t) 1 u)
-
-not-shut : (g : Graph) (s : ℕ) → shut g s ≡ false → Unfinished g s → (t : ℕ) × Departs g s t
-unfolding shut
-not-shut g s h u =
-    let some : not (any (λ t. eqb (from g t) s) (count g)) ≡ false = rw u at h in
-    let (t, l, y) = any-of (λ t. eqb (from g t) s) (count g) (not-false (any (λ t. eqb (from g t) s) (count g)) some) in
-    (t, record { listed = l; source = eqb-true (from g t) s y })
-
-of-report-plan : (g : Graph) → report-plan g ≡ true → ReportPlan g
-unfolding report-plan
-of-report-plan g h =
-    let (a, h′) = both (not (any (astray g) (count g))) _ h in
-    let (b, c) = both (any (start g) (states g)) _ h′ in
-    let (s, l, y) = any-of (start g) (states g) b in
-    record {
-      closed = λ t l. not-astray g t (none-below (astray g) (count g) a t l) .0;
-      lows-one = λ t l. not-astray g t (none-below (astray g) (count g) a t l) .1;
-      highs-one = λ t l. not-astray g t (none-below (astray g) (count g) a t l) .2;
-      started = (s, y);
-      leaves = λ s l u. not-shut g s (none-below (shut g) (states g) c s l) u;
-    }
-
--- P1 with durations of 1 is such a plan, so its runs give its figures
-P1-plan : ReportPlan P1₁
-unfolding report-plan astray shut any marksOf start final from to low high transition
-P1-plan = of-report-plan P1₁ refl
-
-pub P1-least : IsLeast P1₁ (leastDelayCost P1₁) (number 2)
-P1-least = agreement P1₁ P1-plan .lower-least (finite 2) .0 (P1-bounds .shortest)
-
-pub P1-greatest : IsGreatest P1₁ (greatestDelayCost P1₁) (number 3)
-P1-greatest = agreement P1₁ P1-plan .upper-greatest (finite 3) .0 (P1-bounds .longest)
-
-pub P1-least-count : IsLeast P1₁ (countCost P1₁) (number 1)
-P1-least-count = least-count P1₁ P1-plan 3 (P1-bounds .longest) 1 .0 (P1-counts .fewest)
-
-pub P1-greatest-count : IsGreatest P1₁ (countCost P1₁) (number 2)
-P1-greatest-count = greatest-count P1₁ P1-plan 3 (P1-bounds .longest) 2 .0 (P1-counts .most)
+    stays : {s e : Vars} → Loop (indented P1₁ (counted P1₁) .first) (indented P1₁ (counted P1₁) .stop) (indented P1₁ (counted P1₁) .rest) s e
+        → s ≡ indented P1₁ (counted P1₁) .begin → ⊥
+    stays (ends {s} h) q = true≢false (sym h ∙ ap (λ s. indented P1₁ (counted P1₁) .stop (indented P1₁ (counted P1₁) .first s)) q)
+    stays (turns {s} h r) q = stays r (ap (λ s. indented P1₁ (counted P1₁) .rest (indented P1₁ (counted P1₁) .first s)) q)

@@ -1,14 +1,14 @@
 -- Procedures mincount and maxcount return the least and the greatest count, wherever upper is finite: one argument for both.
 --
--- The report's two invariants, said of routes (`Counted`). A route is met at a pair ⟨s, k⟩ of R if it goes on from s, and its count is k with what is still to come
--- after s. Before each turn, every route is met at a pair of R or its count is covered by the current number (`complete`); a route from
--- the state of a pair of R is the end of a route from a start that is met there (`sound`); and what is current is what some route
--- counts, if it is a number (`attained`).
--- A turn looks at the pairs of R. A route met at one whose state is final ends there, and its count is the pair's number, which the turn covers. One
--- met at an unfinished state goes on by a transition, to a pair of T(R').
--- At the end R' is empty, so every route is covered. Upper is finite, so there is a route, and the current number is a number that some route counts.
--- The loop ends, since after j turns a pair of R is j transitions from a start, through unfinished states, and upper's number says how far that
--- can go (`Far`). Assumes nothing.
+-- The report's two invariants, said of routes (`Counted`). A route is met at a pair ⟨s, k⟩ of R if it goes on from s, and its count is k with what is
+-- still to come after s (`Met`). Before each turn:
+-- * every route is met at a pair of R, or its count is covered by what is current (`complete`);
+-- * a route from the state of a pair of R is the end of a route from a start that is met there (`sound`);
+-- * what is current, if it is a number, is what some route counts (`attained`).
+-- A route met at a final state ends there, and its count is the pair's number, which the turn covers. One met at an unfinished state goes on by a
+-- transition, to a pair of T(R'). At the end R' is empty, so every route is covered; and upper is finite, so there is a route, and what is current is a number.
+-- The loop ends, since after j turns the state of a pair of R is j transitions from a start, through unfinished states, and upper's number says how
+-- many those can be (`Far`). Assumes nothing.
 use Prim.Native.Nat.{ℕ, suc, _+_, _<_}
 use mathlib.Core.Path.{_≡_, refl, sym, _∙_, ap}
 use mathlib.Core.Bool.{true, false, not, true≢false}
@@ -34,7 +34,8 @@ use Rattle.report.specs.Agreement.{ReportPlan}
 use Rattle.report.proofs.Loop.{returns-holds, returns-some}
 use Rattle.report.proofs.Sets.{N-of, in-N}
 use Rattle.report.proofs.Upper.{Through, shorter, upper-says}
-use Rattle.report.proofs.Pairs.{of-at, in-at, of-first, in-first, of-Tₐ, in-Tₐ, Follows, Sided, Covers, When, covers-new, covers-old, remains}
+use Rattle.report.proofs.Pairs.{of-at, in-at, of-first, in-first, of-Tₐ, in-Tₐ, Follows}
+use Rattle.report.proofs.Current.{Sided, Covers, When, covers-new, covers-old, remains}
 
 module _ (g : Graph) (c : States) where
   -- what a route from s counts
@@ -144,7 +145,8 @@ module _ (g : Graph) (c : States) where
       unfolding now
       end v b h = record { all = λ s₀ ts₀ r. go s₀ ts₀ (complete-now v b s₀ ts₀ r); attained = attained-now v b }
         where
-          go : (s₀ : ℕ) (ts₀ : List ℕ) → Covers before (now v b .current) (counted-on s₀ ts₀) ⊎ Onward s₀ ts₀ (now v b .R′) → Covers before (now v b .current) (counted-on s₀ ts₀)
+          go : (s₀ : ℕ) (ts₀ : List ℕ) → Covers before (now v b .current) (counted-on s₀ ts₀) ⊎ Onward s₀ ts₀ (now v b .R′)
+              → Covers before (now v b .current) (counted-on s₀ ts₀)
           go s₀ ts₀ (inl o) = o
           go s₀ ts₀ (inr (u, m, t, ts, met)) = absurd (true≢false (sym (in-nonempty (at (not-final g) (v .R)) m) ∙ not-true (nonempty (at (not-final g) (v .R))) h))
 

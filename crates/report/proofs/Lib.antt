@@ -5,6 +5,8 @@ pub mod Plan
 pub mod Lower
 pub mod Upper
 pub mod Pairs
+pub mod Current
 pub mod Counts
 pub mod Agreement
 pub mod Corners
+pub mod Premises

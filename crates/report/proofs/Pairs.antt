@@ -1,14 +1,13 @@
--- What is in the sets of pairs of specs/Counts.antt, and what a turn makes of what is current.
+-- What is in the sets of pairs of specs/Counts.antt.
 --
--- The pairs are listed, so each fact is by recursion on the list, or on the numbers below n that it is gathered over: which pairs R ∩ Final and R ∩ Not_final
--- keep, that the first pairs are the starts each with its count, and that T's pairs are those that a transition leads to, each with the count of its state added.
--- Then the number picked out of a list is in it and before all of it, so what is current after a turn is before all that it was before and before
--- all the numbers reached (`covers-new`, `covers-old`), and is one of them or what it was (`remains`). Assumes nothing.
+-- The sets are listed, so each fact is by recursion on the list, or on the numbers below n that it is gathered over: which pairs R ∩ Final and
+-- R ∩ Not_final keep; that the first pairs are the starts, each with its count; and that T's pairs are those that a transition leads to, each with the
+-- count of its state added (`Follows`). Assumes nothing.
 use Prim.Native.Nat.{ℕ, _+_, _<_}
 use mathlib.Core.Path.{_≡_, refl, sym, _∙_, ap}
-use mathlib.Core.Bool.{Bool, true, false, not, cond, _&&_, _||_, and-eq-true-iff}
+use mathlib.Core.Bool.{Bool, true, false, not, _&&_, _||_, and-eq-true-iff}
 use mathlib.Core.Logic.{_⊎_, inl, inr}
-use mathlib.Core.List.{List, [], _∷_, _++_, List·Memᴰ·head, List·Memᴰ·tail, List·Memᴰ·not-nil, List·Memᴰ·cases-cons, List·Memᴰ·eq-of-singleton}
+use mathlib.Core.List.{[], _∷_, _++_, List·Memᴰ·head, List·Memᴰ·tail, List·Memᴰ·not-nil, List·Memᴰ·cases-cons, List·Memᴰ·eq-of-singleton}
 use mathlib.Core.List.{List·Memᴰ·append-cases, Memᴰ·append-left, Memᴰ·append-right, Memᴰ·cast}
 use native.Mathlib.Omega.{arith}
 use lib.Dec.{eqb}
@@ -16,12 +15,10 @@ use borrow.Author.Tests.{eqb-true, eq-eqb, not-true}
 use Rattle.graph.specs.Graph.{Graph, states, start}
 use Rattle.graph.specs.Walk.{Begins}
 use Rattle.graph.specs.Route.{one}
-use Rattle.graph.specs.Compute.{given, gather, fold}
+use Rattle.graph.specs.Compute.{given, gather}
 use Rattle.graph.proofs.Listed.{_∈_, of-given, in-given, of-gather, in-gather}
-use Rattle.graph.proofs.Extreme.{Picks}
 use Rattle.report.specs.Sets.{States, _∩_, N}
-use Rattle.report.specs.Bounds.{Bound, finite, ∞}
-use Rattle.report.specs.Counts.{Pairs, paired, those, at, Nₐ, Tₐ, Side, improves, updated}
+use Rattle.report.specs.Counts.{Pairs, paired, those, at, Nₐ, Tₐ}
 use Rattle.report.proofs.Sets.{decided, or-cases, or-left, or-right}
 
 -- ---- those pairs that a test accepts, and the pairs at some states
@@ -110,7 +107,9 @@ module _ (g : Graph) (c : States) (u u′ : ℕ × ℕ) where
 
   of-Nₐ : Nₐ g c u u′ ≡ true → Follows g c u u′
   unfolding Nₐ counts-one counts-none
-  of-Nₐ h = let (n, k) = and-eq-true-iff (N g (u .0) (u′ .0)) (counts-one || counts-none) .0 h in record { joined = n; adds = go (or-cases counts-one counts-none k) }
+  of-Nₐ h =
+      let (n, k) = and-eq-true-iff (N g (u .0) (u′ .0)) (counts-one || counts-none) .0 h in
+      record { joined = n; adds = go (or-cases counts-one counts-none k) }
     where
       go : (counts-one ≡ true) ⊎ (counts-none ≡ true) → u′ .1 ≡ u .1 + one (c (u′ .0))
       go (inl a) = let (y, e) = and-eq-true-iff (c (u′ .0)) (eqb (u′ .1) (u .1 + 1)) .0 a in omega (arith, eqb-true (u′ .1) (u .1 + 1) e, one-yes y)
@@ -174,87 +173,3 @@ in-Tₐ g c (x ∷ xs) {u} u′ m h f = go (in-Tₐ g c xs u′) (List·Memᴰ·
         let n = in-those (Nₐ g c x) (pair-choices x (u′ .0)) (a-choice g c x u′ f′) (in-Nₐ g c x u′ f′) in
         Memᴰ·append-left (Tₐ g c xs) (in-gather (λ s′. those (Nₐ g c x) (pair-choices x s′)) (states g) (u′ .0) h n)
     go ih (inr r) = Memᴰ·append-right (gather (λ s′. those (Nₐ g c x) (pair-choices x s′)) (states g)) (ih r h f)
-
--- ---- the current number
-
--- what the two figures have in common: `before` is ≤ for min and "<", and ≥ for max and ">"
-pub record Sided (z : Side) (before : ℕ → ℕ → Type 0) : Type 0 where
-  pub picks : Picks (z .pick) before
-  pub better-before : (m k : ℕ) → z .better m k ≡ true → before m k
-  pub else-after : (m k : ℕ) → z .better m k ≡ false → before k m
-
--- what is current is a number before x
-abbrev pub Covers : (ℕ → ℕ → Type 0) → Bound → ℕ → Type 0
-Covers before (finite m) x = before m x
-Covers before ∞ x = ⊥
-
--- P holds of what is current, if that is a number
-abbrev pub When : (ℕ → Type 0) → Bound → Type 0
-When P (finite m) = P m
-When P ∞ = Unit {0}
-
-module _ (z : Side) (before : ℕ → ℕ → Type 0) (Z : Sided z before) where
-  -- the number picked is one of the list, and before all of it
-  picked-in : (x : ℕ) (xs : List ℕ) → fold (z .pick) x xs ∈ (x ∷ xs)
-  picked-in x [] = List·Memᴰ·head refl
-  picked-in x (y ∷ ys) = go (List·Memᴰ·cases-cons (picked-in x ys)) (Z .picks .either y (fold (z .pick) x ys))
-    where
-      go : (fold (z .pick) x ys ≡ x) ⊎ (fold (z .pick) x ys ∈ ys) → (z .pick y (fold (z .pick) x ys) ≡ y) ⊎ (z .pick y (fold (z .pick) x ys) ≡ fold (z .pick) x ys)
-          → z .pick y (fold (z .pick) x ys) ∈ (x ∷ y ∷ ys)
-      go m (inl e) = List·Memᴰ·tail (List·Memᴰ·head e)
-      go (inl e′) (inr e) = List·Memᴰ·head (e ∙ e′)
-      go (inr m) (inr e) = Memᴰ·cast e (List·Memᴰ·tail (List·Memᴰ·tail m))
-
-  picked-before : (x : ℕ) (xs : List ℕ) {k : ℕ} → k ∈ (x ∷ xs) → before (fold (z .pick) x xs) k
-  picked-before x [] {k} m = rw (List·Memᴰ·eq-of-singleton m) (Z .picks .self x)
-  picked-before x (y ∷ ys) {k} m = go (λ n. Z .picks .trans _ _ _ (Z .picks .right y (fold (z .pick) x ys)) (picked-before x ys n)) (List·Memᴰ·cases-cons m)
-    where
-      go : (k ∈ (x ∷ ys) → before (z .pick y (fold (z .pick) x ys)) k) → (k ≡ x) ⊎ (k ∈ (y ∷ ys)) → before (z .pick y (fold (z .pick) x ys)) k
-      go later (inl e) = later (List·Memᴰ·head e)
-      go later (inr n) = next (List·Memᴰ·cases-cons n)
-        where
-          next : (k ≡ y) ⊎ (k ∈ ys) → before (z .pick y (fold (z .pick) x ys)) k
-          next (inl e) = rw e (Z .picks .left y (fold (z .pick) x ys))
-          next (inr r) = later (List·Memᴰ·tail r)
-
-  -- what "if m < current_min then current_min = m" leaves is before m, before all that was covered, and m or what was there
-  record Replaced (b : Bound) (m : ℕ) (b′ : Bound) : Type 0 where
-    new : Covers before b′ m
-    old : (x : ℕ) → Covers before b x → Covers before b′ x
-
-  replaced : (b : Bound) (m : ℕ) → Replaced b m (cond (improves z m b) (finite m) b)
-  replaced ∞ m = record { new = Z .picks .self m; old = λ x o. absurd o }
-  replaced (finite l) m = go (decided (z .better m l))
-    where
-      go : (z .better m l ≡ true) ⊎ (z .better m l ≡ false) → Replaced (finite l) m (cond (z .better m l) (finite m) (finite l))
-      go (inl h) = rw h (record { new = Z .picks .self m; old = λ x o. Z .picks .trans m l x (Z .better-before m l h) o })
-      go (inr h) = rw h (record { new = Z .else-after m l h; old = λ x o. o })
-
-  one-of : (P : ℕ → Type 0) (b : Bound) (m : ℕ) → P m → When P b → When P (cond (improves z m b) (finite m) b)
-  one-of P ∞ m p o = p
-  one-of P (finite l) m p o = go (z .better m l)
-    where
-      go : (a : Bool) → When P (cond a (finite m) (finite l))
-      go true = p
-      go false = o
-
-  later : (b : Bound) (x y : ℕ) → before x y → Covers before b x → Covers before b y
-  later (finite m) x y h o = Z .picks .trans m x y o h
-  later ∞ x y h o = o
-
-  pub covers-new : (b : Bound) (ks : List ℕ) (k : ℕ) → k ∈ ks → Covers before (updated z ks b) k
-  unfolding updated
-  covers-new b [] k n = absurd (List·Memᴰ·not-nil n)
-  covers-new b (x ∷ xs) k n =
-      let m = fold (z .pick) x xs in
-      later (cond (improves z m b) (finite m) b) m k (picked-before x xs n) (replaced b m .new)
-
-  pub covers-old : (b : Bound) (ks : List ℕ) (x : ℕ) → Covers before b x → Covers before (updated z ks b) x
-  unfolding updated
-  covers-old b [] x o = o
-  covers-old b (k ∷ ks) x o = replaced b (fold (z .pick) k ks) .old x o
-
-  pub remains : (P : ℕ → Type 0) (b : Bound) (ks : List ℕ) → ((k : ℕ) → k ∈ ks → P k) → When P b → When P (updated z ks b)
-  unfolding updated
-  remains P b [] p o = o
-  remains P b (x ∷ xs) p o = let m = fold (z .pick) x xs in one-of P b m (p m (picked-in x xs)) o
