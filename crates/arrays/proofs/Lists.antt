@@ -105,6 +105,7 @@ tabulate-set n l k v h = tabulate-of 0 (set (tabulate n f) k v) n (λ (i : ℕ).
   where
     f : ℕ → ℕ
     f i = getD l i 0
+
     go : (i : ℕ) → i < n → (k ≡ i) ⊎ (k ≢ i) → getD (set (tabulate n f) k v) i 0 ≡ getD (set l k v) i 0
     go i hi (inl e) =
         ap (λ (j : ℕ). getD (set (tabulate n f) k v) j 0) (sym e) ∙ getD-set-same (tabulate n f) k v 0 (rw (length-tabulate n f, e) hi)
@@ -112,6 +113,7 @@ tabulate-set n l k v h = tabulate-of 0 (set (tabulate n f) k v) n (λ (i : ℕ).
     go i hi (inr d) =
         let d′ : i ≢ k = λ e. d (sym e) in
         getD-set-other (tabulate n f) k i v 0 d′ ∙ getD-tabulate n f i 0 hi ∙ sym (getD-set-other l k i v 0 d′)
+
     each : (i : ℕ) → i < n → getD (set (tabulate n f) k v) i 0 ≡ getD (set l k v) i 0
     each i hi = go i hi (same-or-not k i)
 
@@ -127,14 +129,19 @@ module _ {A : Type 0} where
     where
       T : List A
       T = tabulate n f
+
       F : List A
       F = take k T
+
       B : List A
       B = drop (suc k) T
+
       F-length : length F ≡ k
       F-length = length-take-le k T (omega (arith, length-tabulate n f))
+
       lengths : length (F ++ B) ≡ n - 1
       lengths = length-append F B ∙ ap₂ _+_ F-length (length-drop (suc k) T) ∙ omega (arith, length-tabulate n f)
+
       go : (i : ℕ) → i < n - 1 → (i < k) ⊎ (k ≤ i) → getD (F ++ B) i d ≡ g i
       go i hi (inl l) =
           List·getD-append F B d i (rw F-length l) ∙ getD-take k T i d l ∙ getD-tabulate n f i d (omega arith) ∙ sym (before i l)
@@ -143,6 +150,7 @@ module _ {A : Type 0} where
           let q : suc k + (i - k) ≡ i + 1 = omega arith in
           ap (λ (j : ℕ). getD (F ++ B) j d) (sym p) ∙ getD-append-add F B (i - k) d ∙ getD-drop (suc k) T (i - k) d
           ∙ ap (λ (j : ℕ). getD T j d) q ∙ getD-tabulate n f (i + 1) d (omega arith) ∙ sym (after i l (omega arith))
+
       each : (i : ℕ) → i < n - 1 → getD (F ++ B) i d ≡ g i
       each i hi = go i hi (below-or-not i k)
 
@@ -156,8 +164,8 @@ moved-more l k j h =
     let e : length (take k l ++ take j s) + 1 ≡ k + j + 1 = ap (λ (n : ℕ). n + 1) lp in
     let q : suc k + j ≡ k + j + 1 = omega arith in
     let v : getD (paste l k s j) (k + j + 1) 0 ≡ getD s j 0 =
-        ap (λ (n : ℕ). getD (paste l k s j) n 0) (sym e) ∙ getD-append-add (take k l ++ take j s) (drop (k + j) l) 1 0
-        ∙ getD-drop (k + j) l 1 0 ∙ sym (getD-drop (suc k) l j 0 ∙ ap (λ (n : ℕ). getD l n 0) q) in
+    ap (λ (n : ℕ). getD (paste l k s j) n 0) (sym e) ∙ getD-append-add (take k l ++ take j s) (drop (k + j) l) 1 0
+    ∙ getD-drop (k + j) l 1 0 ∙ sym (getD-drop (suc k) l j 0 ∙ ap (λ (n : ℕ). getD l n 0) q) in
     ap (λ (x : ℕ). set (paste l k s j) (k + j) x) v ∙ paste-suc l k s j 0 (omega arith) (omega arith)
 
 pub moved-turn : (l next : List ℕ) (k i : ℕ) → k ≤ i → i + 1 < length l → next ≡ paste l k (drop (suc k) l) (i - k)

@@ -41,6 +41,6 @@ module _ {A : Type 0} (fields : A → List Field) (w : ℕ) (wide : (a : A) → 
       let e : widthOfAll (fieldsOfEach fields t) ≡ w * i = width-each fields w wide t ∙ ap (λ (n : ℕ). w * n) (length-tabulate i f) in
       sym (ap (λ (n : ℕ). putAll os base (fieldsOfEach fields (tabulate n f))) (add-one i)
       ∙ ap (λ (l : List Field). putAll os base l)
-        (fields-append t (f i ∷ []) ∙ ap {B = List Field} (λ (l : List Field). fieldsOfEach fields t ++ l) (append-nil (fields (f i))))
+      (fields-append t (f i ∷ []) ∙ ap {B = List Field} (λ (l : List Field). fieldsOfEach fields t ++ l) (append-nil (fields (f i))))
       ∙ putAll-append (fieldsOfEach fields t) (fields (f i)) os base
       ∙ ap (λ (n : ℕ). putAll (putAll os base (fieldsOfEach fields t)) (base + n) (fields (f i))) e)

@@ -6,9 +6,8 @@ ghost use Rattle.field.specs.Field.{Within, fieldAt};
 ghost use Rattle.rules.specs.Refusal.{said, outcome};
 ghost use Rattle.rules.specs.Image.{headerRule, stateCountOf, transitionCountOf, transitionAt, statesIn, transitionsIn};
 ghost use Rattle.arrays.specs.Tables.{marksOf, transitionsOf, meant};
-
-use crate::limits;
 use crate::Transition;
+use crate::limits;
 use rules::Answer;
 use rules::Refusal;
 

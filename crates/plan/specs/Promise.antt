@@ -4,10 +4,12 @@ use mathlib.Core.List.{List}
 use mathlib.Core.Path.{_≡_}
 use Prim.Native.Nat.{ℕ}
 use Rattle.graph.specs.Graph.{Graph}
-use Rattle.rules.specs.Refusal.{Result, refused, answerOf, said}
-use Rattle.rules.specs.Rules.{next}
+use Rattle.rules.specs.Refusal.{Result, accepted, refused, number, answerOf, said}
+use Rattle.rules.specs.Rules.{next, writeRule, written}
 use Rattle.plan.specs.declared.Plan.{Plan}
 use Rattle.plan.specs.declared.Edited.{Edited}
+use Rattle.plan.specs.declared.Written.{Written}
+use Rattle.plan.specs.declared.Written.the-variants.{Length, Refused}
 use Rattle.plan.specs.View.{view}
 
 -- a call that was given the plan p and for which the rules give o: its answer and the plan afterwards are the rules', and a refusal returns
@@ -16,3 +18,13 @@ pub record Edit (p : Plan) (o : Result Graph) (r : Edited) : Type 0 where
   pub answer : said (r .answer) ≡ answerOf o
   pub plan : view (r .plan) ≡ next (view p) o
   pub kept : (k : ℕ) → o ≡ refused k → r .plan ≡ p
+
+-- what an answer of write says
+abbrev pub wrote : Written → Result ℕ
+wrote (Length n) = accepted n
+wrote (Refused r) = refused (number r)
+
+-- a write of the plan g to a buffer: its answer and the buffer afterwards are the rules'
+pub record Write (g : Graph) (before after : List ℕ) (r : Written) : Type 0 where
+  pub answer : wrote r ≡ writeRule g before
+  pub buffer : after ≡ written g before (writeRule g before)

@@ -13,15 +13,15 @@ view p = record { marks = marksOf (p .states) (p .marks); transitions = transiti
 -- the plan value with n states and all else zero
 abbrev pub blankPlan : ℕ → Plan
 blankPlan n =
-    record
-      { states = n
-      ; transitions = 0
-      ; marks = replicate 512 0
-      ; from = replicate 2048 0
-      ; to = replicate 2048 0
-      ; low = replicate 2048 0
-      ; high = replicate 2048 0
-      }
+    record {
+      states = n;
+      transitions = 0;
+      marks = replicate 512 0;
+      from = replicate 2048 0;
+      to = replicate 2048 0;
+      low = replicate 2048 0;
+      high = replicate 2048 0;
+    }
 
 -- "any plan value beside the number has 0 states, all else zero"
 abbrev pub noPlan : Plan

@@ -7,17 +7,17 @@ use mathlib.Core.Bool.{Bool, true, false, not, _&&_}
 use mathlib.Core.List.{List, [], _∷_, _++_, append-assoc, append-nil}
 use mathlib.Core.Path.{_≡_, refl, sym, ap, ap₂, _∙_, subst}
 use Prim.Native.Nat.{ℕ, zero, suc, _+_, _-_, _*_, _/_, _%_, _^_, _≤_, _<_}
-use native.Mathlib.Nat.{le-antisymm, mod-lt, mod-eq-of-lt, div-add-mod', div-div-eq-div-mul}
+use native.Mathlib.Nat.{zero-add, le-antisymm, mod-lt, mod-eq-of-lt, div-add-mod', div-div-eq-div-mul}
 use native.Mathlib.Omega.{arith}
 use lib.Dec.{leb, ltb, eqb}
 use lib.ListN.{length, getD, take, drop, length-append, take-append-drop, length-drop}
 use lib.Seq.{take-length, take-all, drop-drop, drop-at, take-add}
 use borrow.Author.Tests.{leb-true, ltb-true, ltb-false, eqb-true, le-leb, lt-ltb, le-ltb, eq-eqb}
 use Rattle.graph.specs.Graph.{Graph, Transition, states, count}
-use Rattle.field.specs.Field.{Field, AllFit, Octets, fieldAt, bits, bitsOfAll, widthOfAll, unpack, pack, widths}
+use Rattle.field.specs.Field.{Field, AllFit, Octets, fieldAt, bits, bitsOfAll, widthOfAll, unpack, pack, putAll, widths}
 use Rattle.field.proofs.Bits.{length-bits}
 use Rattle.field.proofs.Laws.{field-lt}
-use Rattle.field.proofs.Pack.{unpack-of-bits, bits-of-unpack, bitsOfAll-append, widthOfAll-append, length-bitsOfAll, length-pack, bits-pack, pack-octets, pack-of-bits}
+use Rattle.field.proofs.Pack.{unpack-of-bits, bits-of-unpack, bitsOfAll-append, widthOfAll-append, length-bitsOfAll, length-pack, bits-pack, pack-octets, pack-of-bits, putAll-append, putAll-pack}
 use Rattle.rules.specs.declared.Refusal.the-variants.{ImageShort, ImageLong, Version, StateCount, TransitionCount, SpareBits, StateNumber, Duration}
 use Rattle.rules.specs.Refusal.{Result, accepted, refused, _>>=_, _>>_, refuseIf, collect}
 use Rattle.rules.specs.Limits.{all, within, stateCountOk, transitionCountOk, marksOk, endsOk, durationsOk, transitionOk}
@@ -64,6 +64,26 @@ image-octets g = pack-octets (imageFields g)
 bits-image : (g : Graph) → bits (image g) ≡ bitsOfAll (imageFields g)
 unfolding image
 bits-image g = bits-pack (imageFields g) (imageLength (states g) (count g)) (image-width g)
+
+-- the header's, the states' and the transitions' fields put one after another at the front of a buffer leave the image there, and the rest
+pub put-image : (g : Graph) (os : List ℕ) → Octets os → imageLength (states g) (count g) ≤ length os
+    → putAll
+    (putAll (putAll os 0 (headerFields (states g) (count g))) 32 (fieldsOfEach stateFields (g .marks)))
+    (32 + 8 * states g) (fieldsOfEach transitionFields (g .transitions))
+    ≡ image g ++ drop (imageLength (states g) (count g)) os
+unfolding image imageFields
+put-image g os ho h =
+    let n : ℕ = states g in
+    let m : ℕ = count g in
+    let H : List Field = headerFields n m in
+    let S : List Field = fieldsOfEach stateFields (g .marks) in
+    let T : List Field = fieldsOfEach transitionFields (g .transitions) in
+    let w : 0 + widthOfAll (H ++ S) ≡ 32 + 8 * n =
+    zero-add (widthOfAll (H ++ S)) ∙ widthOfAll-append H S ∙ ap₂ _+_ (header-width n m) (width-each stateFields 8 state-width (g .marks)) in
+    let v : 0 + widthOfAll H ≡ 32 = zero-add (widthOfAll H) ∙ header-width n m in
+    ap₂ (λ (b : List ℕ) (k : ℕ). putAll b k T) (ap (λ (k : ℕ). putAll (putAll os 0 H) k S) (sym v) ∙ sym (putAll-append H S os 0)) (sym w)
+    ∙ sym (putAll-append (H ++ S) T os 0)
+    ∙ putAll-pack (H ++ S ++ T) (imageLength n m) os ho (image-width g) h
 
 -- ---- four fields one after another: the header, a state and a transition are such
 
@@ -314,15 +334,15 @@ read-image g h = read-os g (limited g h)
 -- ---- the other way
 
 -- what read has looked at where it accepts the header
-record Header (os : List ℕ) : Type 0 where
-  version : versionOf os ≡ 1
-  least : 1 ≤ stateCountOf os
-  most : stateCountOf os ≤ 512
-  transitions : transitionCountOf os ≤ 2048
-  pad : padOf os ≡ 0
-  long : length os ≡ imageLength (stateCountOf os) (transitionCountOf os)
+pub record Header (os : List ℕ) : Type 0 where
+  pub version : versionOf os ≡ 1
+  pub least : 1 ≤ stateCountOf os
+  pub most : stateCountOf os ≤ 512
+  pub transitions : transitionCountOf os ≤ 2048
+  pub pad : padOf os ≡ 0
+  pub long : length os ≡ imageLength (stateCountOf os) (transitionCountOf os)
 
-accepted-header : (os : List ℕ) → headerRule os ≡ accepted tt → Header os
+pub accepted-header : (os : List ℕ) → headerRule os ≡ accepted tt → Header os
 unfolding headerRule
 accepted-header os e =
     let n : ℕ = stateCountOf os in

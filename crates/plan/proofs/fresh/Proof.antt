@@ -33,7 +33,7 @@ blank-requires c κs = search needs
 
 returns : tie.Need-returns
 unfolding freshRule
-returns c = 
+returns c =
     let n = c .before .before .before .args .n in
     let s : stateCountOk n ≡ false = sym (c .before .before .state-count-ok .ensures) ∙ not-true _ (c .before .if1 .taken) in
     rw (c .blank .ensures) (refusal noPlan (freshRule n) StateCount (rw s))
@@ -43,7 +43,7 @@ blank-requires-2 c κs = search needs
 
 returns-2 : tie.Need-returns-2
 unfolding freshRule
-returns-2 c = 
+returns-2 c =
     let n = c .before .before .before .args .n in
     let s : stateCountOk n ≡ true = sym (c .before .before .state-count-ok .ensures) ∙ not-false _ (c .before .if1 .left) in
     rw (c .blank2 .ensures) (acceptance noPlan (blankPlan n) (freshRule n) (freshGraph n) (rw s) (view-blank n (leb-true n 512 (and-true (leb 1 n) (leb n 512) s .1))))

@@ -31,7 +31,7 @@ within-requires c κs = search needs
 
 returns : tie.Need-returns
 unfolding joinRule
-returns c = 
+returns c =
     let p = c .before .before .args .plan in
     let a = c .before .before .args in
     let w : within (view p) ≡ false = sym (c .before .within .ensures) ∙ not-true _ (c .if1 .taken) in
@@ -42,7 +42,7 @@ ends-ok-requires c κs = search needs
 
 returns-2 : tie.Need-returns-2
 unfolding joinRule
-returns-2 c = 
+returns-2 c =
     let p = c .before .before .before .before .args .plan in
     let a = c .before .before .before .before .args in
     let w : within (view p) ≡ true = sym (c .before .before .before .within .ensures) ∙ not-false _ (c .before .before .if1 .left) in
@@ -54,7 +54,7 @@ durations-ok-requires c κs = search needs
 
 returns-3 : tie.Need-returns-3
 unfolding joinRule
-returns-3 c = 
+returns-3 c =
     let p = c .before .before .before .before .before .before .args .plan in
     let a = c .before .before .before .before .before .before .args in
     let w : within (view p) ≡ true = sym (c .before .before .before .before .before .within .ensures) ∙ not-false _ (c .before .before .before .before .if1 .left) in
@@ -64,7 +64,7 @@ returns-3 c =
 
 returns-4 : tie.Need-returns-4
 unfolding joinRule
-returns-4 c = 
+returns-4 c =
     let p = c .before .before .before .before .before .before .before .args .plan in
     let a = c .before .before .before .before .before .before .before .args in
     let w : within (view p) ≡ true = sym (c .before .before .before .before .before .before .within .ensures) ∙ not-false _ (c .before .before .before .before .before .if1 .left) in
@@ -123,7 +123,7 @@ add-next c = search needs
 
 returns-5 : tie.Need-returns-5
 unfolding joinRule
-returns-5 c = 
+returns-5 c =
     let p = c .before .before .before .before .before .before .before .args .plan in
     let a = c .before .before .before .before .before .before .before .args in
     let w : within (view p) ≡ true = sym (c .before .before .before .before .before .before .within .ensures) ∙ not-false _ (c .before .before .before .before .before .if1 .left) in

@@ -31,14 +31,14 @@ within-requires c κs = search needs
 
 returns : tie.Need-returns
 unfolding markRule
-returns c = 
+returns c =
     let p = c .before .before .args .plan in
     let w : within (view p) ≡ false = sym (c .before .within .ensures) ∙ not-true _ (c .if1 .taken) in
     refusal p (markRule (view p) (c .before .before .args .state) (c .before .before .args .value)) PlanLimits (rw w)
 
 returns-2 : tie.Need-returns-2
 unfolding markRule
-returns-2 c = 
+returns-2 c =
     let p = c .before .before .before .before .args .plan in
     let w : within (view p) ≡ true = sym (c .before .before .before .within .ensures) ∙ not-false _ (c .before .before .if1 .left) in
     refusal p (markRule (view p) (c .before .before .before .before .args .state) (c .before .before .before .before .args .value)) StateNumber
@@ -46,7 +46,7 @@ returns-2 c =
 
 returns-3 : tie.Need-returns-3
 unfolding markRule
-returns-3 c = 
+returns-3 c =
     let p = c .before .before .before .before .before .args .plan in
     let w : within (view p) ≡ true = sym (c .before .before .before .before .within .ensures) ∙ not-false _ (c .before .before .before .if1 .left) in
     refusal p (markRule (view p) (c .before .before .before .before .before .args .state) (c .before .before .before .before .before .args .value)) MarksValue
@@ -56,14 +56,14 @@ cast-next : tie.Need-cast-next
 cast-next c = omega arith
 
 element-write-next : tie.Need-element-write-next
-element-write-next c = 
+element-write-next c =
     let p = c .before .before .before .before .before .args .plan in
     let w : within (view p) ≡ true = sym (c .before .before .before .before .within .ensures) ∙ not-false _ (c .before .before .before .if1 .left) in
     omega (arith, limited (view p) w, states-view p)
 
 returns-4 : tie.Need-returns-4
 unfolding markRule
-returns-4 c = 
+returns-4 c =
     let p = c .before .before .before .before .before .args .plan in
     let state = c .before .before .before .before .before .args .state in
     let value = c .before .before .before .before .before .args .value in

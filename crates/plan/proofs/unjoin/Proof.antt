@@ -30,14 +30,14 @@ within-requires c κs = search needs
 
 returns : tie.Need-returns
 unfolding unjoinRule
-returns c = 
+returns c =
     let p = c .before .before .args .plan in
     let w : within (view p) ≡ false = sym (c .before .within .ensures) ∙ not-true _ (c .if1 .taken) in
     refusal p (unjoinRule (view p) (c .before .before .args .number)) PlanLimits (rw w)
 
 returns-2 : tie.Need-returns-2
 unfolding unjoinRule
-returns-2 c = 
+returns-2 c =
     let p = c .before .before .before .args .plan in
     let w : within (view p) ≡ true = sym (c .before .before .within .ensures) ∙ not-false _ (c .before .if1 .left) in
     refusal p (unjoinRule (view p) (c .before .before .before .args .number)) TransitionNumber (rw (w, count-view p, le-leb (p .transitions) (c .before .before .before .args .number) (c .if2 .taken)))
@@ -65,7 +65,7 @@ without-requires-4 c κs = room (c .before .before .before)
 
 returns-3 : tie.Need-returns-3
 unfolding unjoinRule
-returns-3 c = 
+returns-3 c =
     let p = c .before .before .before .before .before .before .before .before .before .before .before .before .args .plan in
     let k = c .before .before .before .before .before .before .before .before .before .before .before .before .args .number in
     let w : within (view p) ≡ true = sym (c .before .before .before .before .before .before .before .before .before .before .before .within .ensures) ∙ not-false _ (c .before .before .before .before .before .before .before .before .before .before .if1 .left) in
@@ -75,7 +75,7 @@ returns-3 c =
     let ll : length (p .low) ≡ 2048 = search needs in
     let lh : length (p .high) ≡ 2048 = search needs in
     let e : record { states = p .states; transitions = p .transitions - 1; marks = p .marks; from = c .before .before .before .without .result; to = c .before .before .without2 .result; low = c .before .without3 .result; high = c .without4 .result } ≡ unjoined p k =
-        λ i. record { states = p .states; transitions = p .transitions - 1; marks = p .marks; from = c .before .before .before .without .ensures i; to = c .before .before .without2 .ensures i; low = c .before .without3 .ensures i; high = c .without4 .ensures i } in
+    λ i. record { states = p .states; transitions = p .transitions - 1; marks = p .marks; from = c .before .before .before .without .ensures i; to = c .before .before .without2 .ensures i; low = c .before .without3 .ensures i; high = c .without4 .ensures i } in
     acceptance p _ (unjoinRule (view p) k) (without (view p) k)
     (rw (w, count-view p, lt-leb (p .transitions) k (r .0)))
     (ap view e ∙ view-unjoined p k (r .0) (omega arith) (omega arith) (omega arith) (omega arith))

@@ -21,17 +21,17 @@ returns : tie.Need-returns
 returns c = states-out (c .before .before .args .plan) (sym (c .before .state-count-ok .ensures) ∙ not-true _ (c .if1 .taken))
 
 returns-2 : tie.Need-returns-2
-returns-2 c = 
+returns-2 c =
     let s = sym (c .before .before .state-count-ok .ensures) ∙ not-false _ (c .before .if1 .left) in
     count-out (c .before .before .before .args .plan) s (lt-leb _ _ (c .if2 .taken))
 
 marks-within-requires : tie.Need-marks-within-requires
-marks-within-requires c κs = 
+marks-within-requires c κs =
     let s = sym (c .before .before .before .before .state-count-ok .ensures) ∙ not-false _ (c .before .before .before .if1 .left) in
     leb-true (c .before .before .before .before .before .args .plan .states) 512 (and-true (leb 1 (c .before .before .before .before .before .args .plan .states)) (leb (c .before .before .before .before .before .args .plan .states) 512) s .1)
 
 returns-3 : tie.Need-returns-3
-returns-3 c = 
+returns-3 c =
     let s = sym (c .before .before .before .before .before .before .state-count-ok .ensures) ∙ not-false _ (c .before .before .before .before .before .if1 .left) in
     marks-out (c .before .before .before .before .before .before .before .args .plan) s (le-leb _ _ (c .before .before .before .before .if2 .left)) (sym (c .before .marks-within .ensures) ∙ not-true _ (c .if3 .taken))
 
@@ -39,7 +39,7 @@ transitions-within-requires : tie.Need-transitions-within-requires
 transitions-within-requires c κs = search needs
 
 returns-4 : tie.Need-returns-4
-returns-4 c = 
+returns-4 c =
     let s = sym (c .before .before .before .before .before .before .before .before .before .before .before .before .before .before .before .state-count-ok .ensures) ∙ not-false _ (c .before .before .before .before .before .before .before .before .before .before .before .before .before .before .if1 .left) in
     c .transitions-within .ensures
     ∙ transitions-left (c .before .before .before .before .before .before .before .before .before .before .before .before .before .before .before .before .args .plan) s (le-leb _ _ (c .before .before .before .before .before .before .before .before .before .before .before .before .before .if2 .left)) (sym (c .before .before .before .before .before .before .before .before .before .before .marks-within .ensures) ∙ not-false _ (c .before .before .before .before .before .before .before .before .before .if3 .left))

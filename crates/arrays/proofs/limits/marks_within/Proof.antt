@@ -40,7 +40,7 @@ loop-again : tie.Need-loop-again Inv-loop μ-loop
 loop-again c = (omega arith, below-more _ _ (c .before .before .before .loop .inv .1) (le-leb _ _ (c .if1 .left)))
 
 returns-2 : tie.Need-returns-2 Inv-loop μ-loop
-returns-2 c = 
+returns-2 c =
     let a = c .before .before .args in
     let l = c .before .loop in
     sym (all-tabulate marksOk (a .n) (λ k. getD (a .marks .now) k 0) (λ k h. l .inv .1 k (omega arith)))

@@ -58,17 +58,17 @@ durations-ok-requires : tie.Need-durations-ok-requires
 durations-ok-requires c κs = search needs
 
 returns : tie.Need-returns
-returns c = 
+returns c =
     let a = c .before .before .before .before .before .before .before .before .before .before .before .args in
     let e : (ltb (getD (a .from .now) (a .i) 0) (a .n) && ltb (getD (a .to .now) (a .i) 0) (a .n)) ≡ true =
-        ap₂ (λ (x y : ℕ). ltb x (a .n) && ltb y (a .n)) (sym (c .before .before .before .before .before .before .before .before .before .wide .ensures)) (sym (c .before .before .before .before .before .before .before .wide2 .ensures)) ∙ sym (c .before .before .before .before .before .before .ends-ok .ensures) ∙ c .before .before .before .before .before .if1 .taken in
+    ap₂ (λ (x y : ℕ). ltb x (a .n) && ltb y (a .n)) (sym (c .before .before .before .before .before .before .before .before .before .wide .ensures)) (sym (c .before .before .before .before .before .before .before .wide2 .ensures)) ∙ sym (c .before .before .before .before .before .before .ends-ok .ensures) ∙ c .before .before .before .before .before .if1 .taken in
     rw e (c .durations-ok .ensures ∙ ap₂ (λ (x y : ℕ). leb x y && leb y 2047) (c .before .before .before .wide3 .ensures) (c .before .wide4 .ensures))
 
 returns-2 : tie.Need-returns-2
-returns-2 c = 
+returns-2 c =
     let a = c .before .before .before .before .before .before .args in
     let e : (ltb (getD (a .from .now) (a .i) 0) (a .n) && ltb (getD (a .to .now) (a .i) 0) (a .n)) ≡ false =
-        ap₂ (λ (x y : ℕ). ltb x (a .n) && ltb y (a .n)) (sym (c .before .before .before .before .wide .ensures)) (sym (c .before .before .wide2 .ensures)) ∙ sym (c .before .ends-ok .ensures) ∙ c .if1 .left in
+    ap₂ (λ (x y : ℕ). ltb x (a .n) && ltb y (a .n)) (sym (c .before .before .before .before .wide .ensures)) (sym (c .before .before .wide2 .ensures)) ∙ sym (c .before .ends-ok .ensures) ∙ c .if1 .left in
     rw e
 
 pub transition-within-spec : {M : Type 1} → statement M

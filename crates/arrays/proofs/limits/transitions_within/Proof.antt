@@ -31,7 +31,7 @@ transition-within-requires : tie.Need-transition-within-requires Inv-loop μ-loo
 transition-within-requires c κs = omega arith
 
 returns : tie.Need-returns Inv-loop μ-loop
-returns c = 
+returns c =
     let a = c .before .before .before .before .args in
     let i = c .before .before .before .loop .i in
     sym (not-all-tabulate (transitionOk (a .n)) (a .m) (transitionOf (a .from .now) (a .to .now) (a .low .now) (a .high .now)) i (omega arith)
@@ -47,7 +47,7 @@ loop-again : tie.Need-loop-again Inv-loop μ-loop
 loop-again c = (omega arith, below-more _ _ (c .before .before .before .loop .inv .1) (sym (c .before .transition-within .ensures) ∙ not-false _ (c .if1 .left)))
 
 returns-2 : tie.Need-returns-2 Inv-loop μ-loop
-returns-2 c = 
+returns-2 c =
     let a = c .before .before .args in
     let l = c .before .loop in
     sym (all-tabulate (transitionOk (a .n)) (a .m) (transitionOf (a .from .now) (a .to .now) (a .low .now) (a .high .now)) (λ k h. l .inv .1 k (omega arith)))

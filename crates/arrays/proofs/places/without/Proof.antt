@@ -20,12 +20,15 @@ abbrev μ-loop : tie.MeasureT-loop
 μ-loop number m next₀ i₀ next i = m - i
 
 loop-holds : tie.Need-loop-holds Inv-loop μ-loop
-loop-holds c = 
+loop-holds c =
     let a = c .args in
-    let e : 0 ≡ a .number - a .number = omega arith in
-    (search needs, omega arith, search needs
-    , paste-zero (a .places) (a .number) (drop (suc (a .number)) (a .places))
-      ∙ ap (λ (k : ℕ). paste (a .places) (a .number) (drop (suc (a .number)) (a .places)) k) e)
+    let e : 0 ≡ a .number - a .number = omega arith in (
+      search needs,
+      omega arith,
+      search needs,
+      paste-zero (a .places) (a .number) (drop (suc (a .number)) (a .places))
+          ∙ ap (λ (k : ℕ). paste (a .places) (a .number) (drop (suc (a .number)) (a .places)) k) e,
+    )
 
 sub-loop : tie.Need-sub-loop Inv-loop μ-loop
 sub-loop c = omega arith
@@ -52,15 +55,18 @@ loop-less : tie.Need-loop-less Inv-loop μ-loop
 loop-less c = omega arith
 
 loop-again : tie.Need-loop-again Inv-loop μ-loop
-loop-again c = 
+loop-again c =
     let a = c .before .before .args in
     let l = c .before .loop in
-    let h : length (a .places) ≡ 2048 = search needs in
-    (omega arith, omega arith, length-set (l .next) (l .i) _ ∙ l .inv .2
-    , moved-turn (a .places) (l .next) (a .number) (l .i) (l .inv .0) (omega arith) (l .inv .3))
+    let h : length (a .places) ≡ 2048 = search needs in (
+      omega arith,
+      omega arith,
+      length-set (l .next) (l .i) _ ∙ l .inv .2,
+      moved-turn (a .places) (l .next) (a .number) (l .i) (l .inv .0) (omega arith) (l .inv .3),
+    )
 
 returns : tie.Need-returns Inv-loop μ-loop
-returns c = 
+returns c =
     let a = c .before .before .args in
     let l = c .before .loop in
     let e : l .i - a .number ≡ a .m - suc (a .number) = omega arith in

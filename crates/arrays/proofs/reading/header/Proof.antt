@@ -29,7 +29,7 @@ word-requires c κs = search needs
 
 returns-2 : tie.Need-returns-2
 unfolding headerRule
-returns-2 c = 
+returns-2 c =
     let os = c .before .before .before .before .args .octets .now in
     let a : ltb (length os) 4 ≡ false = le-ltb (length os) 4 (c .before .before .if1 .left) in
     let v : eqb (versionOf os) 1 ≡ false = ne-eqb (versionOf os) 1 (λ e. c .if2 .taken (c .before .word .ensures ∙ e)) in
@@ -43,7 +43,7 @@ state-count-ok-requires c κs = search needs
 
 returns-3 : tie.Need-returns-3
 unfolding headerRule
-returns-3 c = 
+returns-3 c =
     let os = c .before .before .before .before .before .before .before .args .octets .now in
     let a : ltb (length os) 4 ≡ false = le-ltb (length os) 4 (c .before .before .before .before .before .if1 .left) in
     let v : eqb (versionOf os) 1 ≡ true = eq-eqb (versionOf os) 1 (sym (c .before .before .before .before .word .ensures) ∙ c .before .before .before .if2 .left) in
@@ -55,7 +55,7 @@ transition-count-requires c κs = search needs
 
 returns-4 : tie.Need-returns-4
 unfolding headerRule
-returns-4 c = 
+returns-4 c =
     let os = c .before .before .before .before .before .before .before .before .before .args .octets .now in
     let a : ltb (length os) 4 ≡ false = le-ltb (length os) 4 (c .before .before .before .before .before .before .before .if1 .left) in
     let v : eqb (versionOf os) 1 ≡ true = eq-eqb (versionOf os) 1 (sym (c .before .before .before .before .before .before .word .ensures) ∙ c .before .before .before .before .before .if2 .left) in
@@ -68,7 +68,7 @@ word-requires-2 c κs = search needs
 
 returns-5 : tie.Need-returns-5
 unfolding headerRule
-returns-5 c = 
+returns-5 c =
     let os = c .before .before .before .before .before .before .before .before .before .before .before .args .octets .now in
     let a : ltb (length os) 4 ≡ false = le-ltb (length os) 4 (c .before .before .before .before .before .before .before .before .before .if1 .left) in
     let v : eqb (versionOf os) 1 ≡ true = eq-eqb (versionOf os) 1 (sym (c .before .before .before .before .before .before .before .before .word .ensures) ∙ c .before .before .before .before .before .before .before .if2 .left) in
@@ -78,26 +78,26 @@ returns-5 c =
     rw (a, v, s, t, p)
 
 add-needed : tie.Need-add-needed
-add-needed c = 
+add-needed c =
     let n = c .before .before .before .before .before .before .state-count .result in
     let s : stateCountOk n ≡ true = sym (c .before .before .before .before .before .state-count-ok .ensures) ∙ not-false _ (c .before .before .before .before .if3 .left) in
     omega (arith, leb-true n 512 (and-true (leb 1 n) (leb n 512) s .1))
 
 mul-needed : tie.Need-mul-needed
-mul-needed c = 
+mul-needed c =
     let n = c .before .before .before .before .before .before .state-count .result in
     let s : stateCountOk n ≡ true = sym (c .before .before .before .before .before .state-count-ok .ensures) ∙ not-false _ (c .before .before .before .before .if3 .left) in
     omega (arith, leb-true n 512 (and-true (leb 1 n) (leb n 512) s .1))
 
 add-needed-2 : tie.Need-add-needed-2
-add-needed-2 c = 
+add-needed-2 c =
     let n = c .before .before .before .before .before .before .state-count .result in
     let s : stateCountOk n ≡ true = sym (c .before .before .before .before .before .state-count-ok .ensures) ∙ not-false _ (c .before .before .before .before .if3 .left) in
     omega (arith, leb-true n 512 (and-true (leb 1 n) (leb n 512) s .1))
 
 returns-6 : tie.Need-returns-6
 unfolding headerRule
-returns-6 c = 
+returns-6 c =
     let os = c .before .before .before .before .before .before .before .before .before .before .before .before .args .octets .now in
     let a : ltb (length os) 4 ≡ false = le-ltb (length os) 4 (c .before .before .before .before .before .before .before .before .before .before .if1 .left) in
     let v : eqb (versionOf os) 1 ≡ true = eq-eqb (versionOf os) 1 (sym (c .before .before .before .before .before .before .before .before .before .word .ensures) ∙ c .before .before .before .before .before .before .before .before .if2 .left) in
@@ -110,7 +110,7 @@ returns-6 c =
 
 returns-7 : tie.Need-returns-7
 unfolding headerRule
-returns-7 c = 
+returns-7 c =
     let os = c .before .before .before .before .before .before .before .before .before .before .before .before .before .args .octets .now in
     let a : ltb (length os) 4 ≡ false = le-ltb (length os) 4 (c .before .before .before .before .before .before .before .before .before .before .before .if1 .left) in
     let v : eqb (versionOf os) 1 ≡ true = eq-eqb (versionOf os) 1 (sym (c .before .before .before .before .before .before .before .before .before .before .word .ensures) ∙ c .before .before .before .before .before .before .before .before .before .if2 .left) in
@@ -124,7 +124,7 @@ returns-7 c =
 
 returns-8 : tie.Need-returns-8
 unfolding headerRule
-returns-8 c = 
+returns-8 c =
     let os = c .before .before .before .before .before .before .before .before .before .before .before .before .before .args .octets .now in
     let a : ltb (length os) 4 ≡ false = le-ltb (length os) 4 (c .before .before .before .before .before .before .before .before .before .before .before .if1 .left) in
     let v : eqb (versionOf os) 1 ≡ true = eq-eqb (versionOf os) 1 (sym (c .before .before .before .before .before .before .before .before .before .before .word .ensures) ∙ c .before .before .before .before .before .before .before .before .before .if2 .left) in

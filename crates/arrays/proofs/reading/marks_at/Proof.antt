@@ -32,7 +32,7 @@ take-requires-3 : tie.Need-take-requires-3
 take-requires-3 c κs = within-part (c .before .before .before .args .octets .now) (c .before .before .before .args .at) 8 2 1 (c .before .before .before .pre) (omega arith) (omega arith)
 
 mul-result : tie.Need-mul-result
-mul-result c = 
+mul-result c =
     let a = c .before .before .before .before .args in
     let h0 : c .before .before .take .result < 2 = rw (c .before .before .take .ensures) (field-lt (a .octets .now) (a .at) 1) in
     let h1 : c .before .take2 .result < 2 = rw (c .before .take2 .ensures) (field-lt (a .octets .now) (a .at + 1) 1) in
@@ -40,7 +40,7 @@ mul-result c =
     omega arith
 
 mul-result-2 : tie.Need-mul-result-2
-mul-result-2 c = 
+mul-result-2 c =
     let a = c .before .before .before .before .args in
     let h0 : c .before .before .take .result < 2 = rw (c .before .before .take .ensures) (field-lt (a .octets .now) (a .at) 1) in
     let h1 : c .before .take2 .result < 2 = rw (c .before .take2 .ensures) (field-lt (a .octets .now) (a .at + 1) 1) in
@@ -48,7 +48,7 @@ mul-result-2 c =
     omega arith
 
 add-result : tie.Need-add-result
-add-result c = 
+add-result c =
     let a = c .before .before .before .before .args in
     let h0 : c .before .before .take .result < 2 = rw (c .before .before .take .ensures) (field-lt (a .octets .now) (a .at) 1) in
     let h1 : c .before .take2 .result < 2 = rw (c .before .take2 .ensures) (field-lt (a .octets .now) (a .at + 1) 1) in
@@ -56,7 +56,7 @@ add-result c =
     omega arith
 
 add-result-2 : tie.Need-add-result-2
-add-result-2 c = 
+add-result-2 c =
     let a = c .before .before .before .before .args in
     let h0 : c .before .before .take .result < 2 = rw (c .before .before .take .ensures) (field-lt (a .octets .now) (a .at) 1) in
     let h1 : c .before .take2 .result < 2 = rw (c .before .take2 .ensures) (field-lt (a .octets .now) (a .at + 1) 1) in
@@ -64,7 +64,7 @@ add-result-2 c =
     omega arith
 
 cast-result : tie.Need-cast-result
-cast-result c = 
+cast-result c =
     let a = c .before .before .before .before .args in
     let h0 : c .before .before .take .result < 2 = rw (c .before .before .take .ensures) (field-lt (a .octets .now) (a .at) 1) in
     let h1 : c .before .take2 .result < 2 = rw (c .before .take2 .ensures) (field-lt (a .octets .now) (a .at + 1) 1) in

@@ -48,7 +48,7 @@ word-requires c κs = record { some = omega arith; most = omega arith; inside = 
 
 returns : tie.Need-returns Inv-loop μ-loop
 unfolding statesIn
-returns c = 
+returns c =
     let os = c .before .before .before .before .before .args .octets .now in
     let l = c .before .before .before .loop in
     let s : eqb (fieldAt os (statePlace (l .i) + 3) 5) 0 ≡ false = ne-eqb _ 0 (λ e. c .if1 .taken (c .before .word .ensures ∙ e)) in
@@ -67,22 +67,23 @@ loop-less : tie.Need-loop-less Inv-loop μ-loop
 loop-less c = omega arith
 
 loop-again : tie.Need-loop-again Inv-loop μ-loop
-loop-again c = 
+loop-again c =
     let os = c .before .before .before .before .before .before .args .octets .now in
     let l = c .before .before .before .before .loop in
     let s : eqb (fieldAt os (statePlace (l .i) + 3) 5) 0 ≡ true = eq-eqb _ 0 (sym (c .before .before .word .ensures) ∙ c .before .if1 .left) in
     let v = c .marks-at .result in
     let r : length (l .marks) ≡ length (c .before .before .before .before .before .before .args .marks .now) = l .inv .1 in
-    let here : getD (set (l .marks) (l .i) v) (l .i) 0 ≡ v = getD-set-same (l .marks) (l .i) v 0 (omega arith) in
-    (omega arith
-    , length-set (l .marks) (l .i) v ∙ l .inv .1
-    , below-more _ _
-      (λ k h. l .inv .2 k h ∙ ap {B = Result ℕ} (λ (x : ℕ). accepted x) (sym (getD-set-other (l .marks) (l .i) k v 0 (omega arith))))
-      (rw (s, here, c .marks-at .ensures)))
+    let here : getD (set (l .marks) (l .i) v) (l .i) 0 ≡ v = getD-set-same (l .marks) (l .i) v 0 (omega arith) in (
+      omega arith,
+      length-set (l .marks) (l .i) v ∙ l .inv .1,
+      below-more _ _
+          (λ k h. l .inv .2 k h ∙ ap {B = Result ℕ} (λ (x : ℕ). accepted x) (sym (getD-set-other (l .marks) (l .i) k v 0 (omega arith))))
+          (rw (s, here, c .marks-at .ensures)),
+    )
 
 returns-2 : tie.Need-returns-2 Inv-loop μ-loop
 unfolding statesIn
-returns-2 c = 
+returns-2 c =
     let os = c .before .before .before .args .octets .now in
     let l = c .before .loop in
     sym (collect-accepted (λ (k : ℕ). stateAt os (statePlace k)) (c .before .before .before .args .n) (λ (k : ℕ). getD (l .marks) k 0) (λ k h. l .inv .2 k (omega arith)))

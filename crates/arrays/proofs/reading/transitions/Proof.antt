@@ -29,7 +29,7 @@ use Rattle.arrays.proofs.limits.ends_ok.Reads as ends-ok-reads
 use Rattle.arrays.proofs.reading.transition_at.Reads as transition-at-reads
 
 abbrev Inv-loop : tie.InvT-loop
-Inv-loop octets n m from₀ to₀ low₀ high₀ i₀ from to low high i = 
+Inv-loop octets n m from₀ to₀ low₀ high₀ i₀ from to low high i =
     (i ≤ m) × (length from ≡ length from₀) × (length to ≡ length to₀) × (length low ≡ length low₀) × (length high ≡ length high₀)
     × ((k : ℕ) → k < i → checked n (transitionAt octets (transitionPlace n k)) ≡ accepted (transitionOf from to low high k))
 
@@ -59,7 +59,7 @@ ends-ok-requires c κs = tt
 
 returns : tie.Need-returns Inv-loop μ-loop
 unfolding transitionsIn
-returns c = 
+returns c =
     let a = c .before .before .before .before .before .before .args in
     let l = c .before .before .before .before .loop in
     let os = a .octets .now in
@@ -72,7 +72,7 @@ durations-ok-requires c κs = tt
 
 returns-2 : tie.Need-returns-2 Inv-loop μ-loop
 unfolding transitionsIn
-returns-2 c = 
+returns-2 c =
     let a = c .before .before .before .before .before .before .before .before .args in
     let l = c .before .before .before .before .before .before .loop in
     let os = a .octets .now in
@@ -130,7 +130,7 @@ loop-less : tie.Need-loop-less Inv-loop μ-loop
 loop-less c = omega arith
 
 loop-again : tie.Need-loop-again Inv-loop μ-loop
-loop-again c = 
+loop-again c =
     let a = c .before .before .before .before .before .before .before .before .before .before .before .before .args in
     let l = c .before .before .before .before .before .before .before .before .before .before .loop in
     let os = a .octets .now in
@@ -139,22 +139,23 @@ loop-again c =
     let d : durationsOk t ≡ true = ap durationsOk (sym (c .before .before .before .before .before .before .before .before .transition-at .ensures)) ∙ sym (c .before .before .before .before .before .durations-ok .ensures) ∙ not-false _ (c .before .before .before .before .if2 .left) in
     let r = c .before .before .before .before .before .before .before .before .transition-at .result in
     let here : transitionOf (set (l .from) (l .i) (r .from)) (set (l .to) (l .i) (r .to)) (set (l .low) (l .i) (r .low)) (set (l .high) (l .i) (r .high)) (l .i) ≡ t =
-        transition-here (l .from) (l .to) (l .low) (l .high) (l .i) (r .from) (r .to) (r .low) (r .high) (omega arith) (omega arith) (omega arith) (omega arith)
-        ∙ c .before .before .before .before .before .before .before .before .transition-at .ensures in
-    (omega arith
-    , length-set (l .from) (l .i) (r .from) ∙ l .inv .1
-    , length-set (l .to) (l .i) (r .to) ∙ l .inv .2
-    , length-set (l .low) (l .i) (r .low) ∙ l .inv .3
-    , length-set (l .high) (l .i) (r .high) ∙ l .inv .4
-    , below-more _ _
-      (λ k h. l .inv .5 k h
-        ∙ ap {B = Result Transition} (λ (x : Transition). accepted x)
+    transition-here (l .from) (l .to) (l .low) (l .high) (l .i) (r .from) (r .to) (r .low) (r .high) (omega arith) (omega arith) (omega arith) (omega arith)
+    ∙ c .before .before .before .before .before .before .before .before .transition-at .ensures in (
+      omega arith,
+      length-set (l .from) (l .i) (r .from) ∙ l .inv .1,
+      length-set (l .to) (l .i) (r .to) ∙ l .inv .2,
+      length-set (l .low) (l .i) (r .low) ∙ l .inv .3,
+      length-set (l .high) (l .i) (r .high) ∙ l .inv .4,
+      below-more _ _
+          (λ k h. l .inv .5 k h
+          ∙ ap {B = Result Transition} (λ (x : Transition). accepted x)
           (sym (transition-other (l .from) (l .to) (l .low) (l .high) (l .i) (r .from) (r .to) (r .low) (r .high) k (omega arith))))
-      (rw (e, d) (ap {B = Result Transition} (λ (x : Transition). accepted x) (sym here))))
+          (rw (e, d) (ap {B = Result Transition} (λ (x : Transition). accepted x) (sym here))),
+    )
 
 returns-3 : tie.Need-returns-3 Inv-loop μ-loop
 unfolding transitionsIn
-returns-3 c = 
+returns-3 c =
     let a = c .before .before .before .args in
     let l = c .before .loop in
     let os = a .octets .now in

@@ -36,7 +36,7 @@ same-length : tie.Need-same-length
 same-length c = search needs
 
 returns : tie.Need-returns
-returns c = 
+returns c =
     let a = c .before .before .before .before .before .before .before .before .before .before .before .before .before .before .before .before .before .args in
     c .before .before .put4 .ensures ∙ ap (λ (b : List ℕ). withField b (26) 6 (0)) (c .before .before .before .before .before .before .put3 .ensures ∙ ap (λ (b : List ℕ). withField b (14) 12 (a .m)) (c .before .before .before .before .before .before .before .before .before .before .put2 .ensures ∙ ap (λ (b : List ℕ). withField b (4) 10 (a .n)) (c .before .before .before .before .before .before .before .before .before .before .before .before .before .before .put .ensures)))
     ∙ putAll-four (a .buffer .now) 0 4 1 10 (a .n) 12 (a .m) 6 0

@@ -48,7 +48,7 @@ same-length : tie.Need-same-length
 same-length c = search needs
 
 returns : tie.Need-returns
-returns c = 
+returns c =
     let a = c .before .before .before .before .before .before .before .before .before .before .before .before .before .before .before .before .before .args in
     c .before .before .put4 .ensures ∙ ap (λ (b : List ℕ). withField b (a .at + 3) 5 (0)) (c .before .before .before .before .before .before .put3 .ensures ∙ ap (λ (b : List ℕ). withField b (a .at + 2) 1 (a .value % 2)) (c .before .before .before .before .before .before .before .before .before .before .put2 .ensures ∙ ap (λ (b : List ℕ). withField b (a .at + 1) 1 (a .value / 2 % 2)) (c .before .before .before .before .before .before .before .before .before .before .before .before .before .before .put .ensures)))
     ∙ putAll-four (a .buffer .now) (a .at) 1 (a .value / 4 % 2) 1 (a .value / 2 % 2) 1 (a .value % 2) 5 0

@@ -48,20 +48,21 @@ loop-less : tie.Need-loop-less Inv-loop μ-loop
 loop-less c = omega arith
 
 loop-again : tie.Need-loop-again Inv-loop μ-loop
-loop-again c = 
+loop-again c =
     let a = c .before .before .before .before .before .before .before .before .args in
     let l = c .before .before .before .before .before .before .loop in
-    let v = getD (a .marks .now) (l .i) 0 in
-    (omega arith
-    , ap length (c .before .before .state .ensures) ∙ length-putAll (stateFields v) (l .buffer) (32 + 8 * l .i) ∙ l .inv .1
-    , c .before .before .state .ensures ∙ ap (λ (b : List ℕ). putAll b (32 + 8 * l .i) (stateFields v)) (l .inv .2)
-      ∙ put-more stateFields 8 state-width (a .buffer .now) 32 (l .i) (λ (k : ℕ). getD (a .marks .now) k 0))
+    let v = getD (a .marks .now) (l .i) 0 in (
+      omega arith,
+      ap length (c .before .before .state .ensures) ∙ length-putAll (stateFields v) (l .buffer) (32 + 8 * l .i) ∙ l .inv .1,
+      c .before .before .state .ensures ∙ ap (λ (b : List ℕ). putAll b (32 + 8 * l .i) (stateFields v)) (l .inv .2)
+          ∙ put-more stateFields 8 state-width (a .buffer .now) 32 (l .i) (λ (k : ℕ). getD (a .marks .now) k 0),
+    )
 
 same-length : tie.Need-same-length Inv-loop μ-loop
 same-length c = c .before .loop .inv .1
 
 returns : tie.Need-returns Inv-loop μ-loop
-returns c = 
+returns c =
     let a = c .before .before .before .args in
     let l = c .before .loop in
     let e : l .i ≡ a .n = omega arith in

@@ -84,7 +84,7 @@ same-length : tie.Need-same-length
 same-length c = search needs
 
 returns : tie.Need-returns
-returns c = 
+returns c =
     let a = c .before .before .before .before .before .before .before .before .before .before .before .before .before .before .before .before .before .before .before .before .before .args in
     c .before .before .put4 .ensures ∙ ap (λ (b : List ℕ). withField b (a .at + 29) 11 (getD (a .high .now) (a .i) 0)) (c .before .before .before .before .before .before .before .put3 .ensures ∙ ap (λ (b : List ℕ). withField b (a .at + 18) 11 (getD (a .low .now) (a .i) 0)) (c .before .before .before .before .before .before .before .before .before .before .before .before .put2 .ensures ∙ ap (λ (b : List ℕ). withField b (a .at + 9) 9 (getD (a .to .now) (a .i) 0)) (c .before .before .before .before .before .before .before .before .before .before .before .before .before .before .before .before .before .put .ensures)))
     ∙ putAll-four (a .buffer .now) (a .at) 9 (getD (a .from .now) (a .i) 0) 9 (getD (a .to .now) (a .i) 0) 11 (getD (a .low .now) (a .i) 0) 11 (getD (a .high .now) (a .i) 0)

@@ -42,12 +42,13 @@ add-transition-2 : tie.Need-add-transition-2 Inv-loop μ-loop
 add-transition-2 c = omega arith
 
 transition-requires : tie.Need-transition-requires Inv-loop μ-loop
-transition-requires c κs = 
+transition-requires c κs =
     let a = c .before .before .before .before .args in
     let l = c .before .before .loop in
-    let f = transitionOf (a .from .now) (a .to .now) (a .low .now) (a .high .now) in
-    ((omega arith, omega arith, omega arith)
-    , transition-fits (a .n) (f (l .i)) (omega arith) (all-at (transitionOk (a .n)) (a .m) f (c .before .before .before .before .pre .1) (l .i) (omega arith)))
+    let f = transitionOf (a .from .now) (a .to .now) (a .low .now) (a .high .now) in (
+      (omega arith, omega arith, omega arith),
+      transition-fits (a .n) (f (l .i)) (omega arith) (all-at (transitionOk (a .n)) (a .m) f (c .before .before .before .before .pre .1) (l .i) (omega arith)),
+    )
 
 add-i : tie.Need-add-i Inv-loop μ-loop
 add-i c = omega arith
@@ -56,20 +57,21 @@ loop-less : tie.Need-loop-less Inv-loop μ-loop
 loop-less c = omega arith
 
 loop-again : tie.Need-loop-again Inv-loop μ-loop
-loop-again c = 
+loop-again c =
     let a = c .before .before .before .before .before .before .before .args in
     let l = c .before .before .before .before .before .loop in
-    let f = transitionOf (a .from .now) (a .to .now) (a .low .now) (a .high .now) in
-    (omega arith
-    , ap length (c .before .before .transition .ensures) ∙ length-putAll (transitionFields (f (l .i))) (l .buffer) (32 + 8 * a .n + 40 * l .i) ∙ l .inv .1
-    , c .before .before .transition .ensures ∙ ap (λ (b : List ℕ). putAll b (32 + 8 * a .n + 40 * l .i) (transitionFields (f (l .i)))) (l .inv .2)
-      ∙ put-more transitionFields 40 transition-width (a .buffer .now) (32 + 8 * a .n) (l .i) f)
+    let f = transitionOf (a .from .now) (a .to .now) (a .low .now) (a .high .now) in (
+      omega arith,
+      ap length (c .before .before .transition .ensures) ∙ length-putAll (transitionFields (f (l .i))) (l .buffer) (32 + 8 * a .n + 40 * l .i) ∙ l .inv .1,
+      c .before .before .transition .ensures ∙ ap (λ (b : List ℕ). putAll b (32 + 8 * a .n + 40 * l .i) (transitionFields (f (l .i)))) (l .inv .2)
+          ∙ put-more transitionFields 40 transition-width (a .buffer .now) (32 + 8 * a .n) (l .i) f,
+    )
 
 same-length : tie.Need-same-length Inv-loop μ-loop
 same-length c = c .before .loop .inv .1
 
 returns : tie.Need-returns Inv-loop μ-loop
-returns c = 
+returns c =
     let a = c .before .before .before .args in
     let l = c .before .loop in
     let e : l .i ≡ a .m = omega arith in
