@@ -1,0 +1,68 @@
+-- `binding::callplan_fresh` meets its contract: what the plan's own call promises, on the slices.
+-- Assumes nothing.
+use Prim.Native.Nat.{ℕ, _+_, _≤_}
+use mathlib.Core.Bool.{Bool, true, false}
+use mathlib.Core.List.{List}
+use mathlib.Core.Path.{_≡_, refl, sym, ap, _∙_, subst}
+use native.Mathlib.Omega.{arith}
+use borrow.Author.Needs.{needs}
+use borrow.Author.Tests.{not-true, not-false}
+use lib.ListN.{length}
+use lib.Seq.{paste}
+use Rattle.plan.specs.declared.Plan.{Plan}
+use Rattle.plan.specs.declared.Edited.{Edited}
+use Rattle.plan.specs.Promise.{Edit}
+use Rattle.plan.specs.View.{view, noPlan}
+use Rattle.rules.specs.declared.Answer.{Answer}
+use Rattle.rules.specs.Rules.{freshRule, markRule, joinRule, unjoinRule, readRule}
+use Rattle.arrays.specs.Tables.{transition}
+use Rattle.binding.specs.Lent.{Slices, slices, planIn, hasRoom, Finished, LentEdit}
+use Rattle.binding.proofs.Stores.{Sized, stored, has-room, too-short, finished}
+use Rattle.binding.proofs.callplan_fresh.Statement.{statement}
+use Rattle.binding.proofs.callplan_fresh.Tie as tie
+use Rattle.binding.proofs.callplan_fresh.Reads as reads
+use Rattle.binding.proofs.callplan_fresh.Lts as lts
+use Rattle.binding.proofs.finish.Reads as finish-reads
+use Rattle.binding.proofs.has_room.Reads as has-room-reads
+use Rattle.plan.proofs.fresh.Reads as fresh-reads
+
+has-room-requires : tie.Need-has-room-requires
+has-room-requires c κs = search needs
+
+returns : tie.Need-returns
+returns c =
+    let a = c .before .before .before .before .before .args in
+    too-short (slices (a .counts .now) (a .marks .now) (a .fields .now)) (freshRule (a .n)) (sym (c .before .has-room .ensures) ∙ not-true _ (c .if1 .taken))
+
+fresh-requires : tie.Need-fresh-requires
+fresh-requires c κs = search needs
+
+finish-requires : tie.Need-finish-requires
+finish-requires c κs = has-room (c .before .before .before .before .before .before .before .before .before .args .counts .now) (c .before .before .before .before .before .before .before .before .before .args .marks .now) (c .before .before .before .before .before .before .before .before .before .args .fields .now) (sym (c .before .before .before .before .before .has-room .ensures) ∙ not-false _ (c .before .before .before .before .if1 .left))
+
+same-length : tie.Need-same-length
+same-length c = search needs
+
+same-length-2 : tie.Need-same-length-2
+same-length-2 c = search needs
+
+same-length-3 : tie.Need-same-length-3
+same-length-3 c = search needs
+
+returns-2 : tie.Need-returns-2
+returns-2 c =
+    let a = c .before .before .before .before .before .before .before .before .before .before .before .before .before .before .before .before .args in
+    finished noPlan (slices (a .counts .now) (a .marks .now) (a .fields .now)) _ (freshRule (a .n)) (c .before .before .before .before .before .before .before .before .before .before .fresh .result) (c .before .before .before .before .before .before .finish .result) (sym (c .before .before .before .before .before .before .before .before .before .before .before .before .has-room .ensures) ∙ not-false _ (c .before .before .before .before .before .before .before .before .before .before .before .if1 .left)) (c .before .before .before .before .before .before .before .before .before .before .fresh .ensures) (c .before .before .before .before .before .before .finish .ensures)
+
+pub callplan-fresh-spec : {M : Type 1} → statement M
+callplan-fresh-spec =
+    tie.close
+    (tie.spec
+    has-room-requires
+    returns
+    fresh-requires
+    finish-requires
+    same-length
+    same-length-2
+    same-length-3
+    returns-2)

@@ -1,0 +1,76 @@
+-- `binding::callplan_join` meets its contract: what the plan's own call promises, on the slices.
+-- Assumes nothing.
+use Prim.Native.Nat.{ℕ, _+_, _≤_}
+use mathlib.Core.Bool.{Bool, true, false}
+use mathlib.Core.List.{List}
+use mathlib.Core.Path.{_≡_, refl, sym, ap, _∙_, subst}
+use native.Mathlib.Omega.{arith}
+use borrow.Author.Needs.{needs}
+use borrow.Author.Tests.{not-true, not-false}
+use lib.ListN.{length}
+use lib.Seq.{paste}
+use Rattle.plan.specs.declared.Plan.{Plan}
+use Rattle.plan.specs.declared.Edited.{Edited}
+use Rattle.plan.specs.Promise.{Edit}
+use Rattle.plan.specs.View.{view, noPlan}
+use Rattle.rules.specs.declared.Answer.{Answer}
+use Rattle.rules.specs.Rules.{freshRule, markRule, joinRule, unjoinRule, readRule}
+use Rattle.arrays.specs.Tables.{transition}
+use Rattle.binding.specs.Lent.{Slices, slices, planIn, hasRoom, Finished, LentEdit}
+use Rattle.binding.proofs.Stores.{Sized, stored, has-room, too-short, finished}
+use Rattle.binding.proofs.callplan_join.Statement.{statement}
+use Rattle.binding.proofs.callplan_join.Tie as tie
+use Rattle.binding.proofs.callplan_join.Reads as reads
+use Rattle.binding.proofs.callplan_join.Lts as lts
+use Rattle.binding.proofs.finish.Reads as finish-reads
+use Rattle.binding.proofs.has_room.Reads as has-room-reads
+use Rattle.binding.proofs.load.Reads as load-reads
+use Rattle.plan.proofs.join.Reads as join-reads
+
+has-room-requires : tie.Need-has-room-requires
+has-room-requires c κs = search needs
+
+returns : tie.Need-returns
+returns c =
+    let a = c .before .before .before .before .before .args in
+    let q = planIn (slices (a .counts .now) (a .marks .now) (a .fields .now)) in
+    too-short (slices (a .counts .now) (a .marks .now) (a .fields .now)) (joinRule (view q) (transition (a .from) (a .to) (a .low) (a .high))) (sym (c .before .has-room .ensures) ∙ not-true _ (c .if1 .taken))
+
+load-requires : tie.Need-load-requires
+load-requires c κs = has-room (c .before .before .before .before .before .before .before .before .args .counts .now) (c .before .before .before .before .before .before .before .before .args .marks .now) (c .before .before .before .before .before .before .before .before .args .fields .now) (sym (c .before .before .before .before .has-room .ensures) ∙ not-false _ (c .before .before .before .if1 .left))
+
+join-requires : tie.Need-join-requires
+join-requires c κs = search needs
+
+finish-requires : tie.Need-finish-requires
+finish-requires c κs = has-room (c .before .before .before .before .before .before .before .before .before .before .before .before .before .args .counts .now) (c .before .before .before .before .before .before .before .before .before .before .before .before .before .args .marks .now) (c .before .before .before .before .before .before .before .before .before .before .before .before .before .args .fields .now) (sym (c .before .before .before .before .before .before .before .before .before .has-room .ensures) ∙ not-false _ (c .before .before .before .before .before .before .before .before .if1 .left))
+
+same-length : tie.Need-same-length
+same-length c = search needs
+
+same-length-2 : tie.Need-same-length-2
+same-length-2 c = search needs
+
+same-length-3 : tie.Need-same-length-3
+same-length-3 c = search needs
+
+returns-2 : tie.Need-returns-2
+returns-2 c =
+    let a = c .before .before .before .before .before .before .before .before .before .before .before .before .before .before .before .before .before .before .before .before .args in
+    let s : Slices = slices (a .counts .now) (a .marks .now) (a .fields .now) in
+    let x : Edit (planIn s) (joinRule (view (planIn s)) (transition (a .from) (a .to) (a .low) (a .high))) (c .before .before .before .before .before .before .before .before .before .before .join .result) = subst (λ (q : Plan). Edit q (joinRule (view q) (transition (a .from) (a .to) (a .low) (a .high))) (c .before .before .before .before .before .before .before .before .before .before .join .result)) (c .before .before .before .before .before .before .before .before .before .before .before .load .ensures) (c .before .before .before .before .before .before .before .before .before .before .join .ensures) in
+    finished (planIn s) s _ (joinRule (view (planIn s)) (transition (a .from) (a .to) (a .low) (a .high))) (c .before .before .before .before .before .before .before .before .before .before .join .result) (c .before .before .before .before .before .before .finish .result) (sym (c .before .before .before .before .before .before .before .before .before .before .before .before .before .before .before .before .has-room .ensures) ∙ not-false _ (c .before .before .before .before .before .before .before .before .before .before .before .before .before .before .before .if1 .left)) x (c .before .before .before .before .before .before .finish .ensures)
+
+pub callplan-join-spec : {M : Type 1} → statement M
+callplan-join-spec =
+    tie.close
+    (tie.spec
+    has-room-requires
+    returns
+    load-requires
+    join-requires
+    finish-requires
+    same-length
+    same-length-2
+    same-length-3
+    returns-2)

@@ -1,0 +1,72 @@
+-- `binding::finish` meets its contract: the answer says whether the plan is stored.
+-- Assumes nothing.
+use Prim.Native.Nat.{ℕ, _+_, _≤_}
+use mathlib.Core.Bool.{Bool, true, false}
+use mathlib.Core.List.{List}
+use mathlib.Core.Path.{_≡_, refl, sym, ap, _∙_, subst}
+use native.Mathlib.Omega.{arith}
+use borrow.Author.Needs.{needs}
+use borrow.Author.Tests.{not-true, not-false}
+use lib.ListN.{length}
+use lib.Seq.{paste}
+use Rattle.plan.specs.declared.Plan.{Plan}
+use Rattle.plan.specs.declared.Edited.{Edited}
+use Rattle.plan.specs.Promise.{Edit}
+use Rattle.plan.specs.View.{view, noPlan}
+use Rattle.rules.specs.declared.Answer.{Answer}
+use Rattle.rules.specs.Rules.{freshRule, markRule, joinRule, unjoinRule, readRule}
+use Rattle.arrays.specs.Tables.{transition}
+use Rattle.binding.specs.Lent.{Slices, slices, planIn, hasRoom, Finished, LentEdit}
+use Rattle.binding.proofs.Stores.{Sized, stored, has-room, too-short, finished}
+use Rattle.binding.proofs.finish.Statement.{statement}
+use Rattle.binding.proofs.finish.Tie as tie
+use Rattle.binding.proofs.finish.Reads as reads
+use Rattle.binding.proofs.finish.Lts as lts
+use Rattle.binding.proofs.number.Reads as number-reads
+use Rattle.binding.proofs.store.Reads as store-reads
+
+enum-told : tie.Need-enum-told
+enum-told c = search needs
+
+store-requires : tie.Need-store-requires
+store-requires c κs = search needs
+
+enum-known-answer : tie.Need-enum-known-answer
+enum-known-answer c = search needs
+
+number-requires : tie.Need-number-requires
+number-requires c κs = search needs
+
+same-length : tie.Need-same-length
+same-length c = search needs
+
+same-length-2 : tie.Need-same-length-2
+same-length-2 c = search needs
+
+same-length-3 : tie.Need-same-length-3
+same-length-3 c = search needs
+
+returns : tie.Need-returns
+returns c =
+    let a = c .before .before .before .before .before .before .before .before .before .before .before .before .before .before .before .before .args in
+    let e : a .edited .answer ≡ Answer.Accepted = c .before .before .before .before .before .before .before .before .before .before .before .enum-told .given .1 in
+    rw e (refl, c .before .before .before .before .before .before .store .ensures .0, c .before .before .before .before .before .before .store .ensures .1)
+
+returns-2 : tie.Need-returns-2
+returns-2 c =
+    let a = c .before .before .before .before .before .before .before .args in
+    rw (c .before .before .answer .given .1) (c .number .ensures, refl)
+
+pub finish-spec : {M : Type 1} → statement M
+finish-spec =
+    tie.close
+    (tie.spec
+    enum-told
+    store-requires
+    enum-known-answer
+    number-requires
+    same-length
+    same-length-2
+    same-length-3
+    returns
+    returns-2)

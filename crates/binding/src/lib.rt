@@ -1,0 +1,284 @@
+// The plan half for programs in other languages. A plan crosses as three lent slices: the two counts; the marks values, 512 places; and the
+// transitions' fields, 2,048 places each for from, to, low and high. A call answers a refusal by its number, 256 for accepted, and 255 where a
+// lent slice is too short for a plan; write answers 256 plus the image's length.
+ghost use mathlib.Core.Path.{_≡_};
+ghost use Prim.Native.Nat.{_+_, _≤_};
+ghost use mathlib.Core.List.{List};
+ghost use lib.ListN.{length, take, drop};
+ghost use lib.Seq.{paste};
+ghost use Rattle.arrays.specs.Tables.{transition};
+ghost use Rattle.rules.specs.Refusal.{number as numberOf};
+ghost use Rattle.plan.specs.View.{view};
+ghost use Rattle.rules.specs.Rules.{freshRule, markRule, joinRule, unjoinRule, readRule};
+ghost use Rattle.binding.specs.Lent.{Roomy, roomy, lentPlan, planIn, slices, Later, Finished, LentEdit, LentWrite};
+use plan::Edited;
+use plan::Plan;
+use plan::Written;
+use rules::Answer;
+use rules::Refusal;
+
+// Whether three lent slices have the places of a plan.
+fn has_room(counts: usize, marks: usize, fields: usize) -> bool
+    ensures { λ r. ⌜ r ≡ roomy counts marks fields ⌝ }
+{
+    if 2 <= counts {
+        if 512 <= marks { 8192 <= fields } else { false }
+    } else {
+        false
+    }
+}
+
+// The number of a refusal.
+fn number(refusal: Refusal) -> u32
+    ensures { λ r. ⌜ r ≡ numberOf refusal ⌝ }
+{
+    match refusal {
+        Refusal::PlanLimits => 0,
+        Refusal::ImageShort => 1,
+        Refusal::ImageLong => 2,
+        Refusal::Version => 3,
+        Refusal::StateCount => 4,
+        Refusal::TransitionCount => 5,
+        Refusal::SpareBits => 6,
+        Refusal::StateNumber => 7,
+        Refusal::Duration => 8,
+        Refusal::ListFull => 9,
+        Refusal::TransitionNumber => 10,
+        Refusal::BufferLength => 11,
+        Refusal::MarksValue => 12,
+        Refusal::FigureSize => 13,
+    }
+}
+
+// The first 512 octets of a slice, as an array.
+fn marks_of(places: &[u8]) -> [u8; 512]
+    requires { ⌜ 512 ≤ length (now places) ⌝ }
+    ensures { λ r. ⌜ r ≡ take 512 (now (places .entry)) ⌝ }
+{
+    let mut out = [0u8; 512];
+    let mut i = 0;
+    while i < 512 {
+        out[i] = places[i];
+        i += 1;
+    }
+    out
+}
+
+// The 2,048 numbers of a slice from a place on, as an array.
+fn field_of(places: &[u16], at: usize) -> [u16; 2048]
+    requires { ⌜ at + 2048 ≤ length (now places) ⌝ }
+    ensures { λ r. ⌜ r ≡ take 2048 (drop at (now (places .entry))) ⌝ }
+{
+    let mut out = [0u16; 2048];
+    let mut i = 0;
+    while i < 2048 {
+        out[i] = places[at + i];
+        i += 1;
+    }
+    out
+}
+
+// Puts 512 octets at the front of a slice.
+fn put_marks(places: &mut [u8], marks: [u8; 512])
+    requires { ⌜ 512 ≤ length (now places) ⌝ }
+    ensures { λ r. ⌜ now (places .exit) ≡ paste (now (places .entry)) 0 marks 512 ⌝ }
+{
+    let mut i = 0;
+    while i < 512 {
+        places[i] = marks[i];
+        i += 1;
+    }
+}
+
+// Puts 2,048 numbers into a slice, from a place on.
+fn put_field(places: &mut [u16], at: usize, field: [u16; 2048])
+    requires { ⌜ at + 2048 ≤ length (now places) ⌝ }
+    ensures { λ r. ⌜ now (places .exit) ≡ paste (now (places .entry)) at field 2048 ⌝ }
+{
+    let mut i = 0;
+    while i < 2048 {
+        places[at + i] = field[i];
+        i += 1;
+    }
+}
+
+// The plan value that three lent slices hold.
+fn load(counts: &[usize], marks: &[u8], fields: &[u16]) -> Plan
+    requires { ⌜ Roomy (now counts) (now marks) (now fields) ⌝ }
+    ensures { λ r. ⌜ r ≡ lentPlan (now (counts .entry)) (now (marks .entry)) (now (fields .entry)) ⌝ }
+{
+    Plan {
+        states: counts[0],
+        transitions: counts[1],
+        marks: marks_of(marks),
+        from: field_of(fields, 0),
+        to: field_of(fields, 2048),
+        low: field_of(fields, 4096),
+        high: field_of(fields, 6144),
+    }
+}
+
+// Stores a plan value in three lent slices.
+fn store(plan: Plan, counts: &mut [usize], marks: &mut [u8], fields: &mut [u16])
+    requires { ⌜ Roomy (now counts) (now marks) (now fields) ⌝ }
+    ensures { λ r. ⌜ (planIn (slices (now (counts .exit)) (now (marks .exit)) (now (fields .exit))) ≡ plan) × Later (slices (now (counts .entry)) (now (marks .entry)) (now (fields .entry))) (slices (now (counts .exit)) (now (marks .exit)) (now (fields .exit))) ⌝ }
+{
+    counts[0] = plan.states;
+    counts[1] = plan.transitions;
+    let states = plan.marks;
+    let from = plan.from;
+    let to = plan.to;
+    let low = plan.low;
+    let high = plan.high;
+    put_marks(marks, states);
+    put_field(fields, 0, from);
+    put_field(fields, 2048, to);
+    put_field(fields, 4096, low);
+    put_field(fields, 6144, high);
+}
+
+// Stores the plan of an accepted call, and gives the number of its answer.
+fn finish(edited: Edited, counts: &mut [usize], marks: &mut [u8], fields: &mut [u16]) -> u32
+    requires { ⌜ Roomy (now counts) (now marks) (now fields) ⌝ }
+    ensures { λ r. ⌜ Finished (edited .answer) (edited .plan) (slices (now (counts .entry)) (now (marks .entry)) (now (fields .entry))) (slices (now (counts .exit)) (now (marks .exit)) (now (fields .exit))) r ⌝ }
+{
+    let answer = edited.answer;
+    match answer {
+        Answer::Accepted => {
+            let plan = edited.plan;
+            store(plan, counts, marks, fields);
+            256
+        }
+        Answer::Refused(r) => number(r),
+    }
+}
+
+// A fresh plan with n states.
+#[no_mangle]
+pub extern "C" fn callplan_fresh(
+    n: usize,
+    counts: &mut [usize],
+    marks: &mut [u8],
+    fields: &mut [u16],
+) -> u32
+    ensures { λ r. ⌜ LentEdit (slices (now (counts .entry)) (now (marks .entry)) (now (fields .entry))) (slices (now (counts .exit)) (now (marks .exit)) (now (fields .exit))) (freshRule n) r ⌝ }
+{
+    if !has_room(counts.len(), marks.len(), fields.len()) {
+        return 255;
+    }
+    finish(plan::fresh(n), counts, marks, fields)
+}
+
+// Makes a state's marks value the value given.
+#[no_mangle]
+pub extern "C" fn callplan_mark(
+    counts: &mut [usize],
+    marks: &mut [u8],
+    fields: &mut [u16],
+    state: usize,
+    value: u32,
+) -> u32
+    ensures { λ r. ⌜ LentEdit (slices (now (counts .entry)) (now (marks .entry)) (now (fields .entry))) (slices (now (counts .exit)) (now (marks .exit)) (now (fields .exit))) (markRule (view (lentPlan (now (counts .entry)) (now (marks .entry)) (now (fields .entry)))) state value) r ⌝ }
+{
+    if !has_room(counts.len(), marks.len(), fields.len()) {
+        return 255;
+    }
+    finish(
+        plan::mark(load(counts, marks, fields), state, value as usize),
+        counts,
+        marks,
+        fields,
+    )
+}
+
+// Puts a transition at the end of the list.
+#[no_mangle]
+pub extern "C" fn callplan_join(
+    counts: &mut [usize],
+    marks: &mut [u8],
+    fields: &mut [u16],
+    from: usize,
+    to: usize,
+    low: u32,
+    high: u32,
+) -> u32
+    ensures { λ r. ⌜ LentEdit (slices (now (counts .entry)) (now (marks .entry)) (now (fields .entry))) (slices (now (counts .exit)) (now (marks .exit)) (now (fields .exit))) (joinRule (view (lentPlan (now (counts .entry)) (now (marks .entry)) (now (fields .entry)))) (transition from to low high)) r ⌝ }
+{
+    if !has_room(counts.len(), marks.len(), fields.len()) {
+        return 255;
+    }
+    finish(
+        plan::join(
+            load(counts, marks, fields),
+            from,
+            to,
+            low as usize,
+            high as usize,
+        ),
+        counts,
+        marks,
+        fields,
+    )
+}
+
+// Takes a transition out of the list.
+#[no_mangle]
+pub extern "C" fn callplan_unjoin(
+    counts: &mut [usize],
+    marks: &mut [u8],
+    fields: &mut [u16],
+    number: usize,
+) -> u32
+    ensures { λ r. ⌜ LentEdit (slices (now (counts .entry)) (now (marks .entry)) (now (fields .entry))) (slices (now (counts .exit)) (now (marks .exit)) (now (fields .exit))) (unjoinRule (view (lentPlan (now (counts .entry)) (now (marks .entry)) (now (fields .entry)))) number) r ⌝ }
+{
+    if !has_room(counts.len(), marks.len(), fields.len()) {
+        return 255;
+    }
+    finish(
+        plan::unjoin(load(counts, marks, fields), number),
+        counts,
+        marks,
+        fields,
+    )
+}
+
+// Reads an image.
+#[no_mangle]
+pub extern "C" fn callplan_read(
+    counts: &mut [usize],
+    marks: &mut [u8],
+    fields: &mut [u16],
+    octets: &[u8],
+) -> u32
+    ensures { λ r. ⌜ LentEdit (slices (now (counts .entry)) (now (marks .entry)) (now (fields .entry))) (slices (now (counts .exit)) (now (marks .exit)) (now (fields .exit))) (readRule (view (lentPlan (now (counts .entry)) (now (marks .entry)) (now (fields .entry)))) (now (octets .entry))) r ⌝ }
+{
+    if !has_room(counts.len(), marks.len(), fields.len()) {
+        return 255;
+    }
+    finish(
+        plan::read(load(counts, marks, fields), octets),
+        counts,
+        marks,
+        fields,
+    )
+}
+
+// Puts the image at the front of the buffer.
+#[no_mangle]
+pub extern "C" fn callplan_write(
+    counts: &[usize],
+    marks: &[u8],
+    fields: &[u16],
+    buffer: &mut [u8],
+) -> u32
+    ensures { λ r. ⌜ LentWrite (slices (now (counts .entry)) (now (marks .entry)) (now (fields .entry))) (now (buffer .entry)) (now (buffer .exit)) r ⌝ }
+{
+    if !has_room(counts.len(), marks.len(), fields.len()) {
+        return 255;
+    }
+    let written = plan::write(load(counts, marks, fields), buffer);
+    match written {
+        Written::Length(n) => 256 + n as u32,
+        Written::Refused(r) => number(r),
+    }
+}
