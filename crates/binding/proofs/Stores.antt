@@ -19,7 +19,7 @@ use Rattle.rules.specs.Image.{imageLength}
 use Rattle.rules.specs.Limits.{within}
 use Rattle.rules.specs.Refusal.{Result, accepted, refused, _>>_, refuseIf, number, answerOf, said}
 use Rattle.rules.specs.Rules.{givenPlan, next, writeRule, written}
-use Rattle.rules.proofs.Results.{never, and-true, then-accepted, holds}
+use Rattle.rules.proofs.Results.{never, and-true, then-accepted, holds, accepted-as, refused-as}
 use Rattle.rules.proofs.ReadWrite.{limited}
 use Rattle.plan.specs.declared.Plan.{Plan}
 use Rattle.plan.specs.declared.Edited.{Edited}
@@ -161,14 +161,6 @@ too-short s o e =
 code-of : (o : Result Graph) (r : Result (Unit {0})) → r ≡ answerOf o → code r ≡ code o
 code-of (accepted g) r e = ap code e
 code-of (refused k) r e = ap code e
-
-accepted-as : (o : Result Graph) → accepted tt ≡ answerOf o → (g : Graph) × (o ≡ accepted g)
-accepted-as (accepted g) e = (g, refl)
-accepted-as (refused k) e = absurd (never tt k (sym e))
-
-refused-as : (o : Result Graph) (k : ℕ) → refused k ≡ answerOf o → o ≡ refused k
-refused-as (accepted g) k e = absurd (never tt k e)
-refused-as (refused j) k e = let i : k ≡ j = cc in rw i
 
 by-answer : (a : Answer) (q : Plan) (s s′ : Slices) (o : Result Graph) (r : ℕ) → hasRoom s ≡ true → said a ≡ answerOf o → ((g : Graph) → o ≡ accepted g → view q ≡ g)
     → Finished a q s s′ r → LentEdit s s′ o r

@@ -1,2 +1,4 @@
 pub mod Values
 pub mod Edits
+pub mod Promises
+pub mod Impostors

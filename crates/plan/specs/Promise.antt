@@ -1,9 +1,11 @@
 -- What the calls promise. Document 01: "every public call has a promise for all inputs, refused ones too, that equates its result, the plan and
 -- each lent place afterwards with a definition". Assumes nothing.
-use mathlib.Core.List.{List}
+use mathlib.Core.List.{List, [], _∷_}
 use mathlib.Core.Path.{_≡_}
 use Prim.Native.Nat.{ℕ}
 use Rattle.graph.specs.Graph.{Graph}
+use Rattle.rules.specs.declared.Answer.{Answer}
+use Rattle.rules.specs.Calls.{Call, step}
 use Rattle.rules.specs.Refusal.{Result, accepted, refused, number, answerOf, said}
 use Rattle.rules.specs.Rules.{next, writeRule, written}
 use Rattle.plan.specs.declared.Plan.{Plan}
@@ -28,3 +30,9 @@ wrote (Refused r) = refused (number r)
 pub record Write (g : Graph) (before after : List ℕ) (r : Written) : Type 0 where
   pub answer : wrote r ≡ writeRule g before
   pub buffer : after ≡ written g before (writeRule g before)
+
+-- a list of calls, each handed the plan value that the one before it returned: what the promises say of its answers and of the last plan value
+pub data Obeyed : Plan → List Call → List Answer → Plan → Type 0 where
+  none : {p : Plan} → Obeyed p [] [] p
+  more : {p q : Plan} {call : Call} {calls : List Call} {answers : List Answer} (e : Edited) → Edit p (step (view p) call) e → Obeyed (e .plan) calls answers q
+      → Obeyed p (call ∷ calls) (e .answer ∷ answers) q

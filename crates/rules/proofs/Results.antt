@@ -6,7 +6,7 @@ use Prim.Native.Nat.{ℕ, zero, suc, _+_}
 use native.Mathlib.Omega.{arith}
 use lib.ListN.{length, take, drop, set, replicate}
 use Rattle.rules.specs.declared.Refusal.{Refusal}
-use Rattle.rules.specs.Refusal.{number, Result, accepted, refused, _>>=_, _>>_, refuseIf, collect}
+use Rattle.rules.specs.Refusal.{number, Result, accepted, refused, _>>=_, _>>_, refuseIf, collect, answerOf}
 use Rattle.rules.specs.Limits.{all}
 
 -- ---- accepted and refused results
@@ -34,6 +34,15 @@ not-false false e = sym e
 -- a test that must hold does
 pub holds : (c : Bool) (r : Refusal) → refuseIf (not c) r ≡ accepted tt → c ≡ true
 holds c r e = not-false c (ground-false (not c) r e)
+
+-- a result whose answer is known
+pub accepted-as : {A : Type 0} (o : Result A) → accepted tt ≡ answerOf o → (a : A) × (o ≡ accepted a)
+accepted-as (accepted a) e = (a, refl)
+accepted-as (refused k) e = absurd (never tt k (sym e))
+
+pub refused-as : {A : Type 0} (o : Result A) (k : ℕ) → refused k ≡ answerOf o → o ≡ refused k
+refused-as (accepted a) k e = absurd (never tt k e)
+refused-as (refused j) k e = let i : k ≡ j = cc in rw i
 
 -- ---- tests
 

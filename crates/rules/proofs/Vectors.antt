@@ -13,10 +13,10 @@ use Rattle.field.specs.Field.{pack, octetsOf, bitsOf, bitsOfAll, widthOfAll, nu
 abbrev step : ℕ → ℕ → ℕ → ℕ → Transition
 step f t l h = record { from = f; to = t; low = l; high = h }
 
-pub plan : Graph
+unfoldable pub plan : Graph
 plan = record { marks = 4 ∷ 1 ∷ 1 ∷ 2 ∷ []; transitions = step 0 1 5 20 ∷ step 1 2 3 15 ∷ step 1 3 2 30 ∷ step 2 3 4 25 ∷ [] }
 
-pub octets : List ℕ
+unfoldable pub octets : List ℕ
 octets =
     0x10 ∷ 0x10 ∷ 0x01 ∷ 0x00 ∷ 0x80 ∷ 0x20 ∷ 0x20 ∷ 0x40 ∷ 0x00 ∷ 0x00 ∷ 0x40 ∷ 0x28 ∷ 0x14 ∷ 0x00 ∷ 0x80 ∷ 0x80 ∷ 0x18 ∷ 0x0F ∷ 0x00 ∷ 0x80
     ∷ 0xC0 ∷ 0x10 ∷ 0x1E ∷ 0x01 ∷ 0x00 ∷ 0xC0 ∷ 0x20 ∷ 0x19 ∷ []

@@ -1,0 +1,113 @@
+-- What follows from the promises alone, of whatever keeps them. A list of calls gives the answers and the plan that the rules give from the
+-- calls' arguments: each call's promise is one step of the rules, so the list is a run of them. What write puts reads back as the plan, and what
+-- read accepts writes back as the octets: the rules say so of images, and the promises equate the calls with the rules. And the plan value
+-- beside a refused fresh is refused by 0 in every call.
+-- Assumes nothing.
+use mathlib.Core.Bool.{Bool, true, false, not}
+use mathlib.Core.List.{List, [], _∷_, _++_, map}
+use mathlib.Core.Path.{_≡_, refl, sym, ap, ap₂, _∙_}
+use Prim.Native.Nat.{ℕ, zero, suc, _+_, _≤_, _<_}
+use native.Mathlib.Omega.{arith}
+use borrow.Author.Tests.{le-ltb}
+use lib.Dec.{ltb}
+use lib.ListN.{length, take, drop}
+use lib.Seq.{take-at}
+use Rattle.graph.specs.Graph.{Graph, states, count}
+use Rattle.field.specs.Field.{Octets}
+use Rattle.rules.specs.declared.Answer.{Answer}
+use Rattle.rules.specs.declared.Answer.the-variants.{Accepted, Refused}
+use Rattle.rules.specs.declared.Refusal.{Refusal}
+use Rattle.rules.specs.declared.Refusal.the-variants.{PlanLimits, BufferLength}
+use Rattle.rules.specs.Calls.{Call, mark, join, unjoin, read, step, Run, run}
+use Rattle.rules.specs.Image.{image, imageLength, readImage}
+use Rattle.rules.specs.Limits.{within}
+use Rattle.rules.specs.Refusal.{Result, accepted, refused, _>>_, refuseIf, number, answerOf, said}
+use Rattle.rules.specs.Rules.{givenPlan, markRule, joinRule, unjoinRule, readRule, writeRule, written, next}
+use Rattle.rules.proofs.Results.{never, then-accepted, holds, accepted-as}
+use Rattle.rules.proofs.ReadWrite.{length-image, read-image, image-read, read-within}
+use Rattle.plan.specs.declared.Edited.{Edited}
+use Rattle.plan.specs.declared.Plan.{Plan}
+use Rattle.plan.specs.declared.Written.{Written}
+use Rattle.plan.specs.declared.Written.the-variants.{Length, Refused as NotWritten}
+use Rattle.plan.specs.Promise.{Edit, Write, wrote, Obeyed, none, more}
+use Rattle.plan.specs.View.{view, noPlan}
+use Rattle.plan.proofs.Values.{within-view}
+
+-- ---- a list of calls
+
+pub obeyed-run : {p q : Plan} {calls : List Call} {answers : List Answer} → Obeyed p calls answers q
+    → (map said answers ≡ run (view p) calls .answers) × (view q ≡ run (view p) calls .last)
+unfolding run
+obeyed-run none = (refl, refl)
+obeyed-run (more {p} {q} {call} {calls} {answers} e x rest) =
+    let r = obeyed-run rest in (
+      ap₂ {C = List (Result (Unit {0}))} (λ a as′. a ∷ as′) (x .answer) (r .0 ∙ ap (λ (g : Graph). run g calls .answers) (x .plan)),
+      r .1 ∙ ap (λ (g : Graph). run g calls .last) (x .plan),
+    )
+
+-- ---- the image, both ways
+
+-- an answer that says what it should is the one that it should be
+accepted-answer : (a : Answer) → said a ≡ accepted tt → a ≡ Accepted
+accepted-answer Accepted e = refl
+accepted-answer (Refused r) e = absurd (never tt (number r) e)
+
+length-answer : (w : Written) (n : ℕ) → wrote w ≡ accepted n → w ≡ Length n
+length-answer (Length m) n e = let s : m ≡ n = cc in rw s
+length-answer (NotWritten r) n e = absurd (never n (number r) e)
+
+-- what an accepted write says of the plan and of the length
+accepted-write : (g : Graph) (b : List ℕ) (n : ℕ) → writeRule g b ≡ accepted n → (within g ≡ true) × (imageLength (states g) (count g) ≡ n)
+unfolding writeRule
+accepted-write g b n e =
+    let k : ℕ = imageLength (states g) (count g) in
+    let p = then-accepted (givenPlan g) (refuseIf (ltb (length b) k) BufferLength >> accepted k) n e in
+    let q = then-accepted (refuseIf (ltb (length b) k) BufferLength) (accepted k) n (p .1) in
+    (holds (within g) PlanLimits (p .0), cc)
+
+-- every plan written reads back as that plan, over any old plan that is within the limits
+pub write-then-read : (p old : Plan) (before after : List ℕ) (n : ℕ) (e : Edited) → within (view old) ≡ true → Write (view p) before after (Length n)
+    → Edit old (readRule (view old) (take n after)) e → (e .answer ≡ Accepted) × (view (e .plan) ≡ view p)
+unfolding readRule
+write-then-read p old before after n e h w x =
+    let g : Graph = view p in
+    let a = accepted-write g before n (sym (w .answer)) in
+    let b : after ≡ image g ++ drop n before = w .buffer ∙ ap (written g before) (sym (w .answer)) in
+    let o : take n after ≡ image g = ap (λ (l : List ℕ). take n l) b ∙ take-at (image g) (drop n before) n (length-image g ∙ a .1) in
+    let r : readRule (view old) (take n after) ≡ accepted g = rw (h, o) (read-image g (a .0)) in
+    (accepted-answer (e .answer) (x .answer ∙ ap answerOf r), x .plan ∙ ap (next (view old)) r)
+
+-- every image read writes back as those octets, into any buffer that has room
+pub read-then-write : (old : Plan) (octets : List ℕ) (e : Edited) (before after : List ℕ) (w : Written) → Octets octets → Edit old (readRule (view old) octets) e
+    → e .answer ≡ Accepted → Write (view (e .plan)) before after w → length octets ≤ length before → (w ≡ Length (length octets)) × (after ≡ octets ++ drop (length octets) before)
+unfolding readRule writeRule
+read-then-write old octets e before after w ho x a y room =
+    let m = accepted-as (readRule (view old) octets) (ap said (sym a) ∙ x .answer) in
+    let g : Graph = m .0 in
+    let s : view (e .plan) ≡ g = x .plan ∙ ap (next (view old)) (m .1) in
+    let r : readImage octets ≡ accepted g = then-accepted (givenPlan (view old)) (readImage octets) g (m .1) .1 in
+    let i : image g ≡ octets = image-read octets g r ho in
+    let k : imageLength (states g) (count g) ≡ length octets = sym (length-image g) ∙ ap length i in
+    let l : ltb (length before) (length octets) ≡ false = le-ltb (length before) (length octets) room in
+    let u : writeRule (view (e .plan)) before ≡ accepted (length octets) = ap (λ (x : Graph). writeRule x before) s ∙ rw (read-within octets g r, k, l) in (
+      length-answer w (length octets) (y .answer ∙ u),
+      y .buffer ∙ ap (written (view (e .plan)) before) u ∙ ap {B = List ℕ} (λ (x : Graph). image x ++ drop (length octets) before) s
+          ∙ ap {B = List ℕ} (λ (x : List ℕ). x ++ drop (length octets) before) i,
+    )
+
+-- ---- no plan
+
+-- "any plan value beside the number has 0 states, all else zero, and every call refuses it by 0"
+no-plan : within (view noPlan) ≡ false
+no-plan = within-view noPlan
+
+pub no-plan-refused : (call : Call) → step (view noPlan) call ≡ refused 0
+unfolding markRule joinRule unjoinRule readRule
+no-plan-refused (mark state value) = rw no-plan
+no-plan-refused (join t) = rw no-plan
+no-plan-refused (unjoin number) = rw no-plan
+no-plan-refused (read octets) = rw no-plan
+
+pub no-plan-not-written : (buffer : List ℕ) → writeRule (view noPlan) buffer ≡ refused 0
+unfolding writeRule
+no-plan-not-written buffer = rw no-plan
