@@ -37,31 +37,42 @@ module _ (g : Graph) (closed : Closed g) (c : Cost) where
       rw lk at (different-length (states g) (take k xs) d below)
   shown-fits NONE ts j e = omega arith
 
-  -- a number that is shown, for a plan of at most 512 states
-  pub shown-number-le : (a b k : ℕ) (ts : List ℕ) (j : ℕ) → states g ≤ 512 → ((t : ℕ) → t < count g → c .step t ≤ a) → ((s : ℕ) → c .close s ≤ b)
-      → Shown g c (number k) ts j → k ≤ 511 * a + b
-  shown-number-le a b k ts j n p q (s, r, e, d) =
-      let h = simple-length g (Unfinished g) (Final g) closed s ts (start-below g s (r .0)) (r .1) d in
-      let m : length ts * a ≤ 511 * a = mul-le-mul-right a (omega arith) in
-      omega (arith, total-le g c a b (Unfinished g) (Final g) p q s ts (r .1))
+  -- so every figure can be shown within n places
+  pub least-within : (f : Figure) → IsLeast g c f → (ts : List ℕ) × (j : ℕ) × Shown g c f ts j × (length ts ≤ states g)
+  least-within f u = let (ts, j, shown) = least-shown g c f u in (ts, j, shown, shown-fits f ts j shown)
 
-  pub least-number-le : (a b k : ℕ) → states g ≤ 512 → ((t : ℕ) → t < count g → c .step t ≤ a) → ((s : ℕ) → c .close s ≤ b) → IsLeast g c (number k) → k ≤ 511 * a + b
-  least-number-le a b k n p q u = let (ts, j, shown) = least-shown g c (number k) u in shown-number-le a b k ts j n p q shown
+  pub greatest-within : (f : Figure) → IsGreatest g c f → (ts : List ℕ) × (j : ℕ) × Shown g c f ts j × (length ts ≤ states g)
+  greatest-within f u = let (ts, j, shown) = greatest-shown g c closed f u in (ts, j, shown, shown-fits f ts j shown)
 
-  pub greatest-number-le : (a b k : ℕ) → states g ≤ 512 → ((t : ℕ) → t < count g → c .step t ≤ a) → ((s : ℕ) → c .close s ≤ b) → IsGreatest g c (number k) → k ≤ 511 * a + b
-  greatest-number-le a b k n p q u = let (ts, j, shown) = greatest-shown g c closed (number k) u in shown-number-le a b k ts j n p q shown
+  -- a route that repeats no state, in a plan of at most 512 states
+  pub transitions-le : states g ≤ 512 → (k : ℕ) (ts : List ℕ) (j : ℕ) → Shown g c (number k) ts j → length ts ≤ 511
+  transitions-le small k ts j (s, r, q, d) = omega (arith, simple-length g (Unfinished g) (Final g) closed s ts (start-below g s (r .0)) (r .1) d)
+
+-- what it costs, where a transition costs at most a and the last state adds at most b
+module _ (g : Graph) (closed : Closed g) (c : Cost) (small : states g ≤ 512)
+    (a b : ℕ) (step-le : (t : ℕ) → t < count g → c .step t ≤ a) (close-le : (s : ℕ) → c .close s ≤ b) (k : ℕ) where
+  pub shown-number-le : (ts : List ℕ) (j : ℕ) → Shown g c (number k) ts j → k ≤ 511 * a + b
+  shown-number-le ts j (s, r, e, d) =
+      let h : length ts * a ≤ 511 * a = mul-le-mul-right a (transitions-le g closed c small k ts j (s, r, e, d)) in
+      omega (arith, total-le g c a b (Unfinished g) (Final g) step-le close-le s ts (r .1))
+
+  pub least-number-le : IsLeast g c (number k) → k ≤ 511 * a + b
+  least-number-le u = let (ts, j, shown) = least-shown g c (number k) u in shown-number-le ts j shown
+
+  pub greatest-number-le : IsGreatest g c (number k) → k ≤ 511 * a + b
+  greatest-number-le u = let (ts, j, shown) = greatest-shown g c closed (number k) u in shown-number-le ts j shown
 
 module _ (g : Graph) (closed : Closed g) (small : states g ≤ 512) (k : ℕ) where
-  -- "no figure passes": a delay
+  -- a delay, of 511 transitions of 2,047 seconds
   pub least-delay-le : ((t : ℕ) → t < count g → low g t ≤ 2047) → IsLeast g (lows g) (number k) → k ≤ 1_046_017
-  least-delay-le h u = least-number-le g closed (lows g) 2047 0 k small h (λ s. zero-le) u
+  least-delay-le h u = least-number-le g closed (lows g) small 2047 0 h (λ s. zero-le) k u
 
   pub greatest-delay-le : ((t : ℕ) → t < count g → high g t ≤ 2047) → IsGreatest g (highs g) (number k) → k ≤ 1_046_017
-  greatest-delay-le h u = greatest-number-le g closed (highs g) 2047 0 k small h (λ s. zero-le) u
+  greatest-delay-le h u = greatest-number-le g closed (highs g) small 2047 0 h (λ s. zero-le) k u
 
   -- and a count, over any yes-or-no on states
   pub least-count-le : (p : ℕ → Bool) → IsLeast g (counts g p) (number k) → k ≤ 512
-  least-count-le p u = least-number-le g closed (counts g p) 1 1 k small (λ t h. one-le (p (from g t))) (λ s. one-le (p s)) u
+  least-count-le p u = least-number-le g closed (counts g p) small 1 1 (λ t h. one-le (p (from g t))) (λ s. one-le (p s)) k u
 
   pub greatest-count-le : (p : ℕ → Bool) → IsGreatest g (counts g p) (number k) → k ≤ 512
-  greatest-count-le p u = greatest-number-le g closed (counts g p) 1 1 k small (λ t h. one-le (p (from g t))) (λ s. one-le (p s)) u
+  greatest-count-le p u = greatest-number-le g closed (counts g p) small 1 1 (λ t h. one-le (p (from g t))) (λ s. one-le (p s)) k u

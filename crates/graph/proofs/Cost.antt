@@ -31,6 +31,12 @@ pub total-le : (g : Graph) (c : Cost) (h h′ : ℕ) (pass stop : ℕ → Type 0
 total-le g c h h′ pass stop a b s [] w = omega (arith, b s)
 total-le g c h h′ pass stop a b s (t ∷ ts) w = omega (arith, a t (w .1 .listed), total-le g c h h′ pass stop a b (to g t) ts (w .2))
 
+-- and just their number, where each costs 1 and the last state nothing
+pub total-length : (g : Graph) (c : Cost) (pass stop : ℕ → Type 0) → ((t : ℕ) → t < count g → c .step t ≡ 1) → ((s : ℕ) → c .close s ≡ 0)
+    → (s : ℕ) (ts : List ℕ) → WalkTo g pass stop s ts → total g c s ts ≡ length ts
+total-length g c pass stop one none s [] w = none s
+total-length g c pass stop one none s (t ∷ ts) w = omega (arith, one t (w .1 .listed), total-length g c pass stop one none (to g t) ts (w .2))
+
 pub one-le : (b : Bool) → one b ≤ 1
 one-le true = le-refl 1
 one-le false = zero-le

@@ -6,9 +6,10 @@
 -- (`extreme-is`). Two numbers that routes cost and that are before all costs are before each other, so they are equal (`extreme-unique`).
 -- Assumes nothing.
 use Prim.Native.Nat.{ℕ, _≤_, min, max}
-use mathlib.Core.Path.{_≡_, refl}
+use mathlib.Core.Path.{_≡_, refl, _∙_}
 use mathlib.Core.Logic.{_⊎_, inl, inr}
-use mathlib.Core.List.{List, [], _∷_, List·Memᴰ·head, List·Memᴰ·tail, List·Memᴰ·cases-cons, List·Memᴰ·not-nil, Memᴰ·cast, Memᴰ·map, Memᴰ·of-map}
+use mathlib.Core.List.{List, [], _∷_, List·Memᴰ·head, List·Memᴰ·tail, List·Memᴰ·cases-cons, List·Memᴰ·not-nil, List·Memᴰ·eq-of-singleton}
+use mathlib.Core.List.{Memᴰ·cast, Memᴰ·map, Memᴰ·of-map}
 use native.Mathlib.Nat.{le-refl, le-trans, le-antisymm, min-le-left, min-le-right, le-max-left, le-max-right, min-eq-left, min-eq-right, max-eq-left, max-eq-right}
 use native.Mathlib.Decide.{decLe}
 use native.Mathlib.Omega.{arith}
@@ -75,39 +76,34 @@ module _ (g : Graph) (c : Cost) where
   in-costs s ts m = Memᴰ·map (λ r. total g c (r .0) (r .1)) m
 
 module _ (pick : ℕ → ℕ → ℕ) (before : ℕ → ℕ → Type 0) (P : Picks pick before) where
-  fold-in : (x : ℕ) (xs : List ℕ) → fold pick x xs ∈ (x ∷ xs)
+  pub fold-in : (x : ℕ) (xs : List ℕ) → fold pick x xs ∈ (x ∷ xs)
   fold-in x [] = List·Memᴰ·head refl
-  fold-in x (y ∷ ys) = go (fold-in x ys) (P .either y (fold pick x ys))
+  fold-in x (y ∷ ys) = go (List·Memᴰ·cases-cons (fold-in x ys)) (P .either y (fold pick x ys))
     where
-      -- x or one of ys: then it is one of x, y and ys
-      further : (z : ℕ) → z ∈ (x ∷ ys) → z ∈ (x ∷ y ∷ ys)
-      further z m = put (List·Memᴰ·cases-cons m)
-        where
-          put : (z ≡ x) ⊎ (z ∈ ys) → z ∈ (x ∷ y ∷ ys)
-          put (inl e) = List·Memᴰ·head e
-          put (inr r) = List·Memᴰ·tail (List·Memᴰ·tail r)
+      z : ℕ
+      z = fold pick x ys
 
-      go : fold pick x ys ∈ (x ∷ ys) → (pick y (fold pick x ys) ≡ y) ⊎ (pick y (fold pick x ys) ≡ fold pick x ys) → pick y (fold pick x ys) ∈ (x ∷ y ∷ ys)
-      go ih (inl e) = List·Memᴰ·tail (List·Memᴰ·head e)
-      go ih (inr e) = Memᴰ·cast e (further (fold pick x ys) ih)
+      go : (z ≡ x) ⊎ (z ∈ ys) → (pick y z ≡ y) ⊎ (pick y z ≡ z) → pick y z ∈ (x ∷ y ∷ ys)
+      go m (inl e) = List·Memᴰ·tail (List·Memᴰ·head e)
+      go (inl q) (inr e) = List·Memᴰ·head (e ∙ q)
+      go (inr m) (inr e) = Memᴰ·cast e (List·Memᴰ·tail (List·Memᴰ·tail m))
 
-  fold-before : (x : ℕ) (xs : List ℕ) (z : ℕ) → z ∈ (x ∷ xs) → before (fold pick x xs) z
-  fold-before x [] z m = go (List·Memᴰ·cases-cons m)
+  pub fold-before : (x : ℕ) (xs : List ℕ) (k : ℕ) → k ∈ (x ∷ xs) → before (fold pick x xs) k
+  fold-before x [] k m = rw (List·Memᴰ·eq-of-singleton m) (P .self x)
+  fold-before x (y ∷ ys) k m = go (fold-before x ys k) (List·Memᴰ·cases-cons m)
     where
-      go : (z ≡ x) ⊎ (z ∈ []) → before x z
-      go (inl e) = rw e (P .self x)
-      go (inr n) = absurd (List·Memᴰ·not-nil n)
-  fold-before x (y ∷ ys) z m = go (fold-before x ys z) (List·Memᴰ·cases-cons m)
-    where
-      later : before (fold pick x ys) z → before (pick y (fold pick x ys)) z
-      later h = P .trans _ _ _ (P .right y (fold pick x ys)) h
+      z : ℕ
+      z = fold pick x ys
 
-      go : (z ∈ (x ∷ ys) → before (fold pick x ys) z) → (z ≡ x) ⊎ (z ∈ (y ∷ ys)) → before (pick y (fold pick x ys)) z
+      later : before z k → before (pick y z) k
+      later h = P .trans _ _ _ (P .right y z) h
+
+      go : (k ∈ (x ∷ ys) → before z k) → (k ≡ x) ⊎ (k ∈ (y ∷ ys)) → before (pick y z) k
       go ih (inl e) = later (ih (List·Memᴰ·head e))
       go ih (inr n) = next (List·Memᴰ·cases-cons n)
         where
-          next : (z ≡ y) ⊎ (z ∈ ys) → before (pick y (fold pick x ys)) z
-          next (inl e) = rw e (P .left y (fold pick x ys))
+          next : (k ≡ y) ⊎ (k ∈ ys) → before (pick y z) k
+          next (inl e) = rw e (P .left y z)
           next (inr r) = later (ih (List·Memᴰ·tail r))
 
   module _ (g : Graph) (c : Cost) where

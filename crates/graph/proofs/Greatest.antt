@@ -13,18 +13,19 @@ use Prim.Native.Nat.{ℕ, zero, suc, max}
 use mathlib.Core.Path.{_≡_, refl, sym, _∙_, ap, subst}
 use mathlib.Core.Bool.{Bool, true, false, not, cond, false≢true}
 use mathlib.Core.Logic.{_⊎_, inl, inr}
-use mathlib.Core.List.{List, [], _∷_, List·Memᴰ·head, List·Memᴰ·not-nil}
+use mathlib.Core.List.{List, [], _∷_}
 use native.Mathlib.Nat.{le-of-eq, le-refl}
 use lib.ListN.{length}
 use Rattle.graph.specs.Graph.{Graph, states, start, final, to, Departs, Final, Unfinished, DeadEnd, Closed}
 use Rattle.graph.specs.Walk.{Begins, visits, UnfinishedFrom, Different, EndlessWalk}
 use Rattle.graph.specs.Route.{RouteFrom, Route, LeadsToAnswer, StrandedFrom, GoesOnForever, EndsUnanswered, Cost, total}
 use Rattle.graph.specs.Figure.{Figure, number, NONE, STRANDED, ENDLESS, IsGreatest, NoStart, Shown}
-use Rattle.graph.specs.Compute.{given, gather, leaving, deadEnd, extreme, begun, within, costs, anyStart, anyEndless, anyStranded, greatest}
+use Rattle.graph.specs.Compute.{leaving, deadEnd, extreme, begun, within, costs, anyStart, anyEndless, anyStranded, greatest}
+use Rattle.graph.proofs.Tests.{decided, any-of, in-any}
 use Rattle.graph.proofs.Walks.{start-below, with-stop}
 use Rattle.graph.proofs.Simple.{simple, simple-length, short-length}
 use Rattle.graph.proofs.Endless.{run, length-run, run-walk, long-endless, endless-shown, simple-or-endless}
-use Rattle.graph.proofs.Listed.{_∈_, Yes, of-given, in-given, of-gather, in-gather, of-nonempty, in-nonempty, of-begun, in-begun, of-within, in-within, of-leaving, in-leaving, of-deadEnd, in-deadEnd}
+use Rattle.graph.proofs.Listed.{_∈_, Yes, of-nonempty, in-nonempty, of-begun, in-begun, of-within, in-within, of-leaving, shut-end, of-deadEnd, in-deadEnd}
 use Rattle.graph.proofs.Extreme.{AtLeast, picks-max, Covered, IsExtreme, in-costs, extreme-is, extreme-unique}
 
 -- a test says yes exactly when A holds
@@ -41,19 +42,11 @@ module _ (g : Graph) where
   abbrev unanswered : ℕ → Bool
   unanswered s = not (final g s)
 
-  abbrev marked : ℕ → List ℕ
-  marked s = given (start g s) (s ∷ [])
-
   any-start : Tests (anyStart g) ((s : ℕ) × Begins g s)
   unfolding anyStart
   any-start = record {
-    sound = λ e.
-        let (x, m) = of-nonempty (gather marked (states g)) e in
-        let (s, h, n) = of-gather marked (states g) m in
-        (s, of-given (start g s) n .0);
-    complete = λ p.
-        let (s, b) = p in
-        in-nonempty (gather marked (states g)) (in-gather marked (states g) s (start-below g s b) (in-given (start g s) b (List·Memᴰ·head refl)));
+    sound = λ e. let (s, h, b) = any-of (start g) (states g) e in (s, b);
+    complete = λ p. let (s, b) = p in in-any (start g) (states g) s (start-below g s b) b;
   }
 
   any-endless : Closed g → Tests (anyEndless g) (GoesOnForever g)
@@ -98,17 +91,17 @@ module _ (g : Graph) where
   one-more k s t u d (inr (inr (ts, w, l))) = inr (inr (t ∷ ts, (u, d, w), ap suc l))
 
   go-on : (k s : ℕ) → Onward k s
-  go-on zero s = here (final g s) refl
+  go-on zero s = here (decided (final g s))
     where
-      here : (b : Bool) → final g s ≡ b → Onward 0 s
-      here true e = inl ([], e)
-      here false e = inr (inr ([], e, refl))
-  go-on (suc k) s = here (final g s) refl (leaving g s) refl (λ t. go-on k (to g t))
+      here : (final g s ≡ true) ⊎ (final g s ≡ false) → Onward 0 s
+      here (inl f) = inl ([], f)
+      here (inr u) = inr (inr ([], u, refl))
+  go-on (suc k) s = here (decided (final g s)) (decided (leaving g s)) (λ t. go-on k (to g t))
     where
-      here : (b : Bool) → final g s ≡ b → (us : List ℕ) → leaving g s ≡ us → ((t : ℕ) → Onward k (to g t)) → Onward (suc k) s
-      here true e us q rest = inl ([], e)
-      here false e [] q rest = inr (inl ([], record { unfinished = e; shut = λ t d. List·Memᴰ·not-nil (rw q at (in-leaving g s t d)) }))
-      here false e (t ∷ us) q rest = one-more k s t e (of-leaving g s t (rw q (List·Memᴰ·head refl))) (rest t)
+      here : (final g s ≡ true) ⊎ (final g s ≡ false) → (leaving g s ≡ true) ⊎ (leaving g s ≡ false) → ((t : ℕ) → Onward k (to g t)) → Onward (suc k) s
+      here (inl f) l rest = inl ([], f)
+      here (inr u) (inl l) rest = let (t, d) = of-leaving g s l in one-more k s t u d (rest t)
+      here (inr u) (inr l) rest = inr (inl ([], shut-end g s u l))
 
   pub leads-to-answer : Closed g → (GoesOnForever g → ⊥) → (EndsUnanswered g → ⊥) → (s : ℕ) → Begins g s → LeadsToAnswer g s
   leads-to-answer closed finite unstranded s b = go (go-on (states g) s)

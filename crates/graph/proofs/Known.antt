@@ -5,72 +5,52 @@
 -- What is computed meets the rules for every such plan (`least-is`, `greatest-is`), so a figure equal to it does (`holds`). Assumes
 -- nothing.
 use Prim.Native.Nat.{ℕ, zero, suc, _<_}
-use mathlib.Core.Path.{_≡_, refl, sym, _∙_, ap, subst}
+use mathlib.Core.Path.{_≡_, refl, sym, _∙_, ap₂, subst}
 use mathlib.Core.Bool.{Bool, true, _&&_, and-eq-true-iff}
 use mathlib.Core.List.{List, [], _∷_, _++_}
 use native.Mathlib.Nat.{not-suc-le-zero, le-of-suc-le-suc}
-use native.Mathlib.Decide.{ℕ-discrete}
-use native.Mathlib.Omega.{arith}
 use lib.Dec.{T, eqb, ltb, lit<}
 use lib.ListN.{length, getD}
-use borrow.Author.Tests.{eqb-true, ltb-true}
-use Rattle.graph.specs.Graph.{Graph, states, count, start, final, counted, from, to, low, high, Departs, Closed}
+use borrow.Author.Tests.{eqb-true}
+use Rattle.graph.specs.Graph.{count, start, final, counted, from, to, low, high, Departs}
 use Rattle.graph.specs.Walk.{visits, Different}
 use Rattle.graph.specs.Route.{Route}
-use Rattle.graph.specs.Figure.{Figure, number, NONE, STRANDED, ENDLESS, IsLeast, IsGreatest, Shown, leastDelayCost, greatestDelayCost, countCost}
-use Rattle.graph.specs.Compute.{leastDelay, greatestDelay, leastCount, greatestCount}
+use Rattle.graph.specs.Figure.{Figure, number, NONE, STRANDED, ENDLESS, IsLeast, IsGreatest, Shown, kind, value, leastDelayCost, greatestDelayCost, countCost}
+use Rattle.graph.specs.Compute.{closed, leastDelay, greatestDelay, leastCount, greatestCount}
 use Rattle.graph.specs.Known.{Row, Holds, known, misleading, P1, P4, P7, P8, unreached-dead-end, reached-dead-end, counted-ends}
+use Rattle.graph.proofs.Listed.{of-closed}
 use Rattle.graph.proofs.Least.{least-is}
 use Rattle.graph.proofs.Greatest.{greatest-is, route-simple}
 
 -- ---- the test
 
--- figures as numbers, and back
-code : Figure → ℕ
-code NONE = 0
-code STRANDED = 1
-code ENDLESS = 2
-code (number k) = suc (suc (suc k))
+-- the figure of a record's kind and figure: the two determine it
+pub figure-of : ℕ → ℕ → Figure
+figure-of zero v = number v
+figure-of (suc zero) v = NONE
+figure-of (suc (suc zero)) v = STRANDED
+figure-of (suc (suc (suc k))) v = ENDLESS
 
-decode : ℕ → Figure
-decode zero = NONE
-decode (suc zero) = STRANDED
-decode (suc (suc zero)) = ENDLESS
-decode (suc (suc (suc k))) = number k
-
-decode-code : (f : Figure) → decode (code f) ≡ f
-unfolding code decode
-decode-code NONE = refl
-decode-code STRANDED = refl
-decode-code ENDLESS = refl
-decode-code (number k) = refl
+pub figure-is : (f : Figure) → figure-of (kind f) (value f) ≡ f
+unfolding figure-of
+figure-is (number k) = refl
+figure-is NONE = refl
+figure-is STRANDED = refl
+figure-is ENDLESS = refl
 
 same : Figure → Figure → Bool
-unfolding code
-same f h = eqb (code f) (code h)
+same f h = eqb (kind f) (kind h) && eqb (value f) (value h)
 
 of-same : (f h : Figure) → same f h ≡ true → f ≡ h
 unfolding same
-of-same f h e = sym (decode-code f) ∙ ap decode (eqb-true (code f) (code h) e) ∙ decode-code h
-
--- the first k transitions lead to states of the plan
-leads : Graph → ℕ → Bool
-leads g zero = true
-leads g (suc k) = ltb (to g k) (states g) && leads g k
-
-of-leads : (g : Graph) (k : ℕ) → leads g k ≡ true → (t : ℕ) → t < k → to g t < states g
-unfolding leads
-of-leads g zero e t h = absurd (not-suc-le-zero h)
-of-leads g (suc k) e t h = go (and-eq-true-iff (ltb (to g k) (states g)) (leads g k) .0 e) (ℕ-discrete t k) (of-leads g k)
-  where
-    go : (ltb (to g k) (states g) ≡ true) × (leads g k ≡ true) → Dec (t ≡ k) → (leads g k ≡ true → (u : ℕ) → u < k → to g u < states g) → to g t < states g
-    go (a, b) (yes q) ih = rw q (ltb-true (to g k) (states g) a)
-    go (a, b) (no q) ih = ih b t (omega arith)
+of-same f h e =
+    let (k, v) = and-eq-true-iff (eqb (kind f) (kind h)) (eqb (value f) (value h)) .0 e in
+    sym (figure-is f) ∙ ap₂ figure-of (eqb-true (kind f) (kind h) k) (eqb-true (value f) (value h) v) ∙ figure-is h
 
 right : Row → Bool
-unfolding leads same leastDelay greatestDelay leastCount greatestCount
+unfolding closed same leastDelay greatestDelay leastCount greatestCount
 right r =
-    leads (r .plan) (count (r .plan))
+    closed (r .plan)
     && (same (leastDelay (r .plan)) (r .least-delay)
     && (same (greatestDelay (r .plan)) (r .greatest-delay)
     && (same (leastCount (r .plan)) (r .least-count)
@@ -85,16 +65,15 @@ holds : (r : Row) → right r ≡ true → Holds r
 unfolding right
 holds r e =
     let g = r .plan in
-    let (closed?, e₁) = both (leads g (count g)) _ e in
+    let (c, e₁) = both (closed g) _ e in
     let (ld, e₂) = both (same (leastDelay g) (r .least-delay)) _ e₁ in
     let (gd, e₃) = both (same (greatestDelay g) (r .greatest-delay)) _ e₂ in
     let (lc, gc) = both (same (leastCount g) (r .least-count)) _ e₃ in
-    let closed : Closed g = of-leads g (count g) closed? in
     record {
-      least-delay = subst (IsLeast g (leastDelayCost g)) (of-same (leastDelay g) (r .least-delay) ld) (least-is g (leastDelayCost g) closed);
-      greatest-delay = subst (IsGreatest g (greatestDelayCost g)) (of-same (greatestDelay g) (r .greatest-delay) gd) (greatest-is g (greatestDelayCost g) closed);
-      least-count = subst (IsLeast g (countCost g)) (of-same (leastCount g) (r .least-count) lc) (least-is g (countCost g) closed);
-      greatest-count = subst (IsGreatest g (countCost g)) (of-same (greatestCount g) (r .greatest-count) gc) (greatest-is g (countCost g) closed);
+      least-delay = subst (IsLeast g (leastDelayCost g)) (of-same (leastDelay g) (r .least-delay) ld) (least-is g (leastDelayCost g) (of-closed g c));
+      greatest-delay = subst (IsGreatest g (greatestDelayCost g)) (of-same (greatestDelay g) (r .greatest-delay) gd) (greatest-is g (greatestDelayCost g) (of-closed g c));
+      least-count = subst (IsLeast g (countCost g)) (of-same (leastCount g) (r .least-count) lc) (least-is g (countCost g) (of-closed g c));
+      greatest-count = subst (IsGreatest g (countCost g)) (of-same (greatestCount g) (r .greatest-count) gc) (greatest-is g (countCost g) (of-closed g c));
     }
 
 -- ---- the tables

@@ -1,5 +1,8 @@
 -- The theorems, in the order to read them.
--- Walks: a list of numbers below n has a repeat; what every walk has; simple walks; endless walks; what walks cost.
+-- Facts on small plans, straight from the definitions.
+pub mod Basic
+-- Walks: what tests say; a list of numbers below n has a repeat; what every walk has; simple walks; endless walks; what walks cost.
+pub mod Tests
 pub mod Repeat
 pub mod Walks
 pub mod Simple

@@ -11,12 +11,13 @@ use mathlib.Core.List.{List, [], _∷_, _++_, map, List·Memᴰ, List·Memᴰ·h
 use native.Mathlib.Nat.{not-suc-le-zero, lt-suc-self, le-step}
 use native.Mathlib.Decide.{ℕ-discrete}
 use native.Mathlib.Omega.{arith}
-use lib.Dec.{eqb}
+use lib.Dec.{eqb, ltb}
 use lib.ListN.{length}
-use borrow.Author.Tests.{eqb-true, eq-eqb, not-true}
-use Rattle.graph.specs.Graph.{Graph, states, count, start, final, from, to, Departs, Unfinished, DeadEnd}
+use borrow.Author.Tests.{eqb-true, eq-eqb, ltb-true, not-true, not-false}
+use Rattle.graph.specs.Graph.{Graph, states, count, start, final, from, to, Departs, Unfinished, DeadEnd, Closed}
 use Rattle.graph.specs.Walk.{Begins, WalkTo}
-use Rattle.graph.specs.Compute.{given, gather, nonempty, leaving, deadEnd, walks, begun, within}
+use Rattle.graph.specs.Compute.{given, gather, nonempty, any, closed, leaving, deadEnd, walks, begun, within}
+use Rattle.graph.proofs.Tests.{decided, any-of, in-any, none-of}
 use Rattle.graph.proofs.Walks.{start-below}
 
 infix 50 _∈_
@@ -126,36 +127,39 @@ module _ (g : Graph) (stop : ℕ → Bool) where
   unfolding within
   in-within s ts b w h = in-gather (begun g stop) (states g) (length ts) h (in-begun s ts b w)
 
--- ---- dead ends
+-- ---- plans that lead nowhere else, and dead ends
+
+pub of-closed : (g : Graph) → closed g ≡ true → Closed g
+unfolding closed
+of-closed g e t h =
+    let p : ℕ → Bool = λ t. not (ltb (to g t) (states g)) in
+    ltb-true (to g t) (states g) (not-false (ltb (to g t) (states g)) (none-of p (count g) (not-true (any p (count g)) e) t h))
 
 module _ (g : Graph) (s : ℕ) where
-  abbrev one-leaving : ℕ → List ℕ
-  one-leaving t = given (eqb (from g t) s) (t ∷ [])
-
-  pub of-leaving : (t : ℕ) → t ∈ leaving g s → Departs g s t
+  pub of-leaving : leaving g s ≡ true → (t : ℕ) × Departs g s t
   unfolding leaving
-  of-leaving t m =
-      let (u, h, m₁) = of-gather one-leaving (count g) m in
-      let (e, m₂) = of-given (eqb (from g u) s) m₁ in
-      subst (Departs g s) (sym (List·Memᴰ·eq-of-singleton m₂)) (record { listed = h; source = eqb-true (from g u) s e })
+  of-leaving e =
+      let (t, h, q) = any-of (λ t. eqb (from g t) s) (count g) e in
+      (t, record { listed = h; source = eqb-true (from g t) s q })
 
-  pub in-leaving : (t : ℕ) → Departs g s t → t ∈ leaving g s
+  pub in-leaving : (t : ℕ) → Departs g s t → leaving g s ≡ true
   unfolding leaving
-  in-leaving t d = in-gather one-leaving (count g) t (d .listed) (in-given (eqb (from g t) s) (eq-eqb (from g t) s (d .source)) (List·Memᴰ·head refl))
+  in-leaving t d = in-any (λ t. eqb (from g t) s) (count g) t (d .listed) (eq-eqb (from g t) s (d .source))
+
+  -- an unfinished state that no transition leaves
+  pub shut-end : Unfinished g s → leaving g s ≡ false → DeadEnd g s
+  shut-end u e = record { unfinished = u; shut = λ t d. false≢true (sym e ∙ in-leaving t d) }
 
   pub of-deadEnd : deadEnd g s ≡ true → DeadEnd g s
   unfolding deadEnd
   of-deadEnd e =
-      let (u, v) = and-eq-true-iff (not (final g s)) (not (nonempty (leaving g s))) .0 e in
-      record {
-        unfinished = not-true (final g s) u;
-        shut = λ t d. false≢true (sym (not-true (nonempty (leaving g s)) v) ∙ in-nonempty (leaving g s) (in-leaving t d));
-      }
+      let (u, v) = and-eq-true-iff (not (final g s)) (not (leaving g s)) .0 e in
+      shut-end (not-true (final g s) u) (not-true (leaving g s) v)
 
   pub in-deadEnd : DeadEnd g s → deadEnd g s ≡ true
   unfolding deadEnd
-  in-deadEnd d = rw (d .unfinished, none-leaves (nonempty (leaving g s)) refl)
+  in-deadEnd d = rw (d .unfinished, none-leaves (decided (leaving g s)))
     where
-      none-leaves : (b : Bool) → nonempty (leaving g s) ≡ b → nonempty (leaving g s) ≡ false
-      none-leaves true e = let (t, m) = of-nonempty (leaving g s) e in absurd (d .shut t (of-leaving t m))
-      none-leaves false e = e
+      none-leaves : (leaving g s ≡ true) ⊎ (leaving g s ≡ false) → leaving g s ≡ false
+      none-leaves (inl e) = let (t, q) = of-leaving e in absurd (d .shut t q)
+      none-leaves (inr e) = e

@@ -2,17 +2,18 @@
 -- calculators that demand 2 names, refuted. Assumes nothing.
 use Prim.Native.Nat.{ℕ, _<_}
 use mathlib.Core.Path.{_≡_, sym, _∙_}
+use mathlib.Core.Logic.{_↔_}
 use mathlib.Core.Bool.{Bool}
 use mathlib.Core.List.{List, []}
 use lib.Dec.{lit<}
 use lib.ListN.{length}
 use Rattle.graph.specs.Graph.{Graph, low, high, Final, Unfinished, DeadEnd}
-use Rattle.graph.specs.Walk.{Begins, visits, arrival}
-use Rattle.graph.specs.Route.{Route, Cost, lows, highs, counts, delay, number-on}
-use Rattle.graph.specs.Figure.{Figure, number, NONE, STRANDED, ENDLESS, IsLeast, IsGreatest, Shown, greatestDelayCost}
+use Rattle.graph.specs.Walk.{Begins, WalkTo, FromStart, Walk, UnfinishedWalk, visits, arrival}
+use Rattle.graph.specs.Route.{Route, StrandedWalk, Cost, lows, highs, counts, delay, number-on}
+use Rattle.graph.specs.Figure.{Figure, number, NONE, STRANDED, ENDLESS, IsLeast, IsGreatest, Shown}
 use Rattle.graph.specs.Known.{P2, P3}
 use Rattle.graph.proofs.Repeat.{nth}
-use Rattle.graph.proofs.Walks.{passed, stopped}
+use Rattle.graph.proofs.Walks.{passed, stopped, plain, walk-of}
 use Rattle.graph.proofs.Cost.{delay-is, count-is}
 use Rattle.graph.proofs.Known.{known-hold}
 
@@ -21,20 +22,36 @@ module _ (g : Graph) where
   pub final-start : (s : ℕ) → Begins g s → Final g s → Route g s []
   final-start s b f = (b, f)
 
-  -- a route's "last state is final" ..
-  pub last-final : (s : ℕ) (ts : List ℕ) → Route g s ts → Final g (arrival g s ts)
-  last-final s ts r = stopped g (Unfinished g) (Final g) s ts (r .1)
+  -- in 01's own words: a walk, `earlier` of each state but the last, and `last` of the last one
+  pub record InWords (earlier last : ℕ → Type 0) (s : ℕ) (ts : List ℕ) : Type 0 where
+    pub walk : Walk g s ts
+    pub before : (i : ℕ) → i < length ts → earlier (nth (visits g s ts) i)
+    pub ends : last (arrival g s ts)
 
-  -- .. "and no earlier one is"
-  pub earlier-unfinished : (s : ℕ) (ts : List ℕ) → Route g s ts → (i : ℕ) → i < length ts → Unfinished g (nth (visits g s ts) i)
-  earlier-unfinished s ts r = passed g (Unfinished g) (Final g) s ts (r .1)
+  in-words : (earlier last : ℕ → Type 0) (s : ℕ) (ts : List ℕ) → FromStart g (WalkTo g earlier last) s ts ↔ InWords earlier last s ts
+  in-words earlier last s ts = (
+    λ (b, w). record { walk = (b, plain g earlier last s ts w); before = passed g earlier last s ts w; ends = stopped g earlier last s ts w },
+    λ r. (r .walk .0, walk-of g earlier last s ts (r .walk .1) (r .before) (r .ends)),
+  )
+
+  -- "A route is a finite walk whose last state is final and no earlier one is."
+  pub route-is : (s : ℕ) (ts : List ℕ) → Route g s ts ↔ InWords (Unfinished g) (Final g) s ts
+  route-is = in-words (Unfinished g) (Final g)
+
+  -- "a walk of unfinished states"
+  pub unfinished-is : (s : ℕ) (ts : List ℕ) → UnfinishedWalk g s ts ↔ InWords (Unfinished g) (Unfinished g) s ts
+  unfinished-is = in-words (Unfinished g) (Unfinished g)
+
+  -- "a walk of unfinished states ends in a dead end", which is unfinished too
+  pub stranded-is : (s : ℕ) (ts : List ℕ) → StrandedWalk g s ts ↔ InWords (Unfinished g) (DeadEnd g) s ts
+  stranded-is = in-words (Unfinished g) (DeadEnd g)
 
   -- "A number or STRANDED shown with k at 0 means the walk of some start alone."
-  pub number-alone : (k j : ℕ) → Shown g (greatestDelayCost g) (number k) [] j → (s : ℕ) × Begins g s × Final g s
-  number-alone k j (s, r, q, d) = (s, r .0, r .1)
+  pub number-alone : (c : Cost) (k j : ℕ) → Shown g c (number k) [] j → (s : ℕ) × Begins g s × Final g s
+  number-alone c k j (s, r, q, d) = (s, r .0, r .1)
 
-  pub stranded-alone : (j : ℕ) → Shown g (greatestDelayCost g) STRANDED [] j → (s : ℕ) × Begins g s × DeadEnd g s
-  stranded-alone j (s, (b, w), d) = (s, b, w)
+  pub stranded-alone : (c : Cost) (j : ℕ) → Shown g c STRANDED [] j → (s : ℕ) × Begins g s × DeadEnd g s
+  stranded-alone c j (s, (b, w), d) = (s, b, w)
 
   -- the number shown is the sum over the walk shown, "of its lows for a least figure, and of its highs for a greatest one" ..
   pub shown-lows : (k : ℕ) (ts : List ℕ) (j : ℕ) → Shown g (lows g) (number k) ts j → delay (low g) ts ≡ k

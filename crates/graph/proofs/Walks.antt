@@ -2,17 +2,17 @@
 --
 -- All of it is by recursion on the list of transitions, for any condition on the states passed and on the last one; so it holds of routes, of
 -- unfinished walks and of walks to a dead end alike. Assumes nothing.
-use Prim.Native.Nat.{ℕ, zero, suc, _≤_, _<_, _/_, _%_}
+use Prim.Native.Nat.{ℕ, zero, suc, _≤_, _<_, _/_, _%_, suc-le-suc}
 use mathlib.Core.Path.{_≡_, refl, sym, _∙_, ap}
 use mathlib.Core.Bool.{false≢true}
 use mathlib.Core.List.{List, [], _∷_}
-use native.Mathlib.Nat.{not-suc-le-zero, le-of-suc-le-suc}
+use native.Mathlib.Nat.{not-suc-le-zero, le-of-suc-le-suc, zero-lt-suc}
 use native.Mathlib.Decide.{decLt}
 use native.Mathlib.Omega.{arith}
 use lib.Dec.{eqb}
 use lib.ListN.{length, take, List·getD-eq-default}
 use Rattle.graph.specs.Graph.{Graph, states, marksOf, start, to, Departs, Closed}
-use Rattle.graph.specs.Walk.{Begins, WalkTo, visits, arrival}
+use Rattle.graph.specs.Walk.{Begins, WalkTo, WalkFrom, visits, arrival}
 use Rattle.graph.proofs.Repeat.{nth}
 
 -- a number that is no state's has no mark, so a start is a state of the plan
@@ -87,10 +87,18 @@ module _ (g : Graph) (pass stop : ℕ → Type 0) where
   front stop′ s (t ∷ ts) (suc k) w h q = (w .0, w .1, front stop′ (to g t) ts k (w .2) (le-of-suc-le-suc h) q)
 
   -- the last state may be said to be something else that it is
-  pub with-stop : (stop′ : ℕ → Type 0) → ((x : ℕ) → stop x → stop′ x) → (s : ℕ) (ts : List ℕ) → WalkTo g pass stop s ts → WalkTo g pass stop′ s ts
-  with-stop stop′ f s [] w = f s w
-  with-stop stop′ f s (t ∷ ts) w = (w .0, w .1, with-stop stop′ f (to g t) ts (w .2))
-
   pub with-last : (stop′ : ℕ → Type 0) (s : ℕ) (ts : List ℕ) → WalkTo g pass stop s ts → stop′ (arrival g s ts) → WalkTo g pass stop′ s ts
   with-last stop′ s [] w q = q
   with-last stop′ s (t ∷ ts) w q = (w .0, w .1, with-last stop′ (to g t) ts (w .2) q)
+
+  pub with-stop : (stop′ : ℕ → Type 0) → ((x : ℕ) → stop x → stop′ x) → (s : ℕ) (ts : List ℕ) → WalkTo g pass stop s ts → WalkTo g pass stop′ s ts
+  with-stop stop′ f s ts w = with-last stop′ s ts w (f (arrival g s ts) (stopped s ts w))
+
+  -- nothing asked of the states; and what is asked, put back place by place
+  pub plain : (s : ℕ) (ts : List ℕ) → WalkTo g pass stop s ts → WalkFrom g s ts
+  plain s [] w = tt
+  plain s (t ∷ ts) w = (tt, w .1, plain (to g t) ts (w .2))
+
+  pub walk-of : (s : ℕ) (ts : List ℕ) → WalkFrom g s ts → ((i : ℕ) → i < length ts → pass (nth (visits g s ts) i)) → stop (arrival g s ts) → WalkTo g pass stop s ts
+  walk-of s [] w p q = q
+  walk-of s (t ∷ ts) w p q = (p 0 (zero-lt-suc (length ts)), w .1, walk-of (to g t) ts (w .2) (λ i h. p (suc i) (suc-le-suc h)) q)

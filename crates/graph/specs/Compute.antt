@@ -5,9 +5,9 @@
 -- answer visit some state twice. So n is enough to look at. proofs/Least.antt and proofs/Greatest.antt show that what is computed here is
 -- what Figure.antt says. Assumes nothing.
 use Prim.Native.Nat.{ℕ, zero, suc, min, max}
-use mathlib.Core.Bool.{Bool, true, false, not, cond, _&&_}
+use mathlib.Core.Bool.{Bool, true, false, not, cond, _&&_, _||_}
 use mathlib.Core.List.{List, [], _∷_, _++_, map}
-use lib.Dec.{eqb}
+use lib.Dec.{eqb, ltb}
 use Rattle.graph.specs.Graph.{Graph, states, count, start, final, from, to}
 use Rattle.graph.specs.Route.{Cost, total}
 use Rattle.graph.specs.Figure.{Figure, number, NONE, STRANDED, ENDLESS, leastDelayCost, greatestDelayCost, countCost}
@@ -27,14 +27,25 @@ module _ {A : Type 0} where
   nonempty [] = false
   nonempty (x ∷ xs) = true
 
--- the transitions that leave s
-unfoldable pub leaving : Graph → ℕ → List ℕ
-leaving g s = gather (λ t. given (eqb (from g t) s) (t ∷ [])) (count g)
+-- does the test accept some number below n
+unfoldable pub any : (ℕ → Bool) → ℕ → Bool
+any p zero = false
+any p (suc n) = any p n || p n
+
+-- does every transition lead to a state of the plan
+unfoldable pub closed : Graph → Bool
+unfolding any
+closed g = not (any (λ t. not (ltb (to g t) (states g))) (count g))
+
+-- does a transition leave s
+unfoldable pub leaving : Graph → ℕ → Bool
+unfolding any
+leaving g s = any (λ t. eqb (from g t) s) (count g)
 
 -- "A dead end is an unfinished state that no transition leaves."
 unfoldable pub deadEnd : Graph → ℕ → Bool
 unfolding leaving
-deadEnd g s = not (final g s) && not (nonempty (leaving g s))
+deadEnd g s = not (final g s) && not (leaving g s)
 
 -- the walks of k transitions from s, through unfinished states to one where `stop` says yes
 unfoldable pub walks : Graph → (ℕ → Bool) → ℕ → ℕ → List (List ℕ)
@@ -68,7 +79,8 @@ extreme pick (x ∷ xs) = number (fold pick x xs)
 
 -- is a state marked start; is there an endless walk; is there one to a dead end
 unfoldable pub anyStart : Graph → Bool
-anyStart g = nonempty (gather (λ s. given (start g s) (s ∷ [])) (states g))
+unfolding any
+anyStart g = any (start g) (states g)
 
 unfoldable pub anyEndless : Graph → Bool
 unfolding begun

@@ -33,6 +33,14 @@ Begins g s = start g s ≡ true
 abbrev pub FromStart : Graph → (ℕ → List ℕ → Type 0) → ℕ → List ℕ → Type 0
 FromStart g K s ts = Begins g s × K s ts
 
+-- "A walk is a start state followed by transitions of the plan, each departing where the one before arrived": nothing more is asked of
+-- its states. First from any state.
+abbrev pub WalkFrom : Graph → ℕ → List ℕ → Type 0
+WalkFrom g = WalkTo g (λ s. Unit {0}) (λ s. Unit {0})
+
+abbrev pub Walk : Graph → ℕ → List ℕ → Type 0
+Walk g = FromStart g (WalkFrom g)
+
 -- "a walk of unfinished states"; first from any state
 abbrev pub UnfinishedFrom : Graph → ℕ → List ℕ → Type 0
 UnfinishedFrom g = WalkTo g (Unfinished g) (Unfinished g)

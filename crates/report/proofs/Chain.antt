@@ -14,8 +14,9 @@ use Rattle.graph.specs.Graph.{Graph, states, start, final, to}
 use Rattle.report.specs.Procedure.{Procedure, Returns, while}
 use Rattle.report.specs.Sets.{States, _∩_, _∪_, not-final, empty, same, T, T⁻¹}
 use Rattle.report.specs.Bounds.{Bound, Vars, lower, upper}
-use Rattle.report.proofs.Loop.{returns-some}
-use Rattle.report.proofs.Sets.{goes-on, or-cases, or-left, or-right, T-of, in-T, T⁻¹-of, in-T⁻¹, same-comm, size, size-all, Within, smaller}
+use Rattle.graph.proofs.Tests.{or-cases, or-left, or-right}
+use Rattle.report.proofs.Loop.{returns-some, goes-on}
+use Rattle.report.proofs.Sets.{T-of, in-T, T⁻¹-of, in-T⁻¹, same-comm, size, size-all, Within, smaller}
 
 -- `Down A B`: B may come after A. `left A`: how many sets may still come after A at most.
 module _ (g : Graph) (F : States → States) (more : Vars → Bool) (Down : States → States → Type 0) (left : States → ℕ)

@@ -30,10 +30,10 @@ use Rattle.report.specs.Procedure.{Returns}
 use Rattle.report.specs.Sets.{States, not-final}
 use Rattle.report.specs.Bounds.{Bound, finite, ∞, upper}
 use Rattle.report.specs.Counts.{Pairs, at, Tₐ, Side, minimal, maximal, numbers, Vars, counting, mincount, maxcount}
-use Rattle.report.specs.Agreement.{ReportPlan}
+use Rattle.report.specs.Agreement.{TotalPlan}
 use Rattle.report.proofs.Loop.{returns-holds, returns-some}
 use Rattle.report.proofs.Sets.{N-of, in-N}
-use Rattle.report.proofs.Upper.{Through, shorter, upper-says}
+use Rattle.report.proofs.Upper.{Through, shorter, upper-says, largest-greatest}
 use Rattle.report.proofs.Pairs.{of-at, in-at, of-first, in-first, of-Tₐ, in-Tₐ, Follows}
 use Rattle.report.proofs.Current.{Sided, Covers, When, covers-new, covers-old, remains}
 
@@ -116,7 +116,7 @@ module _ (g : Graph) (c : States) where
         let (t, d, a) = N-of g (u .0) (u′ .0) (f .joined) in
         (u, o, not-true (final g (u .0)) y, t, d, a, f, l)
 
-    module _ (q : ReportPlan g) where
+    module _ (q : TotalPlan g) where
       keep : (v : Vars) → Counted v → counting z g c .stop (counting z g c .first v) ≡ false → Counted (counting z g c .rest (counting z g c .first v))
       unfolding now
       keep v b h = record { sound = sound-next; complete = λ s₀ ts₀ r. complete-next s₀ ts₀ (complete-now v b s₀ ts₀ r); attained = attained-now v b }
@@ -219,16 +219,16 @@ sided-min = record { picks = picks-min; better-before = λ m k h. omega (arith, 
 sided-max : Sided maximal AtLeast
 sided-max = record { picks = picks-max; better-before = λ m k h. omega (arith, ltb-true k m h); else-after = λ m k h. omega (arith, ltb-false k m h) }
 
-module _ (g : Graph) (q : ReportPlan g) (i : ℕ) (u : Returns (upper g) (finite i)) (c : States) where
+module _ (g : Graph) (q : TotalPlan g) (i : ℕ) (u : Returns (upper g) (finite i)) (c : States) where
   pub mincount-returns : (k : ℕ) × Returns (mincount g c) (finite k) × IsLeast g (counts g c) (number k)
   mincount-returns =
-      let (x, short) = upper-says g q (finite i) u in
-      let (s, ts, r, e) = x .3 .attained in
-      returns g c minimal AtMost sided-min q i short s ts r
+      let x = upper-says g q (finite i) u in
+      let (s, ts, r, h) = x .attained in
+      returns g c minimal AtMost sided-min q i (x .ends) s ts r
 
   pub maxcount-returns : (k : ℕ) × Returns (maxcount g c) (finite k) × IsGreatest g (counts g c) (number k)
   maxcount-returns =
-      let (x, short) = upper-says g q (finite i) u in
-      let (s, ts, r, e) = x .3 .attained in
-      let (k, run, y) = returns g c maximal AtLeast sided-max q i short s ts r in
-      (k, run, (x .0, x .1, x .2, y))
+      let x = upper-says g q (finite i) u in
+      let (s, ts, r, h) = x .attained in
+      let (k, run, y) = returns g c maximal AtLeast sided-max q i (x .ends) s ts r in
+      (k, run, largest-greatest g q i x (counts g c) k y)

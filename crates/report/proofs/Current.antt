@@ -1,19 +1,20 @@
 -- What a turn of figures 5 and 6 makes of what is current.
 --
--- The number picked out of a list is in the list and before all of it, for min with ≤ and for max with ≥ (`Sided`). It replaces what is current where it is
--- better, and otherwise what is current is before it. So after a turn what is current is before all that it was before, and before all the numbers
--- reached (`covers-old`, `covers-new`), and it is one of them or what it was (`remains`). Assumes nothing.
+-- The number picked out of a list is in the list and before all of it, for min with ≤ and for max with ≥ (`fold-in`, `fold-before` of graph;
+-- `Sided`). It replaces what is current where it is better, and otherwise what is current is before it. So after a turn what is current is
+-- before all that it was before, and before all the numbers reached (`covers-old`, `covers-new`), and it is one of them or what it was
+-- (`remains`). Assumes nothing.
 use Prim.Native.Nat.{ℕ}
-use mathlib.Core.Path.{_≡_, refl, _∙_}
+use mathlib.Core.Path.{_≡_}
 use mathlib.Core.Bool.{Bool, true, false, cond}
 use mathlib.Core.Logic.{_⊎_, inl, inr}
-use mathlib.Core.List.{List, [], _∷_, List·Memᴰ·head, List·Memᴰ·tail, List·Memᴰ·not-nil, List·Memᴰ·cases-cons, List·Memᴰ·eq-of-singleton, Memᴰ·cast}
+use mathlib.Core.List.{List, [], _∷_, List·Memᴰ·not-nil}
 use Rattle.graph.specs.Compute.{fold}
+use Rattle.graph.proofs.Tests.{decided}
 use Rattle.graph.proofs.Listed.{_∈_}
-use Rattle.graph.proofs.Extreme.{Picks}
+use Rattle.graph.proofs.Extreme.{Picks, fold-in, fold-before}
 use Rattle.report.specs.Bounds.{Bound, finite, ∞}
 use Rattle.report.specs.Counts.{Side, improves, updated}
-use Rattle.report.proofs.Sets.{decided}
 
 -- what the two figures have in common: `before` is ≤ for min and "<", and ≥ for max and ">"
 pub record Sided (z : Side) (before : ℕ → ℕ → Type 0) : Type 0 where
@@ -32,30 +33,6 @@ When P (finite m) = P m
 When P ∞ = Unit {0}
 
 module _ (z : Side) (before : ℕ → ℕ → Type 0) (Z : Sided z before) where
-  -- the number picked is one of the list, and before all of it
-  picked-in : (x : ℕ) (xs : List ℕ) → fold (z .pick) x xs ∈ (x ∷ xs)
-  picked-in x [] = List·Memᴰ·head refl
-  picked-in x (y ∷ ys) = go (List·Memᴰ·cases-cons (picked-in x ys)) (Z .picks .either y (fold (z .pick) x ys))
-    where
-      go : (fold (z .pick) x ys ≡ x) ⊎ (fold (z .pick) x ys ∈ ys)
-          → (z .pick y (fold (z .pick) x ys) ≡ y) ⊎ (z .pick y (fold (z .pick) x ys) ≡ fold (z .pick) x ys)
-          → z .pick y (fold (z .pick) x ys) ∈ (x ∷ y ∷ ys)
-      go m (inl e) = List·Memᴰ·tail (List·Memᴰ·head e)
-      go (inl e′) (inr e) = List·Memᴰ·head (e ∙ e′)
-      go (inr m) (inr e) = Memᴰ·cast e (List·Memᴰ·tail (List·Memᴰ·tail m))
-
-  picked-before : (x : ℕ) (xs : List ℕ) {k : ℕ} → k ∈ (x ∷ xs) → before (fold (z .pick) x xs) k
-  picked-before x [] {k} m = rw (List·Memᴰ·eq-of-singleton m) (Z .picks .self x)
-  picked-before x (y ∷ ys) {k} m = go (λ n. Z .picks .trans _ _ _ (Z .picks .right y (fold (z .pick) x ys)) (picked-before x ys n)) (List·Memᴰ·cases-cons m)
-    where
-      go : (k ∈ (x ∷ ys) → before (z .pick y (fold (z .pick) x ys)) k) → (k ≡ x) ⊎ (k ∈ (y ∷ ys)) → before (z .pick y (fold (z .pick) x ys)) k
-      go later (inl e) = later (List·Memᴰ·head e)
-      go later (inr n) = next (List·Memᴰ·cases-cons n)
-        where
-          next : (k ≡ y) ⊎ (k ∈ ys) → before (z .pick y (fold (z .pick) x ys)) k
-          next (inl e) = rw e (Z .picks .left y (fold (z .pick) x ys))
-          next (inr r) = later (List·Memᴰ·tail r)
-
   -- what "if m < current_min then current_min = m" leaves is before m and before all that was covered, and it is m or what was there (`one-of`)
   record Replaced (b : Bound) (m : ℕ) (b′ : Bound) : Type 0 where
     new : Covers before b′ m
@@ -86,7 +63,7 @@ module _ (z : Side) (before : ℕ → ℕ → Type 0) (Z : Sided z before) where
   covers-new b [] k n = absurd (List·Memᴰ·not-nil n)
   covers-new b (x ∷ xs) k n =
       let m = fold (z .pick) x xs in
-      later (cond (improves z m b) (finite m) b) m k (picked-before x xs n) (replaced b m .new)
+      later (cond (improves z m b) (finite m) b) m k (fold-before (z .pick) before (Z .picks) x xs k n) (replaced b m .new)
 
   pub covers-old : (b : Bound) (ks : List ℕ) (x : ℕ) → Covers before b x → Covers before (updated z ks b) x
   unfolding updated
@@ -96,4 +73,4 @@ module _ (z : Side) (before : ℕ → ℕ → Type 0) (Z : Sided z before) where
   pub remains : (P : ℕ → Type 0) (b : Bound) (ks : List ℕ) → ((k : ℕ) → k ∈ ks → P k) → When P b → When P (updated z ks b)
   unfolding updated
   remains P b [] p o = o
-  remains P b (x ∷ xs) p o = let m = fold (z .pick) x xs in one-of P b m (p m (picked-in x xs)) o
+  remains P b (x ∷ xs) p o = let m = fold (z .pick) x xs in one-of P b m (p m (fold-in (z .pick) before (Z .picks) x xs)) o

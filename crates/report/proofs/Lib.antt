@@ -1,12 +1,17 @@
+-- The theorems, in the order to read them.
+-- Runs on small plans, straight from the definitions.
+pub mod Basic
+-- Loops, sets and pairs: what a run gives; what the operations say of states.
 pub mod Loop
 pub mod Sets
+pub mod Pairs
+-- lower and upper return, and what they return.
 pub mod Chain
-pub mod Plan
 pub mod Lower
 pub mod Upper
-pub mod Pairs
+-- mincount and maxcount return, and what they return.
 pub mod Current
 pub mod Counts
-pub mod Agreement
-pub mod Corners
+-- All four are the figures, and a test for their premises.
+pub mod Figures
 pub mod Premises

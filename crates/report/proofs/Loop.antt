@@ -2,10 +2,12 @@
 --
 -- What holds before each turn holds before the last one, so what is returned can be read off it (`returns-holds`): that is the report's "loop invariant".
 -- If before each turn a number says how many turns may follow at most, and falls with each turn, then there is a run: by recursion on that number (`returns-some`).
--- A test says yes or no and not both, so there is one run, and a procedure returns one value (`returns-once`). Assumes nothing.
+-- A test says yes or no and not both, so there is one run, and a procedure returns one value (`returns-once`).
+-- Last, what the test of a `while` says that has two parts. Assumes nothing.
 use Prim.Native.Nat.{ℕ, zero, suc}
 use mathlib.Core.Path.{_≡_, refl, sym, _∙_, ap}
-use mathlib.Core.Bool.{Bool, true, false, true≢false}
+use mathlib.Core.Bool.{Bool, true, false, not, _&&_, true≢false, false≢true}
+use mathlib.Core.Logic.{_⊎_, inl, inr}
 use Rattle.report.specs.Procedure.{Loop, ends, turns, Procedure, Returns}
 
 module _ {S A : Type 0} (q : Procedure S A) where
@@ -47,3 +49,14 @@ module _ {S A : Type 0} (q : Procedure S A) where
 
   pub returns-once : {a b : A} → Returns q a → Returns q b → a ≡ b
   returns-once (e, r, h) (e′, r′, h′) = sym h ∙ ap (q .answer) (once r r′) ∙ h′
+
+-- the loop goes on where both parts say yes, and has ended where one says no
+pub goes-on : (a b : Bool) → not (a && b) ≡ false → (a ≡ true) × (b ≡ true)
+goes-on true true h = (refl, refl)
+goes-on true false h = absurd (true≢false h)
+goes-on false b h = absurd (true≢false h)
+
+pub ended : (a b : Bool) → not (a && b) ≡ true → (a ≡ false) ⊎ (b ≡ false)
+ended true true h = absurd (false≢true h)
+ended true false h = inr refl
+ended false b h = inl refl

@@ -18,14 +18,15 @@ use borrow.Author.Tests.{not-false}
 use Rattle.graph.specs.Graph.{Graph, states, final, to, Departs, Final, Unfinished}
 use Rattle.graph.specs.Route.{RouteFrom, Route, total, lows}
 use Rattle.graph.specs.Figure.{NONE, Smallest, IsLeast, leastDelayCost}
+use Rattle.graph.proofs.Tests.{decided, or-cases, or-left}
 use Rattle.graph.proofs.Walks.{start-below}
+use Rattle.graph.proofs.Cost.{total-length}
 use Rattle.report.specs.Procedure.{Returns}
 use Rattle.report.specs.Sets.{States, _∩_, empty, same, T}
 use Rattle.report.specs.Bounds.{Bound, Vars, lower}
 use Rattle.report.specs.Agreement.{ReportPlan, leastFigure}
-use Rattle.report.proofs.Loop.{returns-holds}
-use Rattle.report.proofs.Sets.{decided, goes-on, ended, or-cases, or-left, of-empty, of-not-empty, of-same, T-of, in-T}
-use Rattle.report.proofs.Plan.{total-length}
+use Rattle.report.proofs.Loop.{returns-holds, goes-on, ended}
+use Rattle.report.proofs.Sets.{of-empty, of-not-empty, of-same, T-of, in-T}
 
 module _ (g : Graph) where
   record Reached (v : Vars) : Type 0 where
@@ -73,7 +74,7 @@ module _ (g : Graph) (q : ReportPlan g) where
         go : (s : ℕ) (ts : List ℕ) → s < states g → v .R s ≡ true → RouteFrom g s ts → length ts₀ ≡ v .i + length ts
             → (s : ℕ) × (ts : List ℕ) × (s < states g) × (v .R′ s ≡ true) × RouteFrom g s ts × (length ts₀ ≡ v .i + 1 + length ts)
         go s [] l m w h = absurd (true≢false (sym w ∙ unfinished (v .R) apart s l m))
-        go s (t ∷ ts) l m w h = (to g t, ts, q .closed t (w .1 .listed), stepped v b s t l m (w .1), w .2, omega arith)
+        go s (t ∷ ts) l m w h = (to g t, ts, q .total .closed t (w .1 .listed), stepped v b s t l m (w .1), w .2, omega arith)
 
   keep : (v : Vars) → Reached g v → lower g .stop v ≡ false → Reached g (lower g .rest v)
   keep v b h =
@@ -103,7 +104,7 @@ module _ (g : Graph) (q : ReportPlan g) where
     never-out : (s : ℕ) (ts : List ℕ) → s < states g → v .R s ≡ true → RouteFrom g s ts → ⊥
     never-out s [] l m w = true≢false (sym w ∙ unfinished (v .R) apart s l m)
     never-out s (t ∷ ts) l m w =
-        let l′ : to g t < states g = q .closed t (w .1 .listed) in
+        let l′ : to g t < states g = q .total .closed t (w .1 .listed) in
         never-out (to g t) ts l′ (sym (of-same g (v .R′) (v .R) still (to g t) l′) ∙ stepped v b s t l m (w .1)) (w .2)
 
     none : IsLeast g (leastDelayCost g) NONE

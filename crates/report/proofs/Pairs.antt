@@ -16,10 +16,10 @@ use Rattle.graph.specs.Graph.{Graph, states, start}
 use Rattle.graph.specs.Walk.{Begins}
 use Rattle.graph.specs.Route.{one}
 use Rattle.graph.specs.Compute.{given, gather}
+use Rattle.graph.proofs.Tests.{decided, or-cases, or-left, or-right}
 use Rattle.graph.proofs.Listed.{_∈_, of-given, in-given, of-gather, in-gather}
 use Rattle.report.specs.Sets.{States, _∩_, N}
 use Rattle.report.specs.Counts.{Pairs, paired, those, at, Nₐ, Tₐ}
-use Rattle.report.proofs.Sets.{decided, or-cases, or-left, or-right}
 
 -- ---- those pairs that a test accepts, and the pairs at some states
 

@@ -1,84 +1,83 @@
--- The premises of `ReportPlan` can be met, and tested.
+-- The premises of `ReportPlan` and `TotalPlan` can be met, and tested.
 --
--- Whether a plan is one that demand 2 names is a computed test: no transition leads astray or lasts other than 1, some state is a start, and no state is shut
--- (`report-plan`). P1 with durations of 1 passes it. So what the procedures return on it, worked out in Corners, are its four figures. Assumes nothing.
+-- Whether a plan is one that demand 2 names is a computed test: every transition leads to a state and lasts 1, some state is a start, and no
+-- state is a dead end (`report-plan`). A plan of Basic passes it, so what lower and upper return there are its delays. The test without durations
+-- is for the counts (`total-plan`): P1 passes that, so what mincount and maxcount return there are its counts. Assumes nothing.
 use Prim.Native.Nat.{ℕ, _<_}
-use mathlib.Core.Path.{_≡_, refl, sym, _∙_}
-use mathlib.Core.Bool.{Bool, true, false, not, _&&_, true≢false, and-eq-true-iff}
-use mathlib.Core.Logic.{_⊎_, inl, inr}
-use lib.Dec.{eqb, ltb}
-use borrow.Author.Tests.{eqb-true, ltb-true, not-true, not-false}
+use mathlib.Core.Path.{_≡_, refl}
+use mathlib.Core.Bool.{Bool, true, false, not, _&&_, and-eq-true-iff}
+use lib.Dec.{eqb}
+use borrow.Author.Tests.{eqb-true, not-true, not-false}
 use Rattle.graph.specs.Graph.{Graph, states, count, marksOf, start, final, transition, from, to, low, high, Departs, Unfinished}
 use Rattle.graph.specs.Figure.{number, IsLeast, IsGreatest, leastDelayCost, greatestDelayCost, countCost}
-use Rattle.report.specs.Sets.{States, any}
+use Rattle.graph.specs.Compute.{any, closed, leaving, deadEnd}
+use Rattle.graph.specs.Known.{P1}
+use Rattle.graph.proofs.Tests.{any-of, none-of}
+use Rattle.graph.proofs.Listed.{of-closed, of-leaving}
 use Rattle.report.specs.Bounds.{finite}
-use Rattle.report.specs.Agreement.{ReportPlan}
-use Rattle.report.proofs.Sets.{decided, any-of, in-any}
-use Rattle.report.proofs.Agreement.{agreement, least-count, greatest-count}
-use Rattle.report.proofs.Corners.{P1₁, P1-bounds, P1-counts}
+use Rattle.report.specs.Agreement.{TotalPlan, ReportPlan}
+use Rattle.report.proofs.Basic.{P1-bounds, P1-counts, on-from-answer, final-passed}
+use Rattle.report.proofs.Figures.{agreement, least-count, greatest-count}
 
-unfoldable pub astray : Graph → ℕ → Bool
-astray g t = not (ltb (to g t) (states g) && (eqb (low g t) 1 && eqb (high g t) 1))
+-- does transition t last other than 1
+unfoldable pub longer : Graph → ℕ → Bool
+longer g t = not (eqb (low g t) 1 && eqb (high g t) 1)
 
-unfoldable pub shut : Graph → ℕ → Bool
-shut g s = not (final g s) && not (any (λ t. eqb (from g t) s) (count g))
+unfoldable pub total-plan : Graph → Bool
+unfolding any closed deadEnd
+total-plan g = closed g && (any (start g) (states g) && not (any (deadEnd g) (states g)))
 
 unfoldable pub report-plan : Graph → Bool
-unfolding astray shut
-report-plan g = not (any (astray g) (count g)) && (any (start g) (states g) && not (any (shut g) (states g)))
+unfolding total-plan longer
+report-plan g = total-plan g && not (any (longer g) (count g))
 
-both : (a b : Bool) → a && b ≡ true → (a ≡ true) × (b ≡ true)
-both a b h = and-eq-true-iff a b .0 h
+not-longer : (g : Graph) (t : ℕ) → longer g t ≡ false → (low g t ≡ 1) × (high g t ≡ 1)
+unfolding longer
+not-longer g t h =
+    let (l, u) = and-eq-true-iff (eqb (low g t) 1) (eqb (high g t) 1) .0 (not-false (eqb (low g t) 1 && eqb (high g t) 1) h) in
+    (eqb-true (low g t) 1 l, eqb-true (high g t) 1 u)
 
--- what no number below n is, none is
-none-below : (A : States) (n : ℕ) → not (any A n) ≡ true → (s : ℕ) → s < n → A s ≡ false
-none-below A n h s l = go (decided (A s))
-  where
-    go : (A s ≡ true) ⊎ (A s ≡ false) → A s ≡ false
-    go (inl y) = absurd (true≢false (sym (in-any A n s l y) ∙ not-true (any A n) h))
-    go (inr e) = e
+not-dead-end : (g : Graph) (s : ℕ) → deadEnd g s ≡ false → Unfinished g s → (t : ℕ) × Departs g s t
+unfolding deadEnd
+not-dead-end g s h u = let some : not (leaving g s) ≡ false = rw u at h in of-leaving g s (not-false (leaving g s) some)
 
-not-astray : (g : Graph) (t : ℕ) → astray g t ≡ false → (to g t < states g) × (low g t ≡ 1) × (high g t ≡ 1)
-unfolding astray
-not-astray g t h =
-    let (i, d) = both (ltb (to g t) (states g)) _ (not-false (ltb (to g t) (states g) && (eqb (low g t) 1 && eqb (high g t) 1)) h) in
-    let (l, u) = both (eqb (low g t) 1) (eqb (high g t) 1) d in
-    (ltb-true (to g t) (states g) i, eqb-true (low g t) 1 l, eqb-true (high g t) 1 u)
-
-not-shut : (g : Graph) (s : ℕ) → shut g s ≡ false → Unfinished g s → (t : ℕ) × Departs g s t
-unfolding shut
-not-shut g s h u =
-    let some : not (any (λ t. eqb (from g t) s) (count g)) ≡ false = rw u at h in
-    let (t, l, y) = any-of (λ t. eqb (from g t) s) (count g) (not-false (any (λ t. eqb (from g t) s) (count g)) some) in
-    (t, record { listed = l; source = eqb-true (from g t) s y })
+pub of-total-plan : (g : Graph) → total-plan g ≡ true → TotalPlan g
+unfolding total-plan
+of-total-plan g h =
+    let (a, h′) = and-eq-true-iff (closed g) (any (start g) (states g) && not (any (deadEnd g) (states g))) .0 h in
+    let (b, c) = and-eq-true-iff (any (start g) (states g)) (not (any (deadEnd g) (states g))) .0 h′ in
+    let (s, l, y) = any-of (start g) (states g) b in
+    record {
+      closed = of-closed g a;
+      started = (s, y);
+      leaves = λ s l u. not-dead-end g s (none-of (deadEnd g) (states g) (not-true (any (deadEnd g) (states g)) c) s l) u;
+    }
 
 pub of-report-plan : (g : Graph) → report-plan g ≡ true → ReportPlan g
 unfolding report-plan
 of-report-plan g h =
-    let (a, h′) = both (not (any (astray g) (count g))) _ h in
-    let (b, c) = both (any (start g) (states g)) _ h′ in
-    let (s, l, y) = any-of (start g) (states g) b in
-    record {
-      closed = λ t l. not-astray g t (none-below (astray g) (count g) a t l) .0;
-      lows-one = λ t l. not-astray g t (none-below (astray g) (count g) a t l) .1;
-      highs-one = λ t l. not-astray g t (none-below (astray g) (count g) a t l) .2;
-      started = (s, y);
-      leaves = λ s l u. not-shut g s (none-below (shut g) (states g) c s l) u;
-    }
+    let (a, b) = and-eq-true-iff (total-plan g) (not (any (longer g) (count g))) .0 h in
+    let one : (t : ℕ) → t < count g → (low g t ≡ 1) × (high g t ≡ 1) = λ t l. not-longer g t (none-of (longer g) (count g) (not-true (any (longer g) (count g)) b) t l) in
+    record { total = of-total-plan g a; lows-one = λ t l. one t l .0; highs-one = λ t l. one t l .1 }
 
--- P1 with durations of 1 is such a plan, so its runs give its figures
-P1-plan : ReportPlan P1₁
-unfolding report-plan astray shut any marksOf start final from to low high transition
-P1-plan = of-report-plan P1₁ refl
+-- such a plan: its runs give its delays
+the-plan : ReportPlan on-from-answer
+unfolding report-plan marksOf start final from to low high transition
+the-plan = of-report-plan on-from-answer refl
 
-pub P1-least : IsLeast P1₁ (leastDelayCost P1₁) (number 2)
-P1-least = agreement P1₁ P1-plan .lower-least (finite 2) .0 (P1-bounds .shortest)
+pub least-by-run : IsLeast on-from-answer (leastDelayCost on-from-answer) (number 1)
+least-by-run = agreement on-from-answer the-plan .lower-least (finite 1) .0 (final-passed .shortest)
 
-pub P1-greatest : IsGreatest P1₁ (greatestDelayCost P1₁) (number 3)
-P1-greatest = agreement P1₁ P1-plan .upper-greatest (finite 3) .0 (P1-bounds .longest)
+pub greatest-by-run : IsGreatest on-from-answer (greatestDelayCost on-from-answer) (number 2)
+greatest-by-run = agreement on-from-answer the-plan .upper-greatest (finite 2) .0 (final-passed .longest)
 
-pub P1-least-count : IsLeast P1₁ (countCost P1₁) (number 1)
-P1-least-count = least-count P1₁ P1-plan 3 (P1-bounds .longest) 1 .0 (P1-counts .fewest)
+-- P1's durations are others: its runs give its counts
+P1-plan : TotalPlan (P1 .plan)
+unfolding total-plan marksOf start final from to transition
+P1-plan = of-total-plan (P1 .plan) refl
 
-pub P1-greatest-count : IsGreatest P1₁ (countCost P1₁) (number 2)
-P1-greatest-count = greatest-count P1₁ P1-plan 3 (P1-bounds .longest) 2 .0 (P1-counts .most)
+pub P1-least-count : IsLeast (P1 .plan) (countCost (P1 .plan)) (number 1)
+P1-least-count = least-count (P1 .plan) P1-plan 3 (P1-bounds .longest) 1 .0 (P1-counts .fewest)
+
+pub P1-greatest-count : IsGreatest (P1 .plan) (countCost (P1 .plan)) (number 2)
+P1-greatest-count = greatest-count (P1 .plan) P1-plan 3 (P1-bounds .longest) 2 .0 (P1-counts .most)

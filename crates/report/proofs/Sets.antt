@@ -1,66 +1,21 @@
 -- What the tests and the operations of specs/Sets.antt say of states.
 --
--- A search for some number below n that a test accepts finds one exactly if there is one, by recursion on n (`any-of`, `in-any`). All tests and operations are such
--- searches: so an empty set has no state, the same set the same states, and N, T and T⁻¹ are what transitions of the plan join.
--- Last, the number of states in a set, by the same recursion: a set within another that is not the same has fewer (`smaller`). Assumes nothing.
+-- A search for a number below n that a test accepts finds one exactly if there is one (`any-of`, `in-any` of graph). All tests and operations
+-- are such searches: so an empty set has no state, the same set the same states, and N, T and T⁻¹ are what transitions of the plan join.
+-- Last, the number of states in a set, by recursion on n: a set within another that is not the same has fewer (`smaller`). Assumes nothing.
 use Prim.Native.Nat.{ℕ, zero, suc, _+_, _≤_, _<_}
 use mathlib.Core.Path.{_≡_, refl, sym, _∙_, ap, fun-ext}
-use mathlib.Core.Bool.{Bool, true, false, not, _&&_, _||_, Bool·beq, true≢false, false≢true, and-eq-true-iff}
+use mathlib.Core.Bool.{Bool, true, false, not, _&&_, Bool·beq, true≢false, false≢true, and-eq-true-iff}
 use mathlib.Core.Logic.{_⊎_, inl, inr}
-use native.Mathlib.Nat.{not-suc-le-zero, lt-suc-self, le-step}
-use native.Mathlib.Decide.{ℕ-discrete}
+use native.Mathlib.Nat.{lt-suc-self, le-step}
 use native.Mathlib.Omega.{arith}
 use lib.Dec.{eqb}
 use borrow.Author.Tests.{eqb-true, eq-eqb, not-true, not-false}
 use Rattle.graph.specs.Graph.{Graph, states, count, from, to, Departs}
 use Rattle.graph.specs.Route.{one}
-use Rattle.report.specs.Sets.{States, any, _Δ_, empty, same, N, T, T⁻¹}
-
--- yes or no, with the equation
-pub decided : (b : Bool) → (b ≡ true) ⊎ (b ≡ false)
-decided true = inl refl
-decided false = inr refl
-
-pub or-cases : (a b : Bool) → (a || b) ≡ true → (a ≡ true) ⊎ (b ≡ true)
-or-cases true b h = inl refl
-or-cases false b h = inr h
-
-pub or-right : (a b : Bool) → b ≡ true → (a || b) ≡ true
-or-right true b h = refl
-or-right false b h = h
-
-pub or-left : (a b : Bool) → a ≡ true → (a || b) ≡ true
-or-left true b h = refl
-or-left false b h = absurd (false≢true h)
-
--- the test of a loop has two parts: it goes on where both say yes, and has ended where one says no
-pub goes-on : (a b : Bool) → not (a && b) ≡ false → (a ≡ true) × (b ≡ true)
-goes-on true true h = (refl, refl)
-goes-on true false h = absurd (true≢false h)
-goes-on false b h = absurd (true≢false h)
-
-pub ended : (a b : Bool) → not (a && b) ≡ true → (a ≡ false) ⊎ (b ≡ false)
-ended true true h = absurd (false≢true h)
-ended true false h = inr refl
-ended false b h = inl refl
-
-pub any-of : (A : States) (n : ℕ) → any A n ≡ true → (s : ℕ) × (s < n) × (A s ≡ true)
-unfolding any
-any-of A zero h = absurd (false≢true h)
-any-of A (suc n) h = go (any-of A n) (or-cases (any A n) (A n) h)
-  where
-    go : (any A n ≡ true → (s : ℕ) × (s < n) × (A s ≡ true)) → (any A n ≡ true) ⊎ (A n ≡ true) → (s : ℕ) × (s < suc n) × (A s ≡ true)
-    go ih (inl l) = let (s, h, a) = ih l in (s, le-step h, a)
-    go ih (inr r) = (n, lt-suc-self n, r)
-
-pub in-any : (A : States) (n s : ℕ) → s < n → A s ≡ true → any A n ≡ true
-unfolding any
-in-any A zero s h a = absurd (not-suc-le-zero h)
-in-any A (suc n) s h a = go (in-any A n s) (ℕ-discrete s n)
-  where
-    go : (s < n → A s ≡ true → any A n ≡ true) → Dec (s ≡ n) → (any A n || A n) ≡ true
-    go ih (yes e) = or-right (any A n) (A n) (rw e at a)
-    go ih (no e) = or-left (any A n) (A n) (ih (omega arith) a)
+use Rattle.graph.specs.Compute.{any}
+use Rattle.graph.proofs.Tests.{or-cases, any-of, in-any, none-of}
+use Rattle.report.specs.Sets.{States, _Δ_, empty, same, N, T, T⁻¹}
 
 -- an empty set has no state, and one that is not empty has one
 pub of-empty : (g : Graph) (A : States) → empty g A ≡ true → (s : ℕ) → s < states g → A s ≡ true → ⊥
@@ -79,12 +34,8 @@ not-apart false true h = absurd (true≢false h)
 not-apart false false h = refl
 
 pub of-same : (g : Graph) (A B : States) → same g A B ≡ true → (s : ℕ) → s < states g → A s ≡ B s
-unfolding same
-of-same g A B h s l = go (decided ((A Δ B) s))
-  where
-    go : ((A Δ B) s ≡ true) ⊎ ((A Δ B) s ≡ false) → A s ≡ B s
-    go (inl d) = absurd (of-empty g (A Δ B) h s l d)
-    go (inr e) = not-apart (A s) (B s) e
+unfolding same empty
+of-same g A B h s l = not-apart (A s) (B s) (none-of (A Δ B) (states g) (not-true (any (A Δ B) (states g)) h) s l)
 
 beq-comm : (a b : Bool) → Bool·beq a b ≡ Bool·beq b a
 beq-comm true true = refl
@@ -98,14 +49,11 @@ same-comm g A B = ap (empty g) (fun-ext (λ s. ap not (beq-comm (A s) (B s))))
 
 -- ---- successors and predecessors
 
-and-of : (a b : Bool) → (a && b) ≡ true → (a ≡ true) × (b ≡ true)
-and-of a b h = and-eq-true-iff a b .0 h
-
 pub N-of : (g : Graph) (s s′ : ℕ) → N g s s′ ≡ true → (t : ℕ) × Departs g s t × (to g t ≡ s′)
 unfolding N
 N-of g s s′ h =
     let (t, l, a) = any-of (λ (t : ℕ). eqb (from g t) s && eqb (to g t) s′) (count g) h in
-    let (f, o) = and-of (eqb (from g t) s) (eqb (to g t) s′) a in
+    let (f, o) = and-eq-true-iff (eqb (from g t) s) (eqb (to g t) s′) .0 a in
     (t, record { listed = l; source = eqb-true (from g t) s f }, eqb-true (to g t) s′ o)
 
 pub in-N : (g : Graph) (s t : ℕ) → Departs g s t → N g s (to g t) ≡ true
@@ -118,7 +66,7 @@ pub T-of : (g : Graph) (A : States) (s′ : ℕ) → T g A s′ ≡ true → (s 
 unfolding T
 T-of g A s′ h =
     let (s, l, a) = any-of (λ (s : ℕ). A s && N g s s′) (states g) h in
-    let (m, n) = and-of (A s) (N g s s′) a in
+    let (m, n) = and-eq-true-iff (A s) (N g s s′) .0 a in
     let (t, d, e) = N-of g s s′ n in
     (s, l, m, t, d, e)
 
@@ -130,7 +78,7 @@ pub T⁻¹-of : (g : Graph) (A : States) (s : ℕ) → T⁻¹ g A s ≡ true →
 unfolding T⁻¹
 T⁻¹-of g A s h =
     let (s′, l, a) = any-of (λ (s′ : ℕ). A s′ && N g s s′) (states g) h in
-    let (m, n) = and-of (A s′) (N g s s′) a in
+    let (m, n) = and-eq-true-iff (A s′) (N g s s′) .0 a in
     let (t, d, e) = N-of g s s′ n in
     (t, d, rw e l, rw e m)
 
@@ -147,11 +95,11 @@ size A (suc n) = one (A n) + size A n
 abbrev pub Within : ℕ → States → States → Type 0
 Within n A B = (s : ℕ) → s < n → A s ≡ true → B s ≡ true
 
-one-le : (a b : Bool) → (a ≡ true → b ≡ true) → one a ≤ one b
-one-le true true h = omega arith
-one-le true false h = absurd (false≢true (h refl))
-one-le false true h = omega arith
-one-le false false h = omega arith
+one-mono : (a b : Bool) → (a ≡ true → b ≡ true) → one a ≤ one b
+one-mono true true h = omega arith
+one-mono true false h = absurd (false≢true (h refl))
+one-mono false true h = omega arith
+one-mono false false h = omega arith
 
 one-lt : (a b : Bool) → (a ≡ true → b ≡ true) → not (Bool·beq b a) ≡ true → one a < one b
 one-lt true true h d = absurd (false≢true d)
@@ -162,12 +110,12 @@ one-lt false false h d = absurd (false≢true d)
 pub size-all : (A : States) (n : ℕ) → size A n ≤ n
 unfolding size
 size-all A zero = omega arith
-size-all A (suc n) = omega (arith, one-le (A n) true (λ _. refl), size-all A n)
+size-all A (suc n) = omega (arith, one-mono (A n) true (λ _. refl), size-all A n)
 
 size-le : (A B : States) (n : ℕ) → Within n A B → size A n ≤ size B n
 unfolding size
 size-le A B zero w = omega arith
-size-le A B (suc n) w = omega (arith, one-le (A n) (B n) (w n (lt-suc-self n)), size-le A B n (λ s h. w s (le-step h)))
+size-le A B (suc n) w = omega (arith, one-mono (A n) (B n) (w n (lt-suc-self n)), size-le A B n (λ s h. w s (le-step h)))
 
 -- a set within another that is not the same one has fewer states
 size-lt : (A B : States) (n : ℕ) → Within n A B → any (B Δ A) n ≡ true → size A n < size B n
@@ -176,7 +124,7 @@ size-lt A B zero w d = absurd (false≢true d)
 size-lt A B (suc n) w d = go (size-lt A B n (λ s h. w s (le-step h))) (or-cases (any (B Δ A) n) ((B Δ A) n) d)
   where
     go : (any (B Δ A) n ≡ true → size A n < size B n) → (any (B Δ A) n ≡ true) ⊎ ((B Δ A) n ≡ true) → one (A n) + size A n < one (B n) + size B n
-    go ih (inl l) = omega (arith, ih l, one-le (A n) (B n) (w n (lt-suc-self n)))
+    go ih (inl l) = omega (arith, ih l, one-mono (A n) (B n) (w n (lt-suc-self n)))
     go ih (inr r) = omega (arith, one-lt (A n) (B n) (w n (lt-suc-self n)) r, size-le A B n (λ s h. w s (le-step h)))
 
 pub smaller : (g : Graph) (A B : States) → Within (states g) A B → same g B A ≡ false → size A (states g) < size B (states g)

@@ -3,10 +3,11 @@
 -- Before each turn R holds the states from which a walk goes through i unfinished states, one transition out of each, and R' those for i + 1
 -- (`Through`, `Behind`). At first that is so since every unfinished state has a transition out; and a turn goes from R' to the unfinished states with
 -- a transition into R'. R has a start: at first since some state is marked start, and later since a turn is taken only where R' has one.
--- At the end, if R' is R, then every state of R is unfinished and has a transition into R: from the start in R that goes on for ever. If R' is not R, then R'
--- has no start. So no walk from a start goes through more than i unfinished states: no route has more than i transitions, and no walk is endless. And the walk
--- from the start in R, through i unfinished states, ends in a final one, or else the transition out of it would make it longer: a route of i
--- transitions. So i is the greatest. Assumes nothing.
+-- At the end, if R' is R, then every state of R is unfinished and has a transition into R: from the start in R that goes on for ever. If R' is
+-- not R, then R' has no start. So no walk from a start goes through more than i unfinished states: no route has more than i transitions, and
+-- no walk is endless. And the walk from the start in R, through i unfinished states, ends in a final one, or else the transition out of it
+-- would make it longer: a route of i transitions (`Longest`). No walk ends in a dead end, so what is largest over all routes is the greatest
+-- figure, for any cost (`largest-greatest`); and where each transition lasts 1, i is the greatest delay. Assumes nothing.
 use Prim.Native.Nat.{ℕ, zero, suc, _≤_, _<_}
 use mathlib.Core.Path.{_≡_, refl, sym, _∙_, ap}
 use mathlib.Core.Bool.{true, false, not, _&&_, true≢false, and-eq-true-iff}
@@ -20,16 +21,17 @@ use lib.ListN.{length}
 use borrow.Author.Tests.{not-true, not-false}
 use Rattle.graph.specs.Graph.{Graph, states, start, final, to, Departs, Final, Unfinished}
 use Rattle.graph.specs.Walk.{Begins, EndlessWalk}
-use Rattle.graph.specs.Route.{RouteFrom, Route, total, highs, GoesOnForever}
-use Rattle.graph.specs.Figure.{number, IsGreatest, greatestDelayCost}
+use Rattle.graph.specs.Route.{RouteFrom, Route, StrandedFrom, Cost, total, highs, GoesOnForever}
+use Rattle.graph.specs.Figure.{number, NoStart, Largest, IsGreatest, greatestDelayCost}
+use Rattle.graph.proofs.Tests.{decided}
 use Rattle.graph.proofs.Walks.{start-below}
+use Rattle.graph.proofs.Cost.{total-length}
 use Rattle.report.specs.Procedure.{Returns}
 use Rattle.report.specs.Sets.{_∩_, empty, same, T⁻¹}
 use Rattle.report.specs.Bounds.{Bound, finite, ∞, Vars, upper}
-use Rattle.report.specs.Agreement.{ReportPlan, greatestFigure}
-use Rattle.report.proofs.Loop.{returns-holds}
-use Rattle.report.proofs.Sets.{decided, goes-on, ended, of-empty, of-not-empty, of-same, same-comm, T⁻¹-of, in-T⁻¹}
-use Rattle.report.proofs.Plan.{total-length, no-dead-end}
+use Rattle.report.specs.Agreement.{TotalPlan, ReportPlan, greatestFigure}
+use Rattle.report.proofs.Loop.{returns-holds, goes-on, ended}
+use Rattle.report.proofs.Sets.{of-empty, of-not-empty, of-same, same-comm, T⁻¹-of, in-T⁻¹}
 
 -- from s a walk of k transitions goes, each out of an unfinished state
 abbrev pub Through : Graph → ℕ → ℕ → Type 0
@@ -57,7 +59,17 @@ module _ (g : Graph) where
     next : (s : ℕ) → s < states g → (v .R′ s ≡ true) ↔ Through g (suc (v .i)) s
     begun : (s : ℕ) × Begins g s × (v .R s ≡ true)
 
-module _ (g : Graph) (q : ReportPlan g) where
+  -- k is the length of a longest route, and no walk from a start goes through more than k unfinished states
+  pub record Longest (k : ℕ) : Type 0 where
+    pub ends : (s : ℕ) → Begins g s → Through g (suc k) s → ⊥
+    pub attained : (s : ℕ) × (ts : List ℕ) × Route g s ts × (length ts ≡ k)
+
+  -- what a value says
+  abbrev pub Says : Bound → Type 0
+  Says (finite k) = Longest k
+  Says ∞ = GoesOnForever g
+
+module _ (g : Graph) (q : TotalPlan g) where
   at-first : Behind g (upper g .begin)
   at-first = record {
     now = λ s l. (λ h. tt, λ w. refl);
@@ -114,9 +126,6 @@ module _ (g : Graph) (q : ReportPlan g) where
       unfinished = λ i. out (walk i) .0;
     }
 
-  started : ((s : ℕ) → Begins g s → ⊥) → ⊥
-  started none = none (q .started .0) (q .started .1)
-
   -- the end, with no start in R'
   module _ (v : Vars) (b : Behind g v) (apart : empty g (v .R′ ∩ start g) ≡ true) where
     no-further : (s : ℕ) → Begins g s → Through g (suc (v .i)) s → ⊥
@@ -135,46 +144,62 @@ module _ (g : Graph) (q : ReportPlan g) where
         let (ts, r, h) = ends-final k (to g t) (q .closed t (d .listed)) w (λ w′. no-more (u, t, d, w′)) in
         (t ∷ ts, (u, d, r), ap suc h)
 
-    cost : (s : ℕ) (ts : List ℕ) → Route g s ts → total g (greatestDelayCost g) s ts ≡ length ts
-    cost s ts r = total-length g (highs g) (Unfinished g) (Final g) (q .highs-one) (λ s. refl) s ts (r .1)
-
-    no-longer : (s : ℕ) (ts : List ℕ) → Route g s ts → length ts ≤ v .i
-    no-longer s ts r = go (decLe (suc (v .i)) (length ts))
-      where
-        go : Dec (v .i < length ts) → length ts ≤ v .i
-        go (yes h) = absurd (no-further s (r .0) (route-through g (suc (v .i)) s ts (r .1) h))
-        go (no h) = omega arith
-
-    greatest : IsGreatest g (greatestDelayCost g) (number (v .i))
-    greatest =
+    longest : Longest g (v .i)
+    longest =
         let (s, b′, m) = b .begun in
         let l = start-below g s b′ in
-        let (ts, r, h) = ends-final (v .i) s l (b .now s l .0 m) (no-further s b′) in (
-          started,
-          (λ e. no-further (e .state 0) (e .begins) (endless-through g e (suc (v .i)) 0)),
-          no-dead-end g q,
-          record {
-            attained = (s, ts, (b′, r), cost s ts (b′, r) ∙ h);
-            bound = λ s ts r. omega (arith, cost s ts r, no-longer s ts r);
-          },
-        )
+        let (ts, r, h) = ends-final (v .i) s l (b .now s l .0 m) (no-further s b′) in
+        record { ends = no-further; attained = (s, ts, (b′, r), h) }
 
-  -- what a value says: what the greatest delay is and, of a number, that no walk from a start goes through more unfinished states
-  abbrev pub Reach : Bound → Type 0
-  Reach (finite k) = (s : ℕ) → Begins g s → Through g (suc k) s → ⊥
-  Reach ∞ = Unit {0}
-
-  abbrev pub Says : Bound → Type 0
-  Says b = IsGreatest g (greatestDelayCost g) (greatestFigure b) × Reach b
-
-  end : (v : Vars) → Behind g v → upper g .stop v ≡ true → Says (upper g .answer v)
+  end : (v : Vars) → Behind g v → upper g .stop v ≡ true → Says g (upper g .answer v)
   end v b h = go (decided (same g (v .R) (v .R′))) (ended (not (same g (v .R′) (v .R))) (not (empty g (v .R′ ∩ start g))) h)
     where
       go : (same g (v .R) (v .R′) ≡ true) ⊎ (same g (v .R) (v .R′) ≡ false) → (not (same g (v .R′) (v .R)) ≡ false) ⊎ (not (empty g (v .R′ ∩ start g)) ≡ false)
-          → Says (upper g .answer v)
-      go (inl still) e = rw still ((started, endless v b still), tt)
+          → Says g (upper g .answer v)
+      go (inl still) e = rw still (endless v b still)
       go (inr moved) (inl e) = absurd (true≢false (sym (not-false (same g (v .R′) (v .R)) e) ∙ same-comm g (v .R′) (v .R) ∙ moved))
-      go (inr moved) (inr e) = let apart = not-false (empty g (v .R′ ∩ start g)) e in rw moved (greatest v b apart, no-further v b apart)
+      go (inr moved) (inr e) = rw moved (longest v b (not-false (empty g (v .R′ ∩ start g)) e))
 
-  pub upper-says : (b : Bound) → Returns (upper g) b → Says b
-  upper-says = returns-holds (upper g) (Behind g) Says keep end at-first
+  pub upper-says : (b : Bound) → Returns (upper g) b → Says g b
+  upper-says = returns-holds (upper g) (Behind g) (Says g) keep end at-first
+
+  -- ---- what that says of the figures
+
+  stranded : (s : ℕ) (ts : List ℕ) → s < states g → StrandedFrom g s ts → ⊥
+  stranded s [] l w = let (t, d) = q .leaves s l (w .unfinished) in w .shut t d
+  stranded s (t ∷ ts) l w = stranded (to g t) ts (q .closed t (w .1 .listed)) (w .2)
+
+  pub started : NoStart g → ⊥
+  started none = none (q .started .0) (q .started .1)
+
+  -- of a number, no other kind of greatest figure applies, whatever the cost: what is largest is greatest
+  pub largest-greatest : (i : ℕ) → Longest g i → (c : Cost) (k : ℕ) → Largest g c k → IsGreatest g c (number k)
+  largest-greatest i x c k h = (
+    started,
+    (λ e. x .ends (e .state 0) (e .begins) (endless-through g e (suc i) 0)),
+    (λ (s, ts, w). stranded s ts (start-below g s (w .0)) (w .1)),
+    h,
+  )
+
+module _ (g : Graph) (q : ReportPlan g) where
+  cost : (s : ℕ) (ts : List ℕ) → Route g s ts → total g (greatestDelayCost g) s ts ≡ length ts
+  cost s ts r = total-length g (highs g) (Unfinished g) (Final g) (q .highs-one) (λ s. refl) s ts (r .1)
+
+  no-longer : (i : ℕ) → Longest g i → (s : ℕ) (ts : List ℕ) → Route g s ts → length ts ≤ i
+  no-longer i x s ts r = go (decLe (suc i) (length ts))
+    where
+      go : Dec (i < length ts) → length ts ≤ i
+      go (yes h) = absurd (x .ends s (r .0) (route-through g (suc i) s ts (r .1) h))
+      go (no h) = omega arith
+
+  greatest : (b : Bound) → Says g b → IsGreatest g (greatestDelayCost g) (greatestFigure b)
+  greatest ∞ e = (started g (q .total), e)
+  greatest (finite i) x =
+      let (s, ts, r, h) = x .attained in
+      largest-greatest g (q .total) i x (greatestDelayCost g) i (record {
+        attained = (s, ts, r, cost s ts r ∙ h);
+        bound = λ s ts r. omega (arith, cost s ts r, no-longer i x s ts r);
+      })
+
+  pub upper-greatest : (b : Bound) → Returns (upper g) b → IsGreatest g (greatestDelayCost g) (greatestFigure b)
+  upper-greatest b r = greatest b (upper-says g (q .total) b r)

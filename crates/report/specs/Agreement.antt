@@ -1,4 +1,4 @@
--- What is shown of the four procedures: on which plans, and a field for each claim. proofs/Agreement.antt proves it. Assumes nothing.
+-- What is shown of the four procedures: on which plans, and a field for each claim. proofs/Figures.antt proves it. Assumes nothing.
 use Prim.Native.Nat.{ℕ, _<_}
 use mathlib.Core.Path.{_≡_}
 use mathlib.Core.Logic.{_↔_}
@@ -11,16 +11,21 @@ use Rattle.report.specs.Sets.{States}
 use Rattle.report.specs.Bounds.{Bound, finite, ∞, lower, upper}
 use Rattle.report.specs.Counts.{mincount, maxcount}
 
--- The plans that demand 2 names. Of a plan's limits one is needed: a transition leads to a state of the plan.
-pub record ReportPlan (g : Graph) : Type 0 where
+-- The plans that the counts are compared on, whatever their durations. Of a plan's limits one is needed: a transition leads to a state of
+-- the plan.
+pub record TotalPlan (g : Graph) : Type 0 where
   pub closed : Closed g
+  -- "some state is marked start"
+  pub started : (s : ℕ) × Begins g s
+  -- "every unfinished state has a transition out": the report's "the transition relation is total" (section 4, last paragraph)
+  pub leaves : (s : ℕ) → s < states g → Unfinished g s → (t : ℕ) × Departs g s t
+
+-- The plans that demand 2 names.
+pub record ReportPlan (g : Graph) : Type 0 where
+  pub total : TotalPlan g
   -- "all durations are 1"
   pub lows-one : (t : ℕ) → t < count g → low g t ≡ 1
   pub highs-one : (t : ℕ) → t < count g → high g t ≡ 1
-  -- "some state is marked start"
-  pub started : (s : ℕ) × Begins g s
-  -- "every unfinished state has a transition out"
-  pub leaves : (s : ℕ) → s < states g → Unfinished g s → (t : ℕ) × Departs g s t
 
 -- "Infinity from lower is NONE here, infinity from upper is ENDLESS." (document 01, "Where the rules come from")
 abbrev pub leastFigure : Bound → Figure
@@ -31,6 +36,13 @@ abbrev pub greatestFigure : Bound → Figure
 greatestFigure (finite k) = number k
 greatestFigure ∞ = ENDLESS
 
+-- wherever upper is finite, mincount and maxcount return numbers, the least and the greatest count: over any yes-or-no on states
+pub record CountAgreement (g : Graph) : Type 0 where
+  pub mincount-returns : (i : ℕ) → Returns (upper g) (finite i) → (c : States) → (k : ℕ) × Returns (mincount g c) (finite k)
+  pub maxcount-returns : (i : ℕ) → Returns (upper g) (finite i) → (c : States) → (k : ℕ) × Returns (maxcount g c) (finite k)
+  pub mincount-least : (i : ℕ) → Returns (upper g) (finite i) → (c : States) (k : ℕ) → Returns (mincount g c) (finite k) ↔ IsLeast g (counts g c) (number k)
+  pub maxcount-greatest : (i : ℕ) → Returns (upper g) (finite i) → (c : States) (k : ℕ) → Returns (maxcount g c) (finite k) ↔ IsGreatest g (counts g c) (number k)
+
 pub record Agreement (g : Graph) : Type 0 where
   -- lower and upper return
   pub lower-returns : (b : Bound) × Returns (lower g) b
@@ -38,8 +50,5 @@ pub record Agreement (g : Graph) : Type 0 where
   -- infinity from lower is NONE, infinity from upper is ENDLESS, and otherwise they return the least and the greatest delay
   pub lower-least : (b : Bound) → Returns (lower g) b ↔ IsLeast g (leastDelayCost g) (leastFigure b)
   pub upper-greatest : (b : Bound) → Returns (upper g) b ↔ IsGreatest g (greatestDelayCost g) (greatestFigure b)
-  -- wherever upper is finite, mincount and maxcount return numbers, the least and the greatest count: over any yes-or-no on states
-  pub mincount-returns : (i : ℕ) → Returns (upper g) (finite i) → (c : States) → (k : ℕ) × Returns (mincount g c) (finite k)
-  pub maxcount-returns : (i : ℕ) → Returns (upper g) (finite i) → (c : States) → (k : ℕ) × Returns (maxcount g c) (finite k)
-  pub mincount-least : (i : ℕ) → Returns (upper g) (finite i) → (c : States) (k : ℕ) → Returns (mincount g c) (finite k) ↔ IsLeast g (counts g c) (number k)
-  pub maxcount-greatest : (i : ℕ) → Returns (upper g) (finite i) → (c : States) (k : ℕ) → Returns (maxcount g c) (finite k) ↔ IsGreatest g (counts g c) (number k)
+  -- and the counts
+  pub counts-agree : CountAgreement g

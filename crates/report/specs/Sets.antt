@@ -1,19 +1,15 @@
 -- Sets of states, and the successors and predecessors of a set: what figures 3 and 4 are written in.
 --
--- A set of states is its yes-or-no on states. The states are the numbers below n, and no other number is ever looked at: `any` is the only
--- way to ask whether some state is in a set. Assumes nothing.
-use Prim.Native.Nat.{ℕ, zero, suc}
-use mathlib.Core.Bool.{Bool, true, false, not, _&&_, _||_, Bool·beq}
+-- A set of states is its yes-or-no on states. The states are the numbers below n, and no other number is ever looked at: `any` of graph's
+-- specs/Compute.antt is the only way to ask whether some state is in a set. Assumes nothing.
+use Prim.Native.Nat.{ℕ}
+use mathlib.Core.Bool.{Bool, true, not, _&&_, _||_, Bool·beq}
 use lib.Dec.{eqb}
 use Rattle.graph.specs.Graph.{Graph, states, count, final, from, to}
+use Rattle.graph.specs.Compute.{any}
 
 abbrev pub States : Type 0
 States = ℕ → Bool
-
--- some number below n is in the set
-unfoldable pub any : States → ℕ → Bool
-any A zero = false
-any A (suc n) = any A n || A n
 
 infixl 35 _∩_
 infixl 30 _∪_

@@ -1,25 +1,26 @@
 -- Runs of the procedures on small plans, turn by turn, and where they part from document 01.
 --
--- A run is written out: so many `turns`, then `ends`. Each test is computed. First plans of document 01 with durations of 1: what misleads people
--- there does not mislead the procedures. Then plans that `ReportPlan` leaves out: other durations, a dead end, no start, no transition at all. There a
--- procedure's value is not the figure: "Where they .. assume more than a plan offers (dead ends, no start), this paper rules."
+-- A run is written out: so many `turns`, then `ends`. Each test is computed. First plans of document 01, most with durations of 1: what misleads
+-- people there does not mislead the procedures. Then plans that the comparison leaves out: other durations, a dead end, no start, no transition at
+-- all. There a procedure's value is not the figure: "Where they .. assume more than a plan offers (dead ends, no start), this paper rules."
 -- Last, why figure 5 is not read by how far in its lines stand. Assumes nothing.
-use Prim.Native.Nat.{ℕ, _<_}
+use Prim.Native.Nat.{ℕ, zero, suc, _<_}
 use mathlib.Core.Path.{_≡_, refl, sym, _∙_, ap}
 use mathlib.Core.Bool.{true, false, not, cond, _&&_, true≢false, false≢true}
 use mathlib.Core.List.{List, [], _∷_}
-use native.Mathlib.Nat.{not-suc-le-zero}
+use native.Mathlib.Nat.{not-suc-le-zero, le-of-suc-le-suc}
 use native.Mathlib.Omega.{arith}
 use lib.Dec.{lit<}
-use Rattle.graph.specs.Graph.{Graph, Transition, marksOf, start, final, counted, transition, from, to}
-use Rattle.graph.specs.Compute.{nonempty}
+use Rattle.graph.specs.Graph.{Graph, Transition, marksOf, start, final, counted, transition, from, to, Departs}
+use Rattle.graph.specs.Compute.{any, nonempty}
 use Rattle.graph.specs.Figure.{number, NONE, STRANDED, IsLeast, IsGreatest, leastDelayCost, greatestDelayCost}
-use Rattle.graph.specs.Known.{join, P1, P2, P3, P5}
+use Rattle.graph.specs.Known.{join, P1, P2, P3, P5, reached-dead-end}
 use Rattle.graph.proofs.Walks.{start-below}
 use Rattle.graph.proofs.Known.{known-hold}
 use Rattle.report.specs.Procedure.{Loop, ends, turns, Procedure, Returns}
-use Rattle.report.specs.Sets.{States, any, empty, same, N, T, T⁻¹}
+use Rattle.report.specs.Sets.{States, empty, same, N, T, T⁻¹}
 use Rattle.report.specs.Bounds.{Bound, finite, ∞, lower, upper}
+use Rattle.report.specs.Agreement.{TotalPlan}
 use Rattle.report.specs.Counts.{those, at, Nₐ, Tₐ, updated, Vars, mincount, maxcount}
 
 -- a→b with durations of 1
@@ -41,18 +42,15 @@ pub record Counts (g : Graph) (least greatest : Bound) : Type 0 where
 
 -- ---- plans of document 01
 
--- P1: the way 0, 1, 3 is the shortest, and 0, 1, 2, 3 the longest
-abbrev pub P1₁ : Graph
-P1₁ = plan (4 ∷ 1 ∷ 1 ∷ 2 ∷ []) (step 0 1 ∷ step 1 2 ∷ step 1 3 ∷ step 2 3 ∷ [])
-
-pub P1-bounds : Bounds P1₁ (finite 2) (finite 3)
+-- P1: the route 0, 1, 3 is the shortest, and 0, 1, 2, 3 the longest
+pub P1-bounds : Bounds (P1 .plan) (finite 2) (finite 3)
 unfolding any empty same N T T⁻¹ marksOf start final from to transition
 P1-bounds = record {
   shortest = (_, turns refl (turns refl (ends refl)), refl);
   longest = (_, turns refl (turns refl (turns refl (ends refl))), refl);
 }
 
-pub P1-counts : Counts P1₁ (finite 1) (finite 2)
+pub P1-counts : Counts (P1 .plan) (finite 1) (finite 2)
 unfolding any N marksOf start final counted from to transition those Nₐ Tₐ updated
 P1-counts = record {
   fewest = (_, turns refl (turns refl (turns refl (ends refl))), refl);
@@ -84,7 +82,10 @@ unfolding any empty same N T T⁻¹ marksOf start final from to transition
 P8-bounds = record { shortest = (_, turns refl (ends refl), refl); longest = (_, turns refl (ends refl), refl) }
 
 -- A walk on from an answer: 1 is final and leads to 2 and back. The longest route is 0, 3, 1.
-pub final-passed : Bounds (plan (4 ∷ 2 ∷ 0 ∷ 0 ∷ []) (step 0 1 ∷ step 1 2 ∷ step 2 1 ∷ step 0 3 ∷ step 3 1 ∷ [])) (finite 1) (finite 2)
+abbrev pub on-from-answer : Graph
+on-from-answer = plan (4 ∷ 2 ∷ 0 ∷ 0 ∷ []) (step 0 1 ∷ step 1 2 ∷ step 2 1 ∷ step 0 3 ∷ step 3 1 ∷ [])
+
+pub final-passed : Bounds on-from-answer (finite 1) (finite 2)
 unfolding any empty same N T T⁻¹ marksOf start final from to transition
 final-passed = record { shortest = (_, turns refl (ends refl), refl); longest = (_, turns refl (turns refl (ends refl)), refl) }
 
@@ -98,12 +99,21 @@ pub ends-counted : Counts (plan (5 ∷ 3 ∷ []) (step 0 1 ∷ [])) (finite 2) (
 unfolding any N marksOf start final counted from to transition those Nₐ Tₐ updated
 ends-counted = record { fewest = (_, turns refl (ends refl), refl); most = (_, turns refl (ends refl), refl) }
 
+-- A dead end is a state without a transition out, so a plan that has one is none of those that the procedures are compared on.
+pub dead-end-out : TotalPlan (reached-dead-end .plan) → ⊥
+unfolding marksOf final from transition
+dead-end-out q = let (t, d) = q .leaves 2 (lit< tt) refl in none t d
+  where
+    none : (t : ℕ) → Departs (reached-dead-end .plan) 2 t → ⊥
+    none zero d = omega (arith, d .source)
+    none (suc zero) d = omega (arith, d .source)
+    none (suc (suc t)) d = not-suc-le-zero (le-of-suc-le-suc (le-of-suc-le-suc (d .listed)))
+
 -- ---- where lower and upper part from document 01
 
--- Other durations: P1 as it is. Lower returns 2, the number of transitions, and the least delay is 7.
+-- Other durations: P1. Lower returns 2, the number of transitions, and the least delay is 7.
 pub durations : Returns (lower (P1 .plan)) (finite 2) × IsLeast (P1 .plan) (leastDelayCost (P1 .plan)) (number 7)
-unfolding any empty same N T T⁻¹ marksOf start final from to transition
-durations = ((_, turns refl (turns refl (ends refl)), refl), known-hold 0 (lit< tt) .least-delay)
+durations = (P1-bounds .shortest, known-hold 0 (lit< tt) .least-delay)
 
 -- "Reading upper's result at a dead end as a delay: its walk has no answer." P3, whose start is a dead end: upper returns 1, and the figure is STRANDED.
 pub dead-end : Returns (upper (P3 .plan)) (finite 1) × IsGreatest (P3 .plan) (greatestDelayCost (P3 .plan)) STRANDED
@@ -152,11 +162,11 @@ indented g c = record {
 }
 
 -- So on P1, whose start is not final, it never returns.
-pub never-returns : (b : Bound) → Returns (indented P1₁ (counted P1₁)) b → ⊥
+pub never-returns : (b : Bound) → Returns (indented (P1 .plan) (counted (P1 .plan))) b → ⊥
 unfolding any N marksOf start final counted from to transition those
 never-returns b (e, r, h) = stays r refl
   where
-    stays : {s e : Vars} → Loop (indented P1₁ (counted P1₁) .first) (indented P1₁ (counted P1₁) .stop) (indented P1₁ (counted P1₁) .rest) s e
-        → s ≡ indented P1₁ (counted P1₁) .begin → ⊥
-    stays (ends {s} h) q = true≢false (sym h ∙ ap (λ s. indented P1₁ (counted P1₁) .stop (indented P1₁ (counted P1₁) .first s)) q)
-    stays (turns {s} h r) q = stays r (ap (λ s. indented P1₁ (counted P1₁) .rest (indented P1₁ (counted P1₁) .first s)) q)
+    stays : {s e : Vars} → Loop (indented (P1 .plan) (counted (P1 .plan)) .first) (indented (P1 .plan) (counted (P1 .plan)) .stop) (indented (P1 .plan) (counted (P1 .plan)) .rest) s e
+        → s ≡ indented (P1 .plan) (counted (P1 .plan)) .begin → ⊥
+    stays (ends {s} h) q = true≢false (sym h ∙ ap (λ s. indented (P1 .plan) (counted (P1 .plan)) .stop (indented (P1 .plan) (counted (P1 .plan)) .first s)) q)
+    stays (turns {s} h r) q = stays r (ap (λ s. indented (P1 .plan) (counted (P1 .plan)) .rest (indented (P1 .plan) (counted (P1 .plan)) .first s)) q)

@@ -1,0 +1,147 @@
+-- What the definitions say of small plans, with no theorem in between: one fact for each way to misread them that must-fail/ tries.
+--
+-- Costs are computed. A route or a walk that is claimed is written out; one that is denied is followed from its start until a condition on a
+-- state fails. Assumes nothing.
+use Prim.Native.Nat.{ℕ, zero, suc}
+use mathlib.Core.Path.{_≡_, refl, sym, _∙_, ap}
+use mathlib.Core.Bool.{true≢false, false≢true}
+use mathlib.Core.List.{List, [], _∷_}
+use native.Mathlib.Nat.{not-suc-le-zero, le-of-suc-le-suc}
+use native.Mathlib.Omega.{arith}
+use lib.Dec.{T, ltb, lit<}
+use Rattle.graph.specs.Graph.{Graph, Transition, count, start, final, counted, from, to, low, high, Departs}
+use Rattle.graph.specs.Walk.{Begins}
+use Rattle.graph.specs.Route.{Route, GoesOnForever, StrandedFrom, EndsUnanswered, Cost, total}
+use Rattle.graph.specs.Figure.{number, NONE, STRANDED, ENDLESS, NoStart, IsGreatest, Shown, leastDelayCost, greatestDelayCost, countCost}
+use Rattle.graph.specs.Known.{join, P4, P6, P7, P8, P9, unreached-dead-end, reached-dead-end, counted-ends}
+
+-- transition t, a numeral, departs from s
+departs : (g : Graph) (s t : ℕ) → T (ltb t (count g)) → from g t ≡ s → Departs g s t
+departs g s t l e = record { listed = lit< l; source = e }
+
+-- ---- costs
+
+-- "first and last included": both states of the route are counted
+pub both-ends : total (counted-ends .plan) (countCost (counted-ends .plan)) 0 (0 ∷ []) ≡ 2
+unfolding counted from to
+both-ends = refl
+
+-- "of its highs for a greatest one": 0→1 1..9
+pub of-highs : total (P6 .plan) (greatestDelayCost (P6 .plan)) 0 (0 ∷ []) ≡ 9
+unfolding low high to
+of-highs = refl
+
+-- ---- routes
+
+-- "no earlier one is": 0→1 and 1→1, but state 1 is final
+pub no-walking-on : Route (P8 .plan) 0 (0 ∷ 1 ∷ []) → ⊥
+unfolding final to
+no-walking-on (b, w) = true≢false (w .2 .0)
+
+-- "whose last state is final": 0→2, a dead end
+pub no-answer-there : Route (reached-dead-end .plan) 0 (1 ∷ []) → ⊥
+unfolding final to
+no-answer-there (b, w) = false≢true (w .2)
+
+-- ---- walks without an answer
+
+-- 0→0 and 0→1, state 0 a start: P4 and P9 are such plans
+abbrev loop : ℕ → ℕ → Graph
+loop m d = record { marks = 4 ∷ m ∷ []; transitions = join 0 0 d d ∷ join 0 1 1 1 ∷ [] }
+
+-- 0→0, over and over: how long it lasts makes no difference
+pub loop-endless : (m d : ℕ) → GoesOnForever (loop m d)
+unfolding start final from to high
+loop-endless m d = record {
+  state = λ i. 0;
+  taken = λ i. 0;
+  begins = refl;
+  departs = λ i. departs (loop m d) 0 0 tt refl;
+  arrives = λ i. refl;
+  unfinished = λ i. refl;
+}
+
+pub zero-loop-endless : GoesOnForever (P4 .plan)
+zero-loop-endless = loop-endless 2 0
+
+-- of the marks 4, 2, 0 only the first is a start
+only-0 : (ts : List Transition) (s : ℕ) → Begins (record { marks = 4 ∷ 2 ∷ 0 ∷ []; transitions = ts }) s → s ≡ 0
+unfolding start
+only-0 ts zero b = refl
+only-0 ts (suc zero) b = absurd (false≢true b)
+only-0 ts (suc (suc zero)) b = absurd (false≢true b)
+only-0 ts (suc (suc (suc s))) b = absurd (false≢true b)
+
+-- 2→2, which no start reaches: from 0 there is only 0→1, and 1 is final
+pub unreached-not-endless : GoesOnForever (P7 .plan) → ⊥
+unfolding final from to
+unreached-not-endless e = first (e .taken 0) (e .departs 0) (e .arrives 0)
+  where
+    at-0 : e .state 0 ≡ 0
+    at-0 = only-0 (P7 .plan .transitions) (e .state 0) (e .begins)
+
+    first : (t : ℕ) → Departs (P7 .plan) (e .state 0) t → to (P7 .plan) t ≡ e .state 1 → ⊥
+    first zero d q = true≢false (ap (final (P7 .plan)) q ∙ e .unfinished 1)
+    first (suc zero) d q = omega (arith, d .source, at-0)
+    first (suc (suc t)) d q = not-suc-le-zero (le-of-suc-le-suc (le-of-suc-le-suc (d .listed)))
+
+-- state 2, a dead end that nothing reaches: from 0 there is only 0→1, and 1 is final
+pub unreached-not-stranded : EndsUnanswered (unreached-dead-end .plan) → ⊥
+unfolding final from to
+unreached-not-stranded (s, ts, (b, w)) = first s ts (only-0 (unreached-dead-end .plan .transitions) s b) w
+  where
+    at-1 : (ts : List ℕ) → StrandedFrom (unreached-dead-end .plan) 1 ts → ⊥
+    at-1 [] w = true≢false (w .unfinished)
+    at-1 (t ∷ ts) w = true≢false (w .0)
+
+    first : (s : ℕ) (ts : List ℕ) → s ≡ 0 → StrandedFrom (unreached-dead-end .plan) s ts → ⊥
+    first s [] q w = w .shut 0 (departs (unreached-dead-end .plan) s 0 tt (sym q))
+    first s (zero ∷ ts) q w = at-1 ts (w .2)
+    first s (suc t ∷ ts) q w = not-suc-le-zero (le-of-suc-le-suc (w .1 .listed))
+
+-- ---- "first that applies"
+
+-- P9: 0→0 goes on forever, and 0→1 ends in a dead end
+pub P9-endless : GoesOnForever (P9 .plan)
+P9-endless = loop-endless 0 1
+
+pub P9-stranded : EndsUnanswered (P9 .plan)
+unfolding start final from to
+P9-stranded = (0, 1 ∷ [], (refl, (refl, departs (P9 .plan) 0 1 tt refl, record { unfinished = refl; shut = shut })))
+  where
+    shut : (t : ℕ) → Departs (P9 .plan) 1 t → ⊥
+    shut zero d = omega (arith, d .source)
+    shut (suc zero) d = omega (arith, d .source)
+    shut (suc (suc t)) d = not-suc-le-zero (le-of-suc-le-suc (le-of-suc-le-suc (d .listed)))
+
+P9-started : NoStart (P9 .plan) → ⊥
+unfolding start
+P9-started none = none 0 refl
+
+pub endless-first : (c : Cost) → IsGreatest (P9 .plan) c ENDLESS
+endless-first c = (P9-started, P9-endless)
+
+-- ---- what is shown
+
+-- "visits no state twice": 0→0, 0→1 is a route of 1 second
+pub not-twice : Shown (P4 .plan) (leastDelayCost (P4 .plan)) (number 1) (0 ∷ 1 ∷ []) 0 → ⊥
+unfolding from to
+not-twice (s, r, q, d) = d 0 1 (lit< tt) (lit< tt) (sym (r .1 .1 .source))
+
+-- "no state twice": 0→0, 0→1, where 1 is a dead end
+pub not-twice-stranded : (c : Cost) → Shown (P9 .plan) c STRANDED (0 ∷ 1 ∷ []) 0 → ⊥
+unfolding from to
+not-twice-stranded c (s, w, d) = d 0 1 (lit< tt) (lit< tt) (sym (w .1 .1 .source))
+
+-- "a place j below k"
+pub not-at-k : (c : Cost) → Shown (P4 .plan) c ENDLESS [] 0 → ⊥
+not-at-k c (s, w, l, q, d) = not-suc-le-zero l
+
+-- "the first k states differ": 0→0, 0→0
+pub not-past-first : (c : Cost) → Shown (P4 .plan) c ENDLESS (0 ∷ 0 ∷ []) 0 → ⊥
+unfolding from to
+not-past-first c (s, w, l, q, d) = d 0 1 (lit< tt) (lit< tt) (sym (w .1 .1 .source))
+
+-- "For NONE: k is 0."
+pub none-empty : (c : Cost) (t : ℕ) (ts : List ℕ) → Shown (P4 .plan) c NONE (t ∷ ts) 0 → ⊥
+none-empty c t ts e = omega (arith, e)
