@@ -1,8 +1,9 @@
--- What the definitions say of small plans, with no theorem in between: one fact for each way to misread them that must-fail/ tries.
+-- What the definitions say of small plans, with no theorem in between: one fact for each way to misread them that
+-- must-fail/ tries.
 --
--- Costs are computed. A route or a walk that is claimed is written out; one that is denied is followed from its start until a condition on a
--- state fails. Assumes nothing.
-use Prim.Native.Nat.{ℕ, zero, suc}
+-- Costs are computed. A route or a walk that is claimed is written out; one that is denied is followed from its start
+-- until a condition on a state fails. Assumes nothing.
+use Prim.Native.Nat.{ℕ, zero, suc, _<_}
 use mathlib.Core.Path.{_≡_, refl, sym, _∙_, ap}
 use mathlib.Core.Bool.{true≢false, false≢true}
 use mathlib.Core.List.{List, [], _∷_}
@@ -10,14 +11,34 @@ use native.Mathlib.Nat.{not-suc-le-zero, le-of-suc-le-suc}
 use native.Mathlib.Omega.{arith}
 use lib.Dec.{T, ltb, lit<}
 use Rattle.graph.specs.Graph.{Graph, Transition, count, start, final, counted, from, to, low, high, Departs}
-use Rattle.graph.specs.Walk.{Begins}
+use Rattle.graph.specs.Walk.{Begins, Walk}
 use Rattle.graph.specs.Route.{Route, GoesOnForever, StrandedFrom, EndsUnanswered, Cost, total}
-use Rattle.graph.specs.Figure.{number, NONE, STRANDED, ENDLESS, NoStart, IsGreatest, Shown, leastDelayCost, greatestDelayCost, countCost}
-use Rattle.graph.specs.Known.{join, P4, P6, P7, P8, P9, unreached-dead-end, reached-dead-end, counted-ends}
+use Rattle.graph.specs.Figure.{number, NONE, STRANDED, ENDLESS, NoStart, IsGreatest, Shown, leastDelayCost}
+use Rattle.graph.specs.Figure.{greatestDelayCost, countCost}
+use Rattle.graph.specs.Known.{join, P1, P4, P6, P7, P8, P9, unreached-dead-end, reached-dead-end, counted-ends}
 
 -- transition t, a numeral, departs from s
 departs : (g : Graph) (s t : ℕ) → T (ltb t (count g)) → from g t ≡ s → Departs g s t
 departs g s t l e = record { listed = lit< l; source = e }
+
+-- ---- walks
+
+-- "a start state": state 1 is none
+pub not-from-there : Walk (P1 .plan) 1 (2 ∷ []) → ⊥
+unfolding start
+not-from-there (b, w) = false≢true b
+
+-- "transitions of the plan": P1 has those numbered 0 to 3
+pub no-such-transition : Walk (P1 .plan) 0 (4 ∷ []) → ⊥
+no-such-transition (b, w) = not-below (w .1 .listed)
+  where
+    not-below : 4 < 4 → ⊥
+    not-below h = omega arith
+
+-- "each departing where the one before arrived": transition 0 arrives at 1, and 3 departs from 2
+pub not-departing : Walk (P1 .plan) 0 (0 ∷ 3 ∷ []) → ⊥
+unfolding from to
+not-departing (b, w) = omega (arith, w .2 .1 .source)
 
 -- ---- costs
 
@@ -95,7 +116,7 @@ unreached-not-stranded (s, ts, (b, w)) = first s ts (only-0 (unreached-dead-end 
     at-1 (t ∷ ts) w = true≢false (w .0)
 
     first : (s : ℕ) (ts : List ℕ) → s ≡ 0 → StrandedFrom (unreached-dead-end .plan) s ts → ⊥
-    first s [] q w = w .shut 0 (departs (unreached-dead-end .plan) s 0 tt (sym q))
+    first s [] q w = w .none-departs 0 (departs (unreached-dead-end .plan) s 0 tt (sym q))
     first s (zero ∷ ts) q w = at-1 ts (w .2)
     first s (suc t ∷ ts) q w = not-suc-le-zero (le-of-suc-le-suc (w .1 .listed))
 
@@ -107,12 +128,12 @@ P9-endless = loop-endless 0 1
 
 pub P9-stranded : EndsUnanswered (P9 .plan)
 unfolding start final from to
-P9-stranded = (0, 1 ∷ [], (refl, (refl, departs (P9 .plan) 0 1 tt refl, record { unfinished = refl; shut = shut })))
+P9-stranded = (0, 1 ∷ [], (refl, (refl, departs (P9 .plan) 0 1 tt refl, record { unfinished = refl; none-departs = none-departs })))
   where
-    shut : (t : ℕ) → Departs (P9 .plan) 1 t → ⊥
-    shut zero d = omega (arith, d .source)
-    shut (suc zero) d = omega (arith, d .source)
-    shut (suc (suc t)) d = not-suc-le-zero (le-of-suc-le-suc (le-of-suc-le-suc (d .listed)))
+    none-departs : (t : ℕ) → Departs (P9 .plan) 1 t → ⊥
+    none-departs zero d = omega (arith, d .source)
+    none-departs (suc zero) d = omega (arith, d .source)
+    none-departs (suc (suc t)) d = not-suc-le-zero (le-of-suc-le-suc (le-of-suc-le-suc (d .listed)))
 
 P9-started : NoStart (P9 .plan) → ⊥
 unfolding start

@@ -1,8 +1,8 @@
 -- What is shown fits into n places, and no number is too large for the record.
 --
--- The states of what is shown are below n and differ, all of them for a number or STRANDED, all but the last for ENDLESS; so they are at
--- most n. A route that is shown for a number has at most 511 transitions, n being at most 512, each of at most 2,047 seconds: 1,046,017
--- seconds, or 512 counted states. Assumes nothing.
+-- The states of what is shown are below n and differ, all of them for a number or STRANDED, all but the last for
+-- ENDLESS; so they are at most n. A route that is shown for a number has at most 511 transitions, n being at most 512,
+-- each of at most 2,047 seconds: 1,046,017 seconds, or 512 counted states. Assumes nothing.
 use Prim.Native.Nat.{ℕ, _+_, _*_, _≤_, _<_, zero-le}
 use mathlib.Core.Path.{_≡_}
 use mathlib.Core.Bool.{Bool}
@@ -25,28 +25,29 @@ use Rattle.graph.proofs.Greatest.{greatest-shown}
 module _ (g : Graph) (closed : Closed g) (c : Cost) where
   -- "n places" are enough for every walk that is shown
   pub shown-fits : (f : Figure) (ts : List ℕ) (j : ℕ) → Shown g c f ts j → length ts ≤ states g
-  shown-fits (number k) ts j (s, r, q, d) = le-of-lt (simple-length g (Unfinished g) (Final g) closed s ts (start-below g s (r .0)) (r .1) d)
-  shown-fits STRANDED ts j (s, (b, w), d) = le-of-lt (simple-length g (Unfinished g) (DeadEnd g) closed s ts (start-below g s b) w d)
+  shown-fits (number k) ts j (s, r, q, d) = le-of-lt (simple-length g (Unfinished g) (Final g) closed s ts r d)
+  shown-fits STRANDED ts j (s, w, d) = le-of-lt (simple-length g (Unfinished g) (DeadEnd g) closed s ts w d)
   shown-fits ENDLESS ts j (s, (b, w), l, e, d) =
       let k = length ts in
       let xs = visits g s ts in
       let hk : k ≤ length xs = omega (arith, length-visits g s ts) in
       let lk : length (take k xs) ≡ k = length-take-le k xs hk in
-      let below : (i : ℕ) → i < length (take k xs) → nth (take k xs) i < states g = λ i h.
-      rw (getD-take k xs i 0 (omega arith)) (visits-below g (Unfinished g) (Unfinished g) closed s ts (start-below g s b) w i (omega arith)) in
-      rw lk at (different-length (states g) (take k xs) d below)
+      let all = visits-below g (Unfinished g) (Unfinished g) closed s ts (start-below g s b) w in
+      let first : (i : ℕ) → i < length (take k xs) → nth (take k xs) i < states g = λ i h. rw (getD-take k xs i 0 (omega arith)) (all i (omega arith)) in
+      rw lk at (different-length (states g) (take k xs) d first)
   shown-fits NONE ts j e = omega arith
 
   -- so every figure can be shown within n places
   pub least-within : (f : Figure) → IsLeast g c f → (ts : List ℕ) × (j : ℕ) × Shown g c f ts j × (length ts ≤ states g)
   least-within f u = let (ts, j, shown) = least-shown g c f u in (ts, j, shown, shown-fits f ts j shown)
 
-  pub greatest-within : (f : Figure) → IsGreatest g c f → (ts : List ℕ) × (j : ℕ) × Shown g c f ts j × (length ts ≤ states g)
+  pub greatest-within : (f : Figure) → IsGreatest g c f
+      → (ts : List ℕ) × (j : ℕ) × Shown g c f ts j × (length ts ≤ states g)
   greatest-within f u = let (ts, j, shown) = greatest-shown g c closed f u in (ts, j, shown, shown-fits f ts j shown)
 
   -- a route that repeats no state, in a plan of at most 512 states
   pub transitions-le : states g ≤ 512 → (k : ℕ) (ts : List ℕ) (j : ℕ) → Shown g c (number k) ts j → length ts ≤ 511
-  transitions-le small k ts j (s, r, q, d) = omega (arith, simple-length g (Unfinished g) (Final g) closed s ts (start-below g s (r .0)) (r .1) d)
+  transitions-le small k ts j (s, r, q, d) = omega (arith, simple-length g (Unfinished g) (Final g) closed s ts r d)
 
 -- what it costs, where a transition costs at most a and the last state adds at most b
 module _ (g : Graph) (closed : Closed g) (c : Cost) (small : states g ≤ 512)

@@ -1,17 +1,18 @@
--- What a search has to leave behind so that its figures are right. About no code: values, ranks and choices are functions on states.
+-- What a search has to leave behind so that its figures are right. About no code: values, ranks and choices are
+-- functions on states.
 --
--- 1. A bound on every route from a state, by induction on the route from its last state back: it holds of the close at a final state, and
---    is carried over each transition out of an unfinished one (`route-bound`). Least values are such a bound from below (`least-values`),
---    greatest values one from above (`greatest-values`).
--- 2. A rank that falls along the transitions between the unfinished states that starts reach: no walk among them is longer than the rank of
---    its first state, so none is endless (`no-endless`); and where each of them has a transition out, none is a dead end (`no-stranded`).
---    So every start leads to an answer (`rank-answers`).
--- 3. A transition chosen at each unfinished state, that leads on with a lower rank and accounts for the value: following the choices is a
---    route that costs the value and visits no state twice (`follow`).
--- 4. A tree of the states found, each by a transition from a state found before it: it holds a walk from a start to each, that visits no
---    state twice (`tree-walk`).
--- 5. Together, values at a best start are the least figure (`least-number`, `least-none`), or the greatest (`greatest-number`); and walks
---    that may be shown prove the other kinds (`greatest-endless`, `greatest-stranded`).
+-- 1. A bound on every route from a state, by induction on the route from its last state back: it holds of the close at
+--    a final state, and is carried over each transition out of an unfinished one (`route-bound`). Least values are such
+--    a bound from below (`least-values`), greatest values one from above (`greatest-values`).
+-- 2. A rank that falls along the transitions between the unfinished states that starts reach: no walk among them is
+--    longer than the rank of its first state, so none is endless (`no-endless`); and where each of them has a
+--    transition out, none is a dead end (`no-stranded`). So every start leads to an answer (`rank-answers`).
+-- 3. A transition chosen at each unfinished state, that leads on with a lower rank and accounts for the value:
+--    following the choices is a route that costs the value and visits no state twice (`follow`).
+-- 4. A tree of the states found, each by a transition from a state found before it: it holds a walk from a start to
+--    each, that visits no state twice (`tree-walk`).
+-- 5. Together, values at a best start are the least figure (`least-number`, `least-none`), or the greatest
+--    (`greatest-number`); and walks that may be shown prove the other kinds (`greatest-endless`, `greatest-stranded`).
 -- Assumes nothing.
 use Prim.Native.Nat.{ℕ, zero, suc, _+_, _≤_, _<_}
 use mathlib.Core.Path.{_≡_, refl, sym, _∙_, ap}
@@ -38,32 +39,41 @@ module _ (g : Graph) (c : Cost) where
       → ((s t x : ℕ) → Unfinished g s → Departs g s t → Bound (to g t) x → Bound s (c .step t + x))
       → (s : ℕ) (ts : List ℕ) → RouteFrom g s ts → Bound s (total g c s ts)
   route-bound Bound at-final over s [] r = at-final s r
-  route-bound Bound at-final over s (t ∷ ts) r = over s t (total g c (to g t) ts) (r .0) (r .1) (route-bound Bound at-final over (to g t) ts (r .2))
+  route-bound Bound at-final over s (t ∷ ts) r =
+      over s t (total g c (to g t) ts) (r .0) (r .1) (route-bound Bound at-final over (to g t) ts (r .2))
 
-  -- values for the states that have one: at a final state at most the close; over a transition, at most its cost and the value behind it
+  -- values for the states that have one: at a final state at most the close; over a transition, at most its cost and
+  -- the value behind it
   pub record LeastValues (Has : ℕ → Type 0) (value : ℕ → ℕ) : Type 0 where
     pub at-final : (s : ℕ) → Final g s → Has s × (value s ≤ c .close s)
-    pub over : (s t : ℕ) → Unfinished g s → Departs g s t → Has (to g t) → Has s × (value s ≤ c .step t + value (to g t))
+    pub over : (s t : ℕ) → Unfinished g s → Departs g s t → Has (to g t)
+        → Has s × (value s ≤ c .step t + value (to g t))
 
   -- whatever state a route begins at has a value, and the route costs no less
-  pub least-values : (Has : ℕ → Type 0) (value : ℕ → ℕ) → LeastValues Has value → (s : ℕ) (ts : List ℕ) → RouteFrom g s ts → Has s × (value s ≤ total g c s ts)
+  pub least-values : (Has : ℕ → Type 0) (value : ℕ → ℕ) → LeastValues Has value → (s : ℕ) (ts : List ℕ)
+      → RouteFrom g s ts
+      → Has s × (value s ≤ total g c s ts)
   least-values Has value v = route-bound (λ s x. Has s × (value s ≤ x)) (v .at-final) over
     where
-      over : (s t x : ℕ) → Unfinished g s → Departs g s t → Has (to g t) × (value (to g t) ≤ x) → Has s × (value s ≤ c .step t + x)
+      over : (s t x : ℕ) → Unfinished g s → Departs g s t → Has (to g t) × (value (to g t) ≤ x)
+          → Has s × (value s ≤ c .step t + x)
       over s t x u d (h, l) = let (h′, l′) = v .over s t u d h in (h′, omega arith)
 
-  -- values for the unfinished states of a set: at a final state at least the close; over a transition, at least its cost and the value
-  -- behind it
+  -- values for the unfinished states of a set: at a final state at least the close; over a transition, at least its
+  -- cost and the value behind it
   pub record GreatestValues (In : ℕ → Type 0) (value : ℕ → ℕ) : Type 0 where
     pub at-final : (s : ℕ) → Final g s → c .close s ≤ value s
     pub over : (s t : ℕ) → In s → Departs g s t → c .step t + value (to g t) ≤ value s
 
   -- where transitions lead from the set only to it and to final states, no route from it costs more
-  pub greatest-values : (In : ℕ → Type 0) (value : ℕ → ℕ) → GreatestValues In value → ((s t : ℕ) → In s → Departs g s t → Unfinished g (to g t) → In (to g t))
+  pub greatest-values : (In : ℕ → Type 0) (value : ℕ → ℕ) → GreatestValues In value
+      → ((s t : ℕ) → In s → Departs g s t → Unfinished g (to g t) → In (to g t))
       → (s : ℕ) (ts : List ℕ) → (Unfinished g s → In s) → RouteFrom g s ts → total g c s ts ≤ value s
-  greatest-values In value v stays s ts i r = route-bound (λ s x. (Unfinished g s → In s) → x ≤ value s) (λ s f i. v .at-final s f) over s ts r i
+  greatest-values In value v stays s ts i r =
+      route-bound (λ s x. (Unfinished g s → In s) → x ≤ value s) (λ s f i. v .at-final s f) over s ts r i
     where
-      over : (s t x : ℕ) → Unfinished g s → Departs g s t → ((Unfinished g (to g t) → In (to g t)) → x ≤ value (to g t)) → (Unfinished g s → In s) → c .step t + x ≤ value s
+      over : (s t x : ℕ) → Unfinished g s → Departs g s t → ((Unfinished g (to g t) → In (to g t)) → x ≤ value (to g t))
+          → (Unfinished g s → In s) → c .step t + x ≤ value s
       over s t x u d bound i = let h = bound (stays s t (i u) d) in omega (arith, v .over s t (i u) d)
 
 -- ---- 2
@@ -93,8 +103,10 @@ module _ (g : Graph) (In : ℕ → Type 0) (rank : ℕ → ℕ) where
     stranded-unfinished s (t ∷ ts) w = w .0
 
     stranded-in : ((s : ℕ) → In s → (t : ℕ) × Departs g s t) → (s : ℕ) (ts : List ℕ) → In s → StrandedFrom g s ts → ⊥
-    stranded-in out s [] i w = let (t, d) = out s i in w .shut t d
-    stranded-in out s (t ∷ ts) i w = stranded-in out (to g t) ts (r .onward s t i (w .1) (stranded-unfinished (to g t) ts (w .2)) .0) (w .2)
+    stranded-in out s [] i w = let (t, d) = out s i in w .none-departs t d
+    stranded-in out s (t ∷ ts) i w =
+        let u = stranded-unfinished (to g t) ts (w .2) in
+        stranded-in out (to g t) ts (r .onward s t i (w .1) u .0) (w .2)
 
     -- if each state of the set has a transition out
     pub no-stranded : ((s : ℕ) → In s → (t : ℕ) × Departs g s t) → EndsUnanswered g → ⊥
@@ -122,7 +134,8 @@ module _ (g : Graph) (c : Cost) (In : ℕ → Type 0) (value rank : ℕ → ℕ)
     pub taken : List ℕ
     pub route : RouteFrom g s taken
     pub costs : total g c s taken ≡ value s
-    pub falls : (i : ℕ) → i < length (visits g s taken) → Unfinished g (nth (visits g s taken) i) → Unfinished g s × (rank (nth (visits g s taken) i) ≤ rank s)
+    pub falls : (i : ℕ) → i < length (visits g s taken) → Unfinished g (nth (visits g s taken) i)
+        → Unfinished g s × (rank (nth (visits g s taken) i) ≤ rank s)
     pub different : Different (visits g s taken)
 
   module _ (p : Choices) where
@@ -155,7 +168,8 @@ module _ (g : Graph) (c : Cost) (In : ℕ → Type 0) (value rank : ℕ → ℕ)
         lower : (i : ℕ) → i < length after → Unfinished g (nth after i) → rank (nth after i) < rank s
         lower i h v = let (w, l) = f .falls i h v in omega (arith, q .onward w .1)
 
-        falls : (i : ℕ) → i < suc (length after) → Unfinished g (nth (s ∷ after) i) → Unfinished g s × (rank (nth (s ∷ after) i) ≤ rank s)
+        falls : (i : ℕ) → i < suc (length after) → Unfinished g (nth (s ∷ after) i)
+            → Unfinished g s × (rank (nth (s ∷ after) i) ≤ rank s)
         falls zero h v = (u, le-refl (rank s))
         falls (suc i) h v = (u, le-of-lt (lower i (le-of-suc-le-suc h) v))
 
@@ -181,7 +195,8 @@ module _ (g : Graph) (c : Cost) (In : ℕ → Type 0) (value rank : ℕ → ℕ)
     follow s i = follow-within (suc (rank s)) s (λ u. (i u, le-refl (suc (rank s))))
 
     -- it is what 01 asks to be shown for the value
-    pub follow-shown : (s : ℕ) → Begins g s → (Unfinished g s → In s) → (ts : List ℕ) × Shown g c (number (value s)) ts 0
+    pub follow-shown : (s : ℕ) → Begins g s → (Unfinished g s → In s)
+        → (ts : List ℕ) × Shown g c (number (value s)) ts 0
     follow-shown s b i = let f = follow s i in (f .taken, (s, (b, f .route), f .costs, f .different))
 
 -- ---- 4
@@ -210,7 +225,14 @@ module _ (g : Graph) (In : ℕ → Type 0) (order : ℕ → ℕ) where
 
   module _ (p : Tree) where
     from-start : (s : ℕ) → In s → Begins g s → TreeWalk s
-    from-start s i b = record { first = s; taken = []; walk = (b, p .unfinished s i); arrives = refl; rises = one; different = different-one s }
+    from-start s i b = record {
+      first = s;
+      taken = [];
+      walk = (b, p .unfinished s i);
+      arrives = refl;
+      rises = one;
+      different = different-one s;
+    }
       where
         one : (i : ℕ) → i < 1 → order (nth (s ∷ []) i) ≤ order s
         one zero h = le-refl (order s)
@@ -237,7 +259,8 @@ module _ (g : Graph) (In : ℕ → Type 0) (order : ℕ → ℕ) where
         lower : (k : ℕ) → k < length before → order (nth before k) < order s
         lower k h = omega (arith, q .rises k h, f .earlier)
 
-        rises : (k : ℕ) → k < length (before ++ (to g (f .via) ∷ [])) → order (nth (before ++ (to g (f .via) ∷ [])) k) ≤ order s
+        rises : (k : ℕ) → k < length (before ++ (to g (f .via) ∷ []))
+            → order (nth (before ++ (to g (f .via) ∷ [])) k) ≤ order s
         rises k h = go (nth-snoc before (to g (f .via)) k h)
           where
             go : Snoc before (to g (f .via)) k → order (nth (before ++ (to g (f .via) ∷ [])) k) ≤ order s
@@ -259,11 +282,14 @@ module _ (g : Graph) (In : ℕ → Type 0) (order : ℕ → ℕ) where
     tree-walk s i = tree-within (suc (order s)) s i (le-refl (suc (order s)))
 
     -- a state found that no transition leaves: the walk to it is what 01 asks to be shown for STRANDED
-    pub tree-stranded : (c : Cost) (s : ℕ) → In s → ((t : ℕ) → Departs g s t → ⊥) → (ts : List ℕ) × Shown g c STRANDED ts 0
-    tree-stranded c s i shut =
+    pub tree-stranded : (c : Cost) (s : ℕ) → In s → ((t : ℕ) → Departs g s t → ⊥)
+        → (ts : List ℕ) × Shown g c STRANDED ts 0
+    tree-stranded c s i none-departs =
         let q = tree-walk s i in
-        let last : DeadEnd g (arrival g (q .first) (q .taken)) = rw (q .arrives) (record { unfinished = p .unfinished s i; shut = shut }) in
-        (q .taken, (q .first, (q .walk .0, with-last g (Unfinished g) (Unfinished g) (DeadEnd g) (q .first) (q .taken) (q .walk .1) last), q .different))
+        let end : DeadEnd g s = record { unfinished = p .unfinished s i; none-departs = none-departs } in
+        let last : DeadEnd g (arrival g (q .first) (q .taken)) = rw (q .arrives) end in
+        let w = with-last g (Unfinished g) (Unfinished g) (DeadEnd g) (q .first) (q .taken) (q .walk .1) last in
+        (q .taken, (q .first, (q .walk .0, w), q .different))
 
 -- ---- 5
 
@@ -282,7 +308,8 @@ module _ (g : Graph) (c : Cost) (In : ℕ → Type 0) (value rank : ℕ → ℕ)
 
   -- the greatest value of a start
   pub greatest-number : FallingRank g In rank → GreatestValues g c In value → Choices g c In value rank
-      → (s : ℕ) → Begins g s → ((x : ℕ) → Begins g x → value x ≤ value s) → ((x : ℕ) → In x → Unfinished g x) → IsGreatest g c (number (value s))
+      → (s : ℕ) → Begins g s → ((x : ℕ) → Begins g x → value x ≤ value s) → ((x : ℕ) → In x → Unfinished g x)
+      → IsGreatest g c (number (value s))
   greatest-number r v p s b best unfinished = (
     λ no-start. no-start s b,
     no-endless g In rank r,
@@ -301,5 +328,6 @@ module _ (g : Graph) (c : Cost) (In : ℕ → Type 0) (value rank : ℕ → ℕ)
   greatest-endless ts j shown = (λ no-start. no-start (shown .0) (shown .1 .0), shown-endless g c ts j shown)
 
   -- a walk that is shown for STRANDED, where the rank falls
-  pub greatest-stranded : FallingRank g In rank → (ts : List ℕ) (j : ℕ) → Shown g c STRANDED ts j → IsGreatest g c STRANDED
+  pub greatest-stranded : FallingRank g In rank → (ts : List ℕ) (j : ℕ) → Shown g c STRANDED ts j
+      → IsGreatest g c STRANDED
   greatest-stranded r ts j shown = (λ no-start. no-start (shown .0) (shown .1 .0), no-endless g In rank r, (shown .0, ts, shown .1))

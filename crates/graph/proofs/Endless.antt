@@ -1,11 +1,12 @@
 -- When an endless walk of unfinished states exists.
 --
--- 1. A walk through unfinished states whose state after k transitions is the state after j, with j < k, goes on forever: walk on to place
---    k, be at place j again, and so on. The place that the endless walk is at goes up by one, and from k - 1 back to j (`next`).
+-- 1. A walk through unfinished states whose state after k transitions is the state after j, with j < k, goes on
+--    forever: walk on to place k, be at place j again, and so on. The place that the endless walk is at goes up by one,
+--    and from k - 1 back to j (`next`).
 -- 2. An endless walk has a walk of every length: its first k transitions (`run-walk`).
--- 3. So a plan of n states has an endless walk exactly when n transitions can be walked from a start through unfinished states: by 2 one
---    way; and by 1 the other, since n + 1 states below n hold a repeat. Up to the first repeat, that walk is what 01 asks to be shown for
---    ENDLESS (`repeat-shown`).
+-- 3. So a plan of n states has an endless walk exactly when n transitions can be walked from a start through unfinished
+--    states: by 2 one way; and by 1 the other, since n + 1 states below n hold a repeat. Up to the first repeat, that
+--    walk is what 01 asks to be shown for ENDLESS (`repeat-shown`).
 -- 4. Where no endless walk exists, every walk through unfinished states visits no state twice (`simple-or-endless`).
 -- Assumes nothing.
 use Prim.Native.Nat.{ℕ, zero, suc, _≤_, _<_, zero-le}
@@ -24,7 +25,8 @@ use Rattle.graph.specs.Walk.{Begins, WalkTo, visits, arrival, Unfinished
 use Rattle.graph.specs.Route.{Cost}
 use Rattle.graph.specs.Figure.{ENDLESS, Shown}
 use Rattle.graph.proofs.Repeat.{nth, Repeat, first-repeat, repeat-below, different-take}
-use Rattle.graph.proofs.Walks.{start-below, length-visits, state-after, state-last, visits-take, passed, departs-at, arrives-at, visits-below, front}
+use Rattle.graph.proofs.Walks.{start-below, length-visits, state-after, state-last, visits-take, passed}
+use Rattle.graph.proofs.Walks.{departs-at, arrives-at, visits-below, front}
 
 -- ---- 1
 
@@ -59,7 +61,8 @@ place-below j k zero l = omega arith
 place-below j k (suc i) l = next-below j k (place j k i) l (place-below j k i l)
 
 module _ (g : Graph) (stop : ℕ → Type 0) (s : ℕ) (ts : List ℕ) (b : Begins g s) (w : WalkTo g (Unfinished g) stop s ts) where
-  pub repeated-endless : (j k : ℕ) → j < k → k ≤ length ts → nth (visits g s ts) k ≡ nth (visits g s ts) j → EndlessWalk g
+  pub repeated-endless : (j k : ℕ) → j < k → k ≤ length ts → nth (visits g s ts) k ≡ nth (visits g s ts) j
+      → EndlessWalk g
   unfolding place
   repeated-endless j k l h e =
       let at : (i : ℕ) → place j k i < length ts = λ i. lt-of-lt-of-le (place-below j k i l) h in
@@ -71,6 +74,10 @@ module _ (g : Graph) (stop : ℕ → Type 0) (s : ℕ) (ts : List ℕ) (b : Begi
         arrives = λ i. arrives-at g (Unfinished g) stop s ts w (place j k i) (at i) ∙ next-same (nth (visits g s ts)) j k (place j k i) e;
         unfinished = λ i. passed g (Unfinished g) stop s ts w (place j k i) (at i);
       }
+
+  -- as the first repeat that a search of its states finds
+  repeat-endless : Repeat (nth (visits g s ts)) (length (visits g s ts)) → EndlessWalk g
+  repeat-endless r = repeated-endless (r .earlier) (r .later) (r .order) (omega (arith, length-visits g s ts)) (r .same)
 
 -- ---- 2
 
@@ -98,11 +105,12 @@ module _ (g : Graph) (stop : ℕ → Type 0) (s : ℕ) (ts : List ℕ) (b : Begi
       (visits-below g (Unfinished g) stop closed s ts (start-below g s b) w)
 
   pub long-endless : Closed g → states g ≤ length ts → EndlessWalk g
-  long-endless closed h = let r = long-repeat closed h in repeated-endless g stop s ts b w (r .earlier) (r .later) (r .order) (omega (arith, length-visits g s ts)) (r .same)
+  long-endless closed h = repeat-endless g stop s ts b w (long-repeat closed h)
 
 module _ (g : Graph) (c : Cost) (stop : ℕ → Type 0) (s : ℕ) (ts : List ℕ) (b : Begins g s) (w : WalkTo g (Unfinished g) stop s ts) where
   -- up to the first repeat, the walk is as 01 asks for ENDLESS
-  pub repeat-shown : (r : Repeat (nth (visits g s ts)) (length (visits g s ts))) → Shown g c ENDLESS (take (r .later) ts) (r .earlier)
+  pub repeat-shown : (r : Repeat (nth (visits g s ts)) (length (visits g s ts)))
+      → Shown g c ENDLESS (take (r .later) ts) (r .earlier)
   repeat-shown r =
       let k = r .later in
       let j = r .earlier in
@@ -111,7 +119,8 @@ module _ (g : Graph) (c : Cost) (stop : ℕ → Type 0) (s : ℕ) (ts : List ℕ
       let lk : length (take k ts) ≡ k = length-take-le k ts hk in
       let j-unfinished : Unfinished g (nth xs j) = passed g (Unfinished g) stop s ts w j (omega arith) in
       let k-unfinished : Unfinished g (nth xs k) = rw (r .same) j-unfinished in
-      let returns : arrival g s (take k ts) ≡ arrival g s (take j ts) = sym (state-after g s ts k hk) ∙ r .same ∙ state-after g s ts j (omega arith) in (
+      let at-j = state-after g s ts j (omega arith) in
+      let returns : arrival g s (take k ts) ≡ arrival g s (take j ts) = sym (state-after g s ts k hk) ∙ r .same ∙ at-j in (
         s,
         (b, front g (Unfinished g) stop (Unfinished g) s ts k w hk k-unfinished),
         omega arith,
@@ -126,18 +135,24 @@ module _ (g : Graph) (c : Cost) where
   -- ENDLESS can always be shown ..
   pub endless-shown : Closed g → EndlessWalk g → (us : List ℕ) × (j : ℕ) × Shown g c ENDLESS us j
   endless-shown closed e =
-      long-shown g c (Unfinished g) (e .state 0) (run g e 0 (states g)) (e .begins) (run-walk g e 0 (states g)) closed (omega (arith, length-run g e 0 (states g)))
+      let ts = run g e 0 (states g) in
+      let w = run-walk g e 0 (states g) in
+      long-shown g c (Unfinished g) (e .state 0) ts (e .begins) w closed (omega (arith, length-run g e 0 (states g)))
 
   -- .. and what is shown goes on forever
   pub shown-endless : (ts : List ℕ) (j : ℕ) → Shown g c ENDLESS ts j → EndlessWalk g
   shown-endless ts j (s, (b, w), l, e, d) =
-      repeated-endless g (Unfinished g) s ts b w j (length ts) l (le-refl (length ts)) (state-last g s ts ∙ e ∙ sym (state-after g s ts j (le-of-lt l)))
+      let same = state-last g s ts ∙ e ∙ sym (state-after g s ts j (le-of-lt l)) in
+      repeated-endless g (Unfinished g) s ts b w j (length ts) l (le-refl (length ts)) same
 
 -- ---- 4
 
-pub simple-or-endless : (g : Graph) (stop : ℕ → Type 0) (s : ℕ) (ts : List ℕ) → Begins g s → WalkTo g (Unfinished g) stop s ts → EndlessWalk g ⊎ Different (visits g s ts)
+pub simple-or-endless : (g : Graph) (stop : ℕ → Type 0) (s : ℕ) (ts : List ℕ) → Begins g s
+    → WalkTo g (Unfinished g) stop s ts
+    → EndlessWalk g ⊎ Different (visits g s ts)
 simple-or-endless g stop s ts b w = go (first-repeat (nth (visits g s ts)) (length (visits g s ts)))
   where
-    go : Repeat (nth (visits g s ts)) (length (visits g s ts)) ⊎ Different (visits g s ts) → EndlessWalk g ⊎ Different (visits g s ts)
-    go (inl r) = inl (repeated-endless g stop s ts b w (r .earlier) (r .later) (r .order) (omega (arith, length-visits g s ts)) (r .same))
+    go : Repeat (nth (visits g s ts)) (length (visits g s ts)) ⊎ Different (visits g s ts)
+        → EndlessWalk g ⊎ Different (visits g s ts)
+    go (inl r) = inl (repeat-endless g stop s ts b w r)
     go (inr d) = inr d

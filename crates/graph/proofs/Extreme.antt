@@ -1,16 +1,18 @@
 -- The smallest and the largest of a list of costs, by one argument.
 --
--- `pick` takes one of two numbers, and `before` says that a number is the one to be taken rather than another: min with ≤, or max with ≥
--- (`Picks`). So what is folded out of a list is in the list, and before all of it (`fold-in`, `fold-before`). If every route has a listed
--- cost before its own, then that number is before what any route costs, and a route costs it; and if nothing is listed there is no route
--- (`extreme-is`). Two numbers that routes cost and that are before all costs are before each other, so they are equal (`extreme-unique`).
--- Assumes nothing.
+-- `pick` takes one of two numbers, and `before` says that a number is the one to be taken rather than another: min with
+-- ≤, or max with ≥ (`Picks`). So what is folded out of a list is in the list, and before all of it (`fold-in`,
+-- `fold-before`). If every route has a listed cost before its own, then that number is before what any route costs, and
+-- a route costs it; and if nothing is listed there is no route (`extreme-is`). Two numbers that routes cost and that
+-- are before all costs are before each other, so they are equal (`extreme-unique`). Assumes nothing.
 use Prim.Native.Nat.{ℕ, _≤_, min, max}
 use mathlib.Core.Path.{_≡_, refl, _∙_}
 use mathlib.Core.Logic.{_⊎_, inl, inr}
-use mathlib.Core.List.{List, [], _∷_, List·Memᴰ·head, List·Memᴰ·tail, List·Memᴰ·cases-cons, List·Memᴰ·not-nil, List·Memᴰ·eq-of-singleton}
+use mathlib.Core.List.{List, [], _∷_, List·Memᴰ·head, List·Memᴰ·tail, List·Memᴰ·cases-cons, List·Memᴰ·not-nil}
+use mathlib.Core.List.{List·Memᴰ·eq-of-singleton}
 use mathlib.Core.List.{Memᴰ·cast, Memᴰ·map, Memᴰ·of-map}
-use native.Mathlib.Nat.{le-refl, le-trans, le-antisymm, min-le-left, min-le-right, le-max-left, le-max-right, min-eq-left, min-eq-right, max-eq-left, max-eq-right}
+use native.Mathlib.Nat.{le-refl, le-trans, le-antisymm, min-le-left, min-le-right, le-max-left, le-max-right}
+use native.Mathlib.Nat.{min-eq-left, min-eq-right, max-eq-left, max-eq-right}
 use native.Mathlib.Decide.{decLe}
 use native.Mathlib.Omega.{arith}
 use Rattle.graph.specs.Graph.{Graph, final}
@@ -125,7 +127,9 @@ module _ (pick : ℕ → ℕ → ℕ) (before : ℕ → ℕ → Type 0) (P : Pic
         go [] e = λ s ts r. let (y, m, h) = cover s ts r in List·Memᴰ·not-nil (rw e at m)
         go (x ∷ xs) e = record {
           attained = of-costs g c (fold pick x xs) (rw e (fold-in x xs));
-          bound = λ s ts r. let (y, m, h) = cover s ts r in P .trans (fold pick x xs) y (total g c s ts) (fold-before x xs y (rw e at m)) h;
+          bound = λ s ts r.
+              let (y, m, h) = cover s ts r in
+              P .trans (fold pick x xs) y (total g c s ts) (fold-before x xs y (rw e at m)) h;
         }
 
     pub extreme-unique : (k l : ℕ) → Extreme before g c k → Extreme before g c l → k ≡ l

@@ -1,13 +1,14 @@
 -- The greatest figure exists, is one, and can be shown: for any cost.
 --
--- 1. Each of the three tests says yes exactly when its kind applies. An endless walk exists exactly when n transitions can be walked from a
---    start through unfinished states (Endless.antt). A walk to a dead end has a simple one, of fewer than n transitions.
--- 2. Where neither an endless walk nor a walk to a dead end exists, every start leads to an answer: walk on from it, and within n
---    transitions it ends in a final state, as it can neither be stuck nor go on (`go-on`).
--- 3. There, too, every route is simple, so its cost is listed: the largest of the list is the largest over all routes. By 2 the list is not
---    empty.
--- 4. So what is computed is the greatest figure (`greatest-is`); each kind excludes the ones after it, so it is the only one
---    (`greatest-unique`); and each kind can be shown (`greatest-shown`).
+-- 1. Each of the three tests says yes exactly when its kind applies. An endless walk exists exactly when n transitions
+--    can be walked from a start through unfinished states (Endless.antt). A walk to a dead end has a simple one, of
+--    fewer than n transitions.
+-- 2. Where neither an endless walk nor a walk to a dead end exists, every start leads to an answer: walk on from it,
+--    and within n transitions it ends in a final state, as it can neither be stuck nor go on (`go-on`).
+-- 3. There, too, every route is simple, so its cost is listed: the largest of the list is the largest over all routes.
+--    By 2 the list is not empty.
+-- 4. So what is computed is the greatest figure (`greatest-is`); each kind excludes the ones after it, so it is the
+--    only one (`greatest-unique`); and each kind can be shown (`greatest-shown`).
 -- Assumes nothing.
 use Prim.Native.Nat.{ℕ, zero, suc, max}
 use mathlib.Core.Path.{_≡_, refl, sym, _∙_, ap, subst}
@@ -18,14 +19,17 @@ use native.Mathlib.Nat.{le-of-eq, le-refl}
 use lib.ListN.{length}
 use Rattle.graph.specs.Graph.{Graph, states, start, final, to, Departs, Final, Unfinished, DeadEnd, Closed}
 use Rattle.graph.specs.Walk.{Begins, visits, UnfinishedFrom, Different, EndlessWalk}
-use Rattle.graph.specs.Route.{RouteFrom, Route, LeadsToAnswer, StrandedFrom, GoesOnForever, EndsUnanswered, Cost, total}
+use Rattle.graph.specs.Route.{RouteFrom, Route, LeadsToAnswer, StrandedFrom, GoesOnForever, EndsUnanswered, Cost}
+use Rattle.graph.specs.Route.{total}
 use Rattle.graph.specs.Figure.{Figure, number, NONE, STRANDED, ENDLESS, IsGreatest, NoStart, Shown}
-use Rattle.graph.specs.Compute.{leaving, deadEnd, extreme, begun, within, costs, anyStart, anyEndless, anyStranded, greatest}
+use Rattle.graph.specs.Compute.{leaving, deadEnd, extreme, begun, within, costs, anyStart, anyEndless}
+use Rattle.graph.specs.Compute.{anyStranded, greatest}
 use Rattle.graph.proofs.Tests.{decided, any-of, in-any}
 use Rattle.graph.proofs.Walks.{start-below, with-stop}
 use Rattle.graph.proofs.Simple.{simple, simple-length, short-length}
 use Rattle.graph.proofs.Endless.{run, length-run, run-walk, long-endless, endless-shown, simple-or-endless}
-use Rattle.graph.proofs.Listed.{_∈_, Yes, of-nonempty, in-nonempty, of-begun, in-begun, of-within, in-within, of-leaving, shut-end, of-deadEnd, in-deadEnd}
+use Rattle.graph.proofs.Listed.{_∈_, Yes, of-nonempty, in-nonempty, of-begun, in-begun, of-within, in-within}
+use Rattle.graph.proofs.Listed.{of-leaving, dead-end-is, of-deadEnd, in-deadEnd}
 use Rattle.graph.proofs.Extreme.{AtLeast, picks-max, Covered, IsExtreme, in-costs, extreme-is, extreme-unique}
 
 -- a test says yes exactly when A holds
@@ -58,9 +62,11 @@ module _ (g : Graph) where
         long-endless g (Yes unanswered) (r .0) (r .1) (l .begins) (l .walk) closed (le-of-eq (sym (l .size)));
     complete = λ e.
         let ts = run g e 0 (states g) in
-        let w = with-stop g (Unfinished g) (Unfinished g) (Yes unanswered) (λ x u. ap not u) (e .state 0) ts (run-walk g e 0 (states g)) in
+        let u = run-walk g e 0 (states g) in
+        let w = with-stop g (Unfinished g) (Unfinished g) (Yes unanswered) (λ x u. ap not u) (e .state 0) ts u in
+        let m = in-begun g unanswered (e .state 0) ts (e .begins) w in
         in-nonempty (begun g unanswered (states g))
-        (subst (λ (k : ℕ). (e .state 0, ts) ∈ begun g unanswered k) (length-run g e 0 (states g)) (in-begun g unanswered (e .state 0) ts (e .begins) w));
+        (subst (λ (k : ℕ). (e .state 0, ts) ∈ begun g unanswered k) (length-run g e 0 (states g)) m);
   }
 
   any-stranded : Closed g → Tests (anyStranded g) (EndsUnanswered g)
@@ -83,7 +89,9 @@ module _ (g : Graph) where
 module _ (g : Graph) where
   -- walking on from s for k transitions: an answer, a dead end, or k transitions without either
   abbrev Onward : ℕ → ℕ → Type 0
-  Onward k s = ((ts : List ℕ) × RouteFrom g s ts) ⊎ (((ts : List ℕ) × StrandedFrom g s ts) ⊎ ((ts : List ℕ) × UnfinishedFrom g s ts × (length ts ≡ k)))
+  Onward k s =
+      ((ts : List ℕ) × RouteFrom g s ts)
+      ⊎ (((ts : List ℕ) × StrandedFrom g s ts) ⊎ ((ts : List ℕ) × UnfinishedFrom g s ts × (length ts ≡ k)))
 
   one-more : (k s t : ℕ) → Unfinished g s → Departs g s t → Onward k (to g t) → Onward (suc k) s
   one-more k s t u d (inl (ts, w)) = inl (t ∷ ts, (u, d, w))
@@ -98,12 +106,14 @@ module _ (g : Graph) where
       here (inr u) = inr (inr ([], u, refl))
   go-on (suc k) s = here (decided (final g s)) (decided (leaving g s)) (λ t. go-on k (to g t))
     where
-      here : (final g s ≡ true) ⊎ (final g s ≡ false) → (leaving g s ≡ true) ⊎ (leaving g s ≡ false) → ((t : ℕ) → Onward k (to g t)) → Onward (suc k) s
+      here : (final g s ≡ true) ⊎ (final g s ≡ false) → (leaving g s ≡ true) ⊎ (leaving g s ≡ false)
+          → ((t : ℕ) → Onward k (to g t)) → Onward (suc k) s
       here (inl f) l rest = inl ([], f)
       here (inr u) (inl l) rest = let (t, d) = of-leaving g s l in one-more k s t u d (rest t)
-      here (inr u) (inr l) rest = inr (inl ([], shut-end g s u l))
+      here (inr u) (inr l) rest = inr (inl ([], dead-end-is g s u l))
 
-  pub leads-to-answer : Closed g → (GoesOnForever g → ⊥) → (EndsUnanswered g → ⊥) → (s : ℕ) → Begins g s → LeadsToAnswer g s
+  pub leads-to-answer : Closed g → (GoesOnForever g → ⊥) → (EndsUnanswered g → ⊥) → (s : ℕ) → Begins g s
+      → LeadsToAnswer g s
   leads-to-answer closed finite unstranded s b = go (go-on (states g) s)
     where
       go : Onward (states g) s → LeadsToAnswer g s
@@ -114,7 +124,8 @@ module _ (g : Graph) where
 -- ---- 3
 
 -- every route is simple
-pub route-simple : (g : Graph) → (GoesOnForever g → ⊥) → (s : ℕ) (ts : List ℕ) → Route g s ts → Different (visits g s ts)
+pub route-simple : (g : Graph) → (GoesOnForever g → ⊥) → (s : ℕ) (ts : List ℕ) → Route g s ts
+    → Different (visits g s ts)
 route-simple g finite s ts r = go (simple-or-endless g (Final g) s ts (r .0) (r .1))
   where
     go : EndlessWalk g ⊎ Different (visits g s ts) → Different (visits g s ts)
@@ -123,7 +134,7 @@ route-simple g finite s ts r = go (simple-or-endless g (Final g) s ts (r .0) (r 
 
 cover : (g : Graph) (c : Cost) → Closed g → (GoesOnForever g → ⊥) → Covered max AtLeast picks-max g c
 cover g c closed finite s ts r =
-    let h = simple-length g (Unfinished g) (Final g) closed s ts (start-below g s (r .0)) (r .1) (route-simple g finite s ts r) in
+    let h = simple-length g (Unfinished g) (Final g) closed s ts r (route-simple g finite s ts r) in
     (total g c s ts, in-costs g c s ts (in-within g (final g) s ts (r .0) (r .1) h), le-refl (total g c s ts))
 
 -- ---- 4
@@ -148,7 +159,9 @@ module _ (g : Graph) (c : Cost) where
           → IsGreatest g c (cond (not a) NONE (cond e ENDLESS (cond d STRANDED (extreme max (costs g c)))))
       go false e d p q r = λ s b. refuted (any-start g) p (s, b)
       go true true d p q r = let (s, b) = any-start g .sound p in (some-start s b, any-endless g closed .sound q)
-      go true false true p q r = let (s, b) = any-start g .sound p in (some-start s b, refuted (any-endless g closed) q, any-stranded g closed .sound r)
+      go true false true p q r =
+          let (s, b) = any-start g .sound p in
+          (some-start s b, refuted (any-endless g closed) q, any-stranded g closed .sound r)
       go true false false p q r =
           let (s, b) = any-start g .sound p in
           let finite = refuted (any-endless g closed) q in

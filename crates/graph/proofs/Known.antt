@@ -1,9 +1,9 @@
--- P1 to P9, and the plans that mislead, hold of the rules themselves: one computed test over the tables, and one lemma that turns it into
--- the rules.
+-- P1 to P9, and the plans that mislead, hold of the rules themselves: one computed test over the tables, and one lemma
+-- that turns it into the rules.
 --
--- The test computes the four figures of a row's plan and compares them with the row's, and looks that each transition leads to a state.
--- What is computed meets the rules for every such plan (`least-is`, `greatest-is`), so a figure equal to it does (`holds`). Assumes
--- nothing.
+-- The test computes the four figures of a row's plan and compares them with the row's, and looks that each transition
+-- leads to a state. What is computed meets the rules for every such plan (`least-is`, `greatest-is`), so a figure equal
+-- to it does (`holds`). Assumes nothing.
 use Prim.Native.Nat.{ℕ, zero, suc, _<_}
 use mathlib.Core.Path.{_≡_, refl, sym, _∙_, ap₂, subst}
 use mathlib.Core.Bool.{Bool, true, _&&_, and-eq-true-iff}
@@ -12,12 +12,14 @@ use native.Mathlib.Nat.{not-suc-le-zero, le-of-suc-le-suc}
 use lib.Dec.{T, eqb, ltb, lit<}
 use lib.ListN.{length, getD}
 use borrow.Author.Tests.{eqb-true}
-use Rattle.graph.specs.Graph.{count, start, final, counted, from, to, low, high, Departs}
+use Rattle.graph.specs.Graph.{Graph, count, start, final, counted, from, to, low, high, Departs, Closed}
 use Rattle.graph.specs.Walk.{visits, Different}
-use Rattle.graph.specs.Route.{Route}
-use Rattle.graph.specs.Figure.{Figure, number, NONE, STRANDED, ENDLESS, IsLeast, IsGreatest, Shown, kind, value, leastDelayCost, greatestDelayCost, countCost}
-use Rattle.graph.specs.Compute.{closed, leastDelay, greatestDelay, leastCount, greatestCount}
-use Rattle.graph.specs.Known.{Row, Holds, known, misleading, P1, P4, P7, P8, unreached-dead-end, reached-dead-end, counted-ends}
+use Rattle.graph.specs.Route.{Route, Cost}
+use Rattle.graph.specs.Figure.{Figure, number, NONE, STRANDED, ENDLESS, IsLeast, IsGreatest, Shown, kind, value}
+use Rattle.graph.specs.Figure.{leastDelayCost, greatestDelayCost, countCost}
+use Rattle.graph.specs.Compute.{closed, least, greatest, leastDelay, greatestDelay, leastCount, greatestCount}
+use Rattle.graph.specs.Known.{Row, Holds, known, misleading, P1, P4, P7, P8, unreached-dead-end, reached-dead-end}
+use Rattle.graph.specs.Known.{counted-ends}
 use Rattle.graph.proofs.Listed.{of-closed}
 use Rattle.graph.proofs.Least.{least-is}
 use Rattle.graph.proofs.Greatest.{greatest-is, route-simple}
@@ -61,19 +63,26 @@ right r =
 both : (a b : Bool) → a && b ≡ true → (a ≡ true) × (b ≡ true)
 both a b e = and-eq-true-iff a b .0 e
 
+least-as : (g : Graph) (c : Cost) (f : Figure) → Closed g → same (least g c) f ≡ true → IsLeast g c f
+least-as g c f ok e = subst (IsLeast g c) (of-same (least g c) f e) (least-is g c ok)
+
+greatest-as : (g : Graph) (c : Cost) (f : Figure) → Closed g → same (greatest g c) f ≡ true → IsGreatest g c f
+greatest-as g c f ok e = subst (IsGreatest g c) (of-same (greatest g c) f e) (greatest-is g c ok)
+
 holds : (r : Row) → right r ≡ true → Holds r
 unfolding right
 holds r e =
     let g = r .plan in
     let (c, e₁) = both (closed g) _ e in
+    let ok : Closed g = of-closed g c in
     let (ld, e₂) = both (same (leastDelay g) (r .least-delay)) _ e₁ in
     let (gd, e₃) = both (same (greatestDelay g) (r .greatest-delay)) _ e₂ in
     let (lc, gc) = both (same (leastCount g) (r .least-count)) _ e₃ in
     record {
-      least-delay = subst (IsLeast g (leastDelayCost g)) (of-same (leastDelay g) (r .least-delay) ld) (least-is g (leastDelayCost g) (of-closed g c));
-      greatest-delay = subst (IsGreatest g (greatestDelayCost g)) (of-same (greatestDelay g) (r .greatest-delay) gd) (greatest-is g (greatestDelayCost g) (of-closed g c));
-      least-count = subst (IsLeast g (countCost g)) (of-same (leastCount g) (r .least-count) lc) (least-is g (countCost g) (of-closed g c));
-      greatest-count = subst (IsGreatest g (countCost g)) (of-same (greatestCount g) (r .greatest-count) gc) (greatest-is g (countCost g) (of-closed g c));
+      least-delay = least-as g (leastDelayCost g) (r .least-delay) ok ld;
+      greatest-delay = greatest-as g (greatestDelayCost g) (r .greatest-delay) ok gd;
+      least-count = least-as g (countCost g) (r .least-count) ok lc;
+      greatest-count = greatest-as g (countCost g) (r .greatest-count) ok gc;
     }
 
 -- ---- the tables
@@ -89,7 +98,8 @@ all-hold [] e i h = absurd (not-suc-le-zero h)
 all-hold (r ∷ rs) e zero h = holds r (both (right r) (all-right rs) e .0)
 all-hold (r ∷ rs) e (suc i) h = all-hold rs (both (right r) (all-right rs) e .1) i (le-of-suc-le-suc h)
 
--- "P1 to P9 are shown to hold of the rules themselves, gathered into a table with one proof for the lot"; and so are the plans that mislead
+-- "P1 to P9 are shown to hold of the rules themselves, gathered into a table with one proof for the lot"; and so are
+-- the plans that mislead
 pub known-hold : (i : ℕ) → i < length (known ++ misleading) → Holds (getD (known ++ misleading) i P1)
 unfolding all-right start final counted from to low high
 known-hold = all-hold (known ++ misleading) refl
@@ -139,7 +149,8 @@ P1-greatest-count = (0, P1-long, refl, P1-different 0 (0 ∷ 1 ∷ 3 ∷ []) P1-
 pub final-ends : IsGreatest (P8 .plan) (greatestDelayCost (P8 .plan)) (number 2)
 final-ends = known-hold 7 (lit< tt) .greatest-delay
 
--- "Letting a loop or dead end that no start reaches turn the greatest figure (P7)": ENDLESS, and STRANDED in the row without the loop
+-- "Letting a loop or dead end that no start reaches turn the greatest figure (P7)": ENDLESS, and STRANDED in the row
+-- without the loop
 pub unreached-loop : IsGreatest (P7 .plan) (greatestDelayCost (P7 .plan)) (number 3)
 unreached-loop = known-hold 6 (lit< tt) .greatest-delay
 

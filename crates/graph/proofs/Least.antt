@@ -1,8 +1,9 @@
 -- The least figure exists, is one, and can be shown: for any cost.
 --
--- Every route has a simple one at no greater cost, and that has fewer than n transitions, so its cost is listed. So the smallest of the
--- list is the smallest over all routes, and where the list is empty there is no route (`least-is`). A number that is least is attained by
--- some route, so by a simple one too, which costs no more and, the number being least, no less (`least-shown`). Assumes nothing.
+-- Every route has a simple one at no greater cost, and that has fewer than n transitions, so its cost is listed. So the
+-- smallest of the list is the smallest over all routes, and where the list is empty there is no route (`least-is`). A
+-- number that is least is attained by some route, so by a simple one too, which costs no more and, the number being
+-- least, no less (`least-shown`). Assumes nothing.
 use Prim.Native.Nat.{ℕ, _≤_, min}
 use mathlib.Core.Path.{_≡_, refl, ap}
 use mathlib.Core.List.{List, []}

@@ -1,13 +1,16 @@
 -- The lists of specs/Compute.antt hold just the walks that they are said to hold.
 --
--- First what is in a list that is taken by a test, gathered over numbers, or not empty. Then, by recursion on the number of transitions, a
--- list of transitions is in `walks` exactly when it is a walk of that length through unfinished states to a state where the test says yes;
--- `begun` adds the start, and `within` all lengths below n. Last, the test for a dead end says yes exactly at a dead end. Assumes nothing.
+-- First what is in a list that is taken by a test, gathered over numbers, or not empty. Then, by recursion on the
+-- number of transitions, a list of transitions is in `walks` exactly when it is a walk of that length through
+-- unfinished states to a state where the test says yes; `begun` adds the start, and `within` all lengths below n. Last,
+-- the test for a dead end says yes exactly at a dead end. Assumes nothing.
 use Prim.Native.Nat.{ℕ, zero, suc, _<_}
 use mathlib.Core.Path.{_≡_, refl, sym, _∙_, ap, subst}
 use mathlib.Core.Bool.{Bool, true, false, not, false≢true, and-eq-true-iff}
 use mathlib.Core.Logic.{_⊎_, inl, inr}
-use mathlib.Core.List.{List, [], _∷_, _++_, map, List·Memᴰ, List·Memᴰ·head, List·Memᴰ·not-nil, List·Memᴰ·eq-of-singleton, List·Memᴰ·append-cases, Memᴰ·append-left, Memᴰ·append-right, Memᴰ·map, Memᴰ·of-map}
+use mathlib.Core.List.{List, [], _∷_, _++_, map, List·Memᴰ, List·Memᴰ·head, List·Memᴰ·not-nil}
+use mathlib.Core.List.{List·Memᴰ·eq-of-singleton, List·Memᴰ·append-cases, Memᴰ·append-left, Memᴰ·append-right, Memᴰ·map}
+use mathlib.Core.List.{Memᴰ·of-map}
 use native.Mathlib.Nat.{not-suc-le-zero, lt-suc-self, le-step}
 use native.Mathlib.Decide.{ℕ-discrete}
 use native.Mathlib.Omega.{arith}
@@ -37,7 +40,8 @@ module _ {A : Type 0} where
   of-gather f zero m = absurd (List·Memᴰ·not-nil m)
   of-gather f (suc n) {x} m = go (of-gather f n) (List·Memᴰ·append-cases (gather f n) m)
     where
-      go : (x ∈ gather f n → (i : ℕ) × (i < n) × (x ∈ f i)) → (x ∈ gather f n) ⊎ (x ∈ f n) → (i : ℕ) × (i < suc n) × (x ∈ f i)
+      go : (x ∈ gather f n → (i : ℕ) × (i < n) × (x ∈ f i)) → (x ∈ gather f n) ⊎ (x ∈ f n)
+          → (i : ℕ) × (i < suc n) × (x ∈ f i)
       go ih (inl l) = let (i, h, r) = ih l in (i, le-step h, r)
       go ih (inr r) = (n, lt-suc-self n, r)
 
@@ -111,19 +115,23 @@ module _ (g : Graph) (stop : ℕ → Bool) where
       let (w, l) = of-walks k s ts m₃ in
       subst (Listed k) q (record { begins = b; walk = w; size = l })
 
-  pub in-begun : (s : ℕ) (ts : List ℕ) → Begins g s → WalkTo g (Unfinished g) (Yes stop) s ts → (s, ts) ∈ begun g stop (length ts)
+  pub in-begun : (s : ℕ) (ts : List ℕ) → Begins g s → WalkTo g (Unfinished g) (Yes stop) s ts
+      → (s, ts) ∈ begun g stop (length ts)
   unfolding begun
   in-begun s ts b w =
-      in-gather (beginning (length ts)) (states g) s (start-below g s b) (in-given (start g s) b (Memᴰ·map (λ ts. (s, ts)) (in-walks s ts w)))
+      in-gather (beginning (length ts)) (states g) s (start-below g s b)
+      (in-given (start g s) b (Memᴰ·map (λ ts. (s, ts)) (in-walks s ts w)))
 
-  pub of-within : (r : ℕ × List ℕ) → r ∈ within g stop → Begins g (r .0) × WalkTo g (Unfinished g) (Yes stop) (r .0) (r .1)
+  pub of-within : (r : ℕ × List ℕ) → r ∈ within g stop
+      → Begins g (r .0) × WalkTo g (Unfinished g) (Yes stop) (r .0) (r .1)
   unfolding within
   of-within r m =
       let (k, h, m₁) = of-gather (begun g stop) (states g) m in
       let l = of-begun k r m₁ in
       (l .begins, l .walk)
 
-  pub in-within : (s : ℕ) (ts : List ℕ) → Begins g s → WalkTo g (Unfinished g) (Yes stop) s ts → length ts < states g → (s, ts) ∈ within g stop
+  pub in-within : (s : ℕ) (ts : List ℕ) → Begins g s → WalkTo g (Unfinished g) (Yes stop) s ts → length ts < states g
+      → (s, ts) ∈ within g stop
   unfolding within
   in-within s ts b w h = in-gather (begun g stop) (states g) (length ts) h (in-begun s ts b w)
 
@@ -147,19 +155,19 @@ module _ (g : Graph) (s : ℕ) where
   in-leaving t d = in-any (λ t. eqb (from g t) s) (count g) t (d .listed) (eq-eqb (from g t) s (d .source))
 
   -- an unfinished state that no transition leaves
-  pub shut-end : Unfinished g s → leaving g s ≡ false → DeadEnd g s
-  shut-end u e = record { unfinished = u; shut = λ t d. false≢true (sym e ∙ in-leaving t d) }
+  pub dead-end-is : Unfinished g s → leaving g s ≡ false → DeadEnd g s
+  dead-end-is u e = record { unfinished = u; none-departs = λ t d. false≢true (sym e ∙ in-leaving t d) }
 
   pub of-deadEnd : deadEnd g s ≡ true → DeadEnd g s
   unfolding deadEnd
   of-deadEnd e =
       let (u, v) = and-eq-true-iff (not (final g s)) (not (leaving g s)) .0 e in
-      shut-end (not-true (final g s) u) (not-true (leaving g s) v)
+      dead-end-is (not-true (final g s) u) (not-true (leaving g s) v)
 
   pub in-deadEnd : DeadEnd g s → deadEnd g s ≡ true
   unfolding deadEnd
   in-deadEnd d = rw (d .unfinished, none-leaves (decided (leaving g s)))
     where
       none-leaves : (leaving g s ≡ true) ⊎ (leaving g s ≡ false) → leaving g s ≡ false
-      none-leaves (inl e) = let (t, q) = of-leaving e in absurd (d .shut t q)
+      none-leaves (inl e) = let (t, q) = of-leaving e in absurd (d .none-departs t q)
       none-leaves (inr e) = e

@@ -1,12 +1,16 @@
 -- A sequence of numbers below n has a repeat among its first n + 1.
 --
--- A sequence here is a function f, of which the first k numbers are looked at: f 0, .., f (k - 1). They are apart when no two are equal.
+-- A sequence here is a function f, of which the first k numbers are looked at: f 0, .., f (k - 1). They are apart when
+-- no two are equal.
 -- 1. Whether x is among the first k is found by looking at each (`find`).
--- 2. So the first repeat is found: the least k at which f k is among the numbers before it, or else they are all apart (`first-repeat`).
--- 3. If the first k are apart and all below n, then k ≤ n (`pigeonhole`), by induction on n. If n - 1 is not among them, they are all below
---    n - 1. If it stands at place p, put the last one there instead: the first k - 1 are then apart and below n - 1.
+-- 2. So the first repeat is found: the least k at which f k is among the numbers before it, or else they are all apart
+--    (`first-repeat`).
+-- 3. If the first k are apart and all below n, then k ≤ n (`pigeonhole`), by induction on n. If n - 1 is not among
+--    them, they are all below n - 1. If it stands at place p, put the last one there instead: the first k - 1 are then
+--    apart and below n - 1.
 -- 4. So among n + 1 numbers below n there is a first repeat (`repeat-below`).
--- The states on a walk are such a sequence, and `Different` of the specs says that they are apart (the last part). Assumes nothing.
+-- The states on a walk are such a sequence, and `Different` of the specs says that they are apart (the last part).
+-- Assumes nothing.
 use Prim.Native.Nat.{ℕ, zero, suc, _≤_, _<_, zero-le, suc-le-suc}
 use mathlib.Core.Path.{_≡_, refl, sym, _∙_, ap}
 use mathlib.Core.Bool.{Bool, true, false, cond}
@@ -76,8 +80,22 @@ first-repeat f zero = inr (λ i j l h e. not-suc-le-zero h)
 first-repeat f (suc k) = go (first-repeat f k) (find f (f k) k)
   where
     go : Repeat f k ⊎ Apart f k → Found f (f k) k ⊎ Absent f (f k) k → Repeat f (suc k) ⊎ Apart f (suc k)
-    go (inl r) d = inl (record { earlier = r .earlier; later = r .later; order = r .order; below = omega arith; same = r .same; apart = r .apart })
-    go (inr a) (inl r) = inl (record { earlier = r .place; later = k; order = r .below; below = omega arith; same = sym (r .same); apart = a })
+    go (inl r) d = inl (record {
+      earlier = r .earlier;
+      later = r .later;
+      order = r .order;
+      below = omega arith;
+      same = r .same;
+      apart = r .apart;
+    })
+    go (inr a) (inl r) = inl (record {
+      earlier = r .place;
+      later = k;
+      order = r .below;
+      below = omega arith;
+      same = sym (r .same);
+      apart = a;
+    })
     go (inr a) (inr n) = inr (apart-suc f k a n)
 
 -- ---- 3
@@ -100,7 +118,8 @@ instead-apart f p k hp a i j l h e = go (instead-is f p (f k) i) (instead-is f p
     f′ : ℕ → ℕ
     f′ = instead f p (f k)
 
-    go : ((i ≡ p) × (f′ i ≡ f k)) ⊎ ((i ≡ p → ⊥) × (f′ i ≡ f i)) → ((j ≡ p) × (f′ j ≡ f k)) ⊎ ((j ≡ p → ⊥) × (f′ j ≡ f j)) → ⊥
+    go : ((i ≡ p) × (f′ i ≡ f k)) ⊎ ((i ≡ p → ⊥) × (f′ i ≡ f i))
+        → ((j ≡ p) × (f′ j ≡ f k)) ⊎ ((j ≡ p → ⊥) × (f′ j ≡ f j)) → ⊥
     go (inl u) (inl v) = omega arith
     go (inl u) (inr v) = a j k h (omega arith) (sym (v .1) ∙ sym e ∙ u .1)
     go (inr u) (inl v) = a i k (omega arith) (omega arith) (sym (u .1) ∙ e ∙ v .1)
@@ -146,7 +165,9 @@ pigeonhole (suc n) f zero a b = zero-le
 pigeonhole zero f (suc k) a b = absurd (not-suc-le-zero (b 0 (omega arith)))
 pigeonhole (suc n) f (suc k) a b = go (λ f′ k′. pigeonhole n f′ k′) (find f n (suc k))
   where
-    go : ((f′ : ℕ → ℕ) (k′ : ℕ) → Apart f′ k′ → ((i : ℕ) → i < k′ → f′ i < n) → k′ ≤ n) → Found f n (suc k) ⊎ Absent f n (suc k) → suc k ≤ suc n
+    go : ((f′ : ℕ → ℕ) (k′ : ℕ) → Apart f′ k′ → ((i : ℕ) → i < k′ → f′ i < n) → k′ ≤ n)
+        → Found f n (suc k) ⊎ Absent f n (suc k)
+        → suc k ≤ suc n
     go ih (inl r) =
         let p = r .place in
         suc-le-suc (ih (instead f p (f k)) k (instead-apart f p k (r .below) a) (instead-below f p k n (r .below) (r .same) a b))
@@ -172,7 +193,8 @@ different-take xs k a i j l h e =
     let hj : j < k = omega (arith, length-take k xs) in
     a i j l hj (sym (getD-take k xs i 0 (omega arith)) ∙ e ∙ getD-take k xs j 0 hj)
 
-pub different-cons : (x : ℕ) (xs : List ℕ) → ((i : ℕ) → i < length xs → nth xs i ≡ x → ⊥) → Different xs → Different (x ∷ xs)
+pub different-cons : (x : ℕ) (xs : List ℕ) → ((i : ℕ) → i < length xs → nth xs i ≡ x → ⊥) → Different xs
+    → Different (x ∷ xs)
 different-cons x xs new d i zero l h e = not-suc-le-zero l
 different-cons x xs new d zero (suc j) l h e = new j (le-of-suc-le-suc h) (sym e)
 different-cons x xs new d (suc i) (suc j) l h e = d i j (le-of-suc-le-suc l) (le-of-suc-le-suc h) e
@@ -194,7 +216,8 @@ nth-snoc (y ∷ ys) x (suc i) h = go (nth-snoc ys x i (le-of-suc-le-suc h))
     go (inl u) = inl (suc-le-suc (u .0), u .1)
     go (inr u) = inr (ap suc (u .0), u .1)
 
-pub different-snoc : (xs : List ℕ) (x : ℕ) → ((i : ℕ) → i < length xs → nth xs i ≡ x → ⊥) → Different xs → Different (xs ++ (x ∷ []))
+pub different-snoc : (xs : List ℕ) (x : ℕ) → ((i : ℕ) → i < length xs → nth xs i ≡ x → ⊥) → Different xs
+    → Different (xs ++ (x ∷ []))
 different-snoc xs x new d i j l h e = go (nth-snoc xs x i (lt-trans l h)) (nth-snoc xs x j h)
   where
     go : Snoc xs x i → Snoc xs x j → ⊥

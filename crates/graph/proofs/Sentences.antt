@@ -1,5 +1,5 @@
--- Sentences of 01 that follow from the definitions in a line or two, so that a reader can hold the definitions against them; and
--- calculators that demand 2 names, refuted. Assumes nothing.
+-- Sentences of 01 that follow from the definitions in a line or two, so that a reader can hold the definitions against
+-- them; and calculators that demand 2 names, refuted. Assumes nothing.
 use Prim.Native.Nat.{ℕ, _<_}
 use mathlib.Core.Path.{_≡_, sym, _∙_}
 use mathlib.Core.Logic.{_↔_}
@@ -28,9 +28,14 @@ module _ (g : Graph) where
     pub before : (i : ℕ) → i < length ts → earlier (nth (visits g s ts) i)
     pub ends : last (arrival g s ts)
 
-  in-words : (earlier last : ℕ → Type 0) (s : ℕ) (ts : List ℕ) → FromStart g (WalkTo g earlier last) s ts ↔ InWords earlier last s ts
+  in-words : (earlier last : ℕ → Type 0) (s : ℕ) (ts : List ℕ)
+      → FromStart g (WalkTo g earlier last) s ts ↔ InWords earlier last s ts
   in-words earlier last s ts = (
-    λ (b, w). record { walk = (b, plain g earlier last s ts w); before = passed g earlier last s ts w; ends = stopped g earlier last s ts w },
+    λ (b, w). record {
+      walk = (b, plain g earlier last s ts w);
+      before = passed g earlier last s ts w;
+      ends = stopped g earlier last s ts w;
+    },
     λ r. (r .walk .0, walk-of g earlier last s ts (r .walk .1) (r .before) (r .ends)),
   )
 
@@ -53,7 +58,8 @@ module _ (g : Graph) where
   pub stranded-alone : (c : Cost) (j : ℕ) → Shown g c STRANDED [] j → (s : ℕ) × Begins g s × DeadEnd g s
   stranded-alone c j (s, (b, w), d) = (s, b, w)
 
-  -- the number shown is the sum over the walk shown, "of its lows for a least figure, and of its highs for a greatest one" ..
+  -- the number shown is the sum over the walk shown, "of its lows for a least figure, and of its highs for a greatest
+  -- one" ..
   pub shown-lows : (k : ℕ) (ts : List ℕ) (j : ℕ) → Shown g (lows g) (number k) ts j → delay (low g) ts ≡ k
   shown-lows k ts j (s, r, q, d) = sym (delay-is g (low g) s ts) ∙ q
 
@@ -61,11 +67,12 @@ module _ (g : Graph) where
   shown-highs k ts j (s, r, q, d) = sym (delay-is g (high g) s ts) ∙ q
 
   -- .. or the number of counted states on it: "one that quotes a handover count which its walk lacks" shows no such walk
-  pub shown-count : (p : ℕ → Bool) (k : ℕ) (ts : List ℕ) (j : ℕ) → Shown g (counts g p) (number k) ts j → (s : ℕ) × Begins g s × (number-on g p s ts ≡ k)
+  pub shown-count : (p : ℕ → Bool) (k : ℕ) (ts : List ℕ) (j : ℕ) → Shown g (counts g p) (number k) ts j
+      → (s : ℕ) × Begins g s × (number-on g p s ts ≡ k)
   shown-count p k ts j (s, r, q, d) = (s, r .0, sym (count-is g p (Unfinished g) (Final g) s ts (r .1)) ∙ q)
 
--- "a calculator that says NONE, STRANDED or ENDLESS before looking", and "one that quotes a fixed figure": no figure is right for both P2
--- and P3, whatever the cost
+-- "a calculator that says NONE, STRANDED or ENDLESS before looking", and "one that quotes a fixed figure": no figure is
+-- right for both P2 and P3, whatever the cost
 pub least-not-fixed : (c c′ : Cost) (f : Figure) → IsLeast (P2 .plan) c f → IsLeast (P3 .plan) c′ f → ⊥
 least-not-fixed c c′ (number k) h₂ h₃ = let (s, ts, r, q) = h₃ .attained in known-hold 2 (lit< tt) .least-delay s ts r
 least-not-fixed c c′ NONE h₂ h₃ = let (s, ts, r, q) = known-hold 1 (lit< tt) .least-delay .attained in h₂ s ts r

@@ -1,7 +1,8 @@
 -- What a test says: of one value, of two tests together, and of the numbers below n.
 --
--- A test says yes or no (`decided`). A search for a number below n that a test accepts finds one exactly if there is one, by recursion on n
--- (`any-of`, `in-any`); so if it finds none, the test says no of each (`none-of`). Assumes nothing.
+-- A test says yes or no (`decided`). A search for a number below n that a test accepts finds one exactly if there is
+-- one, by recursion on n (`any-of`, `in-any`); so if it finds none, the test says no of each (`none-of`). Assumes
+-- nothing.
 use Prim.Native.Nat.{ℕ, zero, suc, _<_}
 use mathlib.Core.Path.{_≡_, refl, sym, _∙_}
 use mathlib.Core.Bool.{Bool, true, false, _||_, true≢false, false≢true}
@@ -35,7 +36,8 @@ unfolding any
 any-of p zero h = absurd (false≢true h)
 any-of p (suc n) h = go (any-of p n) (or-cases (any p n) (p n) h)
   where
-    go : (any p n ≡ true → (i : ℕ) × (i < n) × (p i ≡ true)) → (any p n ≡ true) ⊎ (p n ≡ true) → (i : ℕ) × (i < suc n) × (p i ≡ true)
+    go : (any p n ≡ true → (i : ℕ) × (i < n) × (p i ≡ true)) → (any p n ≡ true) ⊎ (p n ≡ true)
+        → (i : ℕ) × (i < suc n) × (p i ≡ true)
     go ih (inl l) = let (i, h, y) = ih l in (i, le-step h, y)
     go ih (inr y) = (n, lt-suc-self n, y)
 

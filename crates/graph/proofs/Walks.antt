@@ -1,7 +1,7 @@
 -- What every walk has: its states by place, its parts, and that it stays within the plan.
 --
--- All of it is by recursion on the list of transitions, for any condition on the states passed and on the last one; so it holds of routes, of
--- unfinished walks and of walks to a dead end alike. Assumes nothing.
+-- All of it is by recursion on the list of transitions, for any condition on the states passed and on the last one; so
+-- it holds of routes, of unfinished walks and of walks to a dead end alike. Assumes nothing.
 use Prim.Native.Nat.{ℕ, zero, suc, _≤_, _<_, _/_, _%_, suc-le-suc}
 use mathlib.Core.Path.{_≡_, refl, sym, _∙_, ap}
 use mathlib.Core.Bool.{false≢true}
@@ -42,7 +42,8 @@ module _ (g : Graph) where
   state-last s (t ∷ ts) = state-last (to g t) ts
 
   -- the states on the first part of a walk
-  pub visits-take : (s : ℕ) (ts : List ℕ) (i : ℕ) → i ≤ length ts → visits g s (take i ts) ≡ take (suc i) (visits g s ts)
+  pub visits-take : (s : ℕ) (ts : List ℕ) (i : ℕ) → i ≤ length ts
+      → visits g s (take i ts) ≡ take (suc i) (visits g s ts)
   visits-take s [] zero h = refl
   visits-take s [] (suc i) h = absurd (not-suc-le-zero h)
   visits-take s (t ∷ ts) zero h = refl
@@ -55,12 +56,14 @@ module _ (g : Graph) (pass stop : ℕ → Type 0) where
   passed s (t ∷ ts) w zero h = w .0
   passed s (t ∷ ts) w (suc i) h = passed (to g t) ts (w .2) i (le-of-suc-le-suc h)
 
-  pub departs-at : (s : ℕ) (ts : List ℕ) → WalkTo g pass stop s ts → (i : ℕ) → i < length ts → Departs g (nth (visits g s ts) i) (nth ts i)
+  pub departs-at : (s : ℕ) (ts : List ℕ) → WalkTo g pass stop s ts → (i : ℕ) → i < length ts
+      → Departs g (nth (visits g s ts) i) (nth ts i)
   departs-at s [] w i h = absurd (not-suc-le-zero h)
   departs-at s (t ∷ ts) w zero h = w .1
   departs-at s (t ∷ ts) w (suc i) h = departs-at (to g t) ts (w .2) i (le-of-suc-le-suc h)
 
-  pub arrives-at : (s : ℕ) (ts : List ℕ) → WalkTo g pass stop s ts → (i : ℕ) → i < length ts → to g (nth ts i) ≡ nth (visits g s ts) (suc i)
+  pub arrives-at : (s : ℕ) (ts : List ℕ) → WalkTo g pass stop s ts → (i : ℕ) → i < length ts
+      → to g (nth ts i) ≡ nth (visits g s ts) (suc i)
   arrives-at s [] w i h = absurd (not-suc-le-zero h)
   arrives-at s (t ∷ []) w zero h = refl
   arrives-at s (t ∷ u ∷ ts) w zero h = refl
@@ -73,25 +76,29 @@ module _ (g : Graph) (pass stop : ℕ → Type 0) where
   stopped s (t ∷ ts) w = stopped (to g t) ts (w .2)
 
   -- every state of a walk is one of the plan's
-  pub visits-below : Closed g → (s : ℕ) (ts : List ℕ) → s < states g → WalkTo g pass stop s ts → (i : ℕ) → i < length (visits g s ts) → nth (visits g s ts) i < states g
+  pub visits-below : Closed g → (s : ℕ) (ts : List ℕ) → s < states g → WalkTo g pass stop s ts → (i : ℕ)
+      → i < length (visits g s ts) → nth (visits g s ts) i < states g
   visits-below c s [] l w zero h = l
   visits-below c s [] l w (suc i) h = absurd (not-suc-le-zero (le-of-suc-le-suc h))
   visits-below c s (t ∷ ts) l w zero h = l
   visits-below c s (t ∷ ts) l w (suc i) h = visits-below c (to g t) ts (c t (w .1 .listed)) (w .2) i (le-of-suc-le-suc h)
 
   -- the first k transitions are a walk to the state that they lead to
-  pub front : (stop′ : ℕ → Type 0) (s : ℕ) (ts : List ℕ) (k : ℕ) → WalkTo g pass stop s ts → k ≤ length ts → stop′ (nth (visits g s ts) k) → WalkTo g pass stop′ s (take k ts)
+  pub front : (stop′ : ℕ → Type 0) (s : ℕ) (ts : List ℕ) (k : ℕ) → WalkTo g pass stop s ts → k ≤ length ts
+      → stop′ (nth (visits g s ts) k) → WalkTo g pass stop′ s (take k ts)
   front stop′ s [] zero w h q = q
   front stop′ s [] (suc k) w h q = absurd (not-suc-le-zero h)
   front stop′ s (t ∷ ts) zero w h q = q
   front stop′ s (t ∷ ts) (suc k) w h q = (w .0, w .1, front stop′ (to g t) ts k (w .2) (le-of-suc-le-suc h) q)
 
   -- the last state may be said to be something else that it is
-  pub with-last : (stop′ : ℕ → Type 0) (s : ℕ) (ts : List ℕ) → WalkTo g pass stop s ts → stop′ (arrival g s ts) → WalkTo g pass stop′ s ts
+  pub with-last : (stop′ : ℕ → Type 0) (s : ℕ) (ts : List ℕ) → WalkTo g pass stop s ts → stop′ (arrival g s ts)
+      → WalkTo g pass stop′ s ts
   with-last stop′ s [] w q = q
   with-last stop′ s (t ∷ ts) w q = (w .0, w .1, with-last stop′ (to g t) ts (w .2) q)
 
-  pub with-stop : (stop′ : ℕ → Type 0) → ((x : ℕ) → stop x → stop′ x) → (s : ℕ) (ts : List ℕ) → WalkTo g pass stop s ts → WalkTo g pass stop′ s ts
+  pub with-stop : (stop′ : ℕ → Type 0) → ((x : ℕ) → stop x → stop′ x) → (s : ℕ) (ts : List ℕ) → WalkTo g pass stop s ts
+      → WalkTo g pass stop′ s ts
   with-stop stop′ f s ts w = with-last stop′ s ts w (f (arrival g s ts) (stopped s ts w))
 
   -- nothing asked of the states; and what is asked, put back place by place
@@ -99,6 +106,7 @@ module _ (g : Graph) (pass stop : ℕ → Type 0) where
   plain s [] w = tt
   plain s (t ∷ ts) w = (tt, w .1, plain (to g t) ts (w .2))
 
-  pub walk-of : (s : ℕ) (ts : List ℕ) → WalkFrom g s ts → ((i : ℕ) → i < length ts → pass (nth (visits g s ts) i)) → stop (arrival g s ts) → WalkTo g pass stop s ts
+  pub walk-of : (s : ℕ) (ts : List ℕ) → WalkFrom g s ts → ((i : ℕ) → i < length ts → pass (nth (visits g s ts) i))
+      → stop (arrival g s ts) → WalkTo g pass stop s ts
   walk-of s [] w p q = q
   walk-of s (t ∷ ts) w p q = (p 0 (zero-lt-suc (length ts)), w .1, walk-of (to g t) ts (w .2) (λ i h. p (suc i) (suc-le-suc h)) q)

@@ -1,16 +1,17 @@
 -- The figures by computation, for any plan: list the walks of so many transitions and look among them.
 --
--- This says what a figure IS in a form that can be computed, and not how to find one fast: the lists grow with the power of the
--- transitions. A route that visits no state twice has fewer transitions than the plan has states, and n transitions in a row without an
--- answer visit some state twice. So n is enough to look at. proofs/Least.antt and proofs/Greatest.antt show that what is computed here is
--- what Figure.antt says. Assumes nothing.
+-- This says what a figure IS in a form that can be computed, and not how to find one fast: the lists grow with the
+-- power of the transitions. A route that visits no state twice has fewer transitions than the plan has states, and n
+-- transitions in a row without an answer visit some state twice. So n is enough to look at. proofs/Least.antt and
+-- proofs/Greatest.antt show that what is computed here is what Figure.antt says. Assumes nothing.
 use Prim.Native.Nat.{ℕ, zero, suc, min, max}
 use mathlib.Core.Bool.{Bool, true, false, not, cond, _&&_, _||_}
 use mathlib.Core.List.{List, [], _∷_, _++_, map}
 use lib.Dec.{eqb, ltb}
 use Rattle.graph.specs.Graph.{Graph, states, count, start, final, from, to}
 use Rattle.graph.specs.Route.{Cost, total}
-use Rattle.graph.specs.Figure.{Figure, number, NONE, STRANDED, ENDLESS, leastDelayCost, greatestDelayCost, countCost}
+use Rattle.graph.specs.Figure.{Figure, number, NONE, STRANDED, ENDLESS, leastDelayCost, greatestDelayCost}
+use Rattle.graph.specs.Figure.{countCost}
 
 module _ {A : Type 0} where
   -- the list where the test says yes, and none of it where it says no
@@ -51,7 +52,8 @@ deadEnd g s = not (final g s) && not (leaving g s)
 unfoldable pub walks : Graph → (ℕ → Bool) → ℕ → ℕ → List (List ℕ)
 walks g stop zero s = given (stop s) ([] ∷ [])
 walks g stop (suc k) s =
-    given (not (final g s)) (gather (λ t. let rest = map (λ ts. t ∷ ts) (walks g stop k (to g t)) in given (eqb (from g t) s) rest) (count g))
+    let through : ℕ → List (List ℕ) = λ t. given (eqb (from g t) s) (map (λ ts. t ∷ ts) (walks g stop k (to g t))) in
+    given (not (final g s)) (gather through (count g))
 
 -- those that begin at a start, each with its start
 unfoldable pub begun : Graph → (ℕ → Bool) → ℕ → List (ℕ × List ℕ)

@@ -7,7 +7,8 @@ use mathlib.Core.List.{List}
 use lib.ListN.{length, take}
 use Rattle.graph.specs.Graph.{Graph, start, counted}
 use Rattle.graph.specs.Walk.{visits, arrival, UnfinishedWalk, Different}
-use Rattle.graph.specs.Route.{Route, StrandedWalk, GoesOnForever, EndsUnanswered, Cost, total, lows, highs, counts}
+use Rattle.graph.specs.Route.{Route, StrandedWalk, GoesOnForever, EndsUnanswered, Cost, total, lows, highs}
+use Rattle.graph.specs.Route.{counts}
 
 -- "its number or kind"
 pub data Figure : Type 0 where
@@ -56,8 +57,8 @@ IsLeast g c ENDLESS = ⊥
 abbrev pub NoStart : Graph → Type 0
 NoStart g = (s : ℕ) → start g s ≡ true → ⊥
 
--- "first that applies: NONE if no state is marked start; ENDLESS if an endless walk of unfinished states exists; STRANDED if a walk of
--- unfinished states ends in a dead end; else the largest .. over all routes"
+-- "first that applies: NONE if no state is marked start; ENDLESS if an endless walk of unfinished states exists;
+-- STRANDED if a walk of unfinished states ends in a dead end; else the largest .. over all routes"
 abbrev pub IsGreatest : Graph → Cost → Figure → Type 0
 IsGreatest g c NONE = NoStart g
 IsGreatest g c ENDLESS = (NoStart g → ⊥) × GoesOnForever g
@@ -76,16 +77,17 @@ countCost g = counts g (counted g)
 
 -- ---- what is shown
 
--- the walk of transition numbers ts, k of them, with the place j, is as 01 asks for the figure. "Only ENDLESS has a j", so no other line
--- speaks of it; and "which of several such walks is shown is left free".
+-- the walk of transition numbers ts, k of them, with the place j, is as 01 asks for the figure. "Only ENDLESS has a j",
+-- so no other line speaks of it; and "which of several such walks is shown is left free".
 abbrev pub Shown : Graph → Cost → Figure → List ℕ → ℕ → Type 0
 -- "For a number: a route that attains the figure and visits no state twice."
 Shown g c (number k) ts j = (s : ℕ) × Route g s ts × (total g c s ts ≡ k) × Different (visits g s ts)
 -- "For STRANDED: an unfinished walk to a dead end, no state twice."
 Shown g c STRANDED ts j = (s : ℕ) × StrandedWalk g s ts × Different (visits g s ts)
--- "For ENDLESS: an unfinished walk and a place j below k, where the state after k transitions is the state after j, and the first k states
--- differ."
+-- "For ENDLESS: an unfinished walk and a place j below k, where the state after k transitions is the state after j, and
+-- the first k states differ."
 Shown g c ENDLESS ts j =
-    (s : ℕ) × UnfinishedWalk g s ts × (j < length ts) × (arrival g s ts ≡ arrival g s (take j ts)) × Different (take (length ts) (visits g s ts))
+    (s : ℕ) × UnfinishedWalk g s ts × (j < length ts) × (arrival g s ts ≡ arrival g s (take j ts))
+    × Different (take (length ts) (visits g s ts))
 -- "For NONE: k is 0."
 Shown g c NONE ts j = length ts ≡ 0

@@ -1,5 +1,6 @@
--- The state graph of a call plan, as the lists that a plan value stands for: its states and their marks, its transitions by number.
--- Document 01, "The plan and its edits" and the first paragraph of "Routes and figures". Assumes nothing.
+-- The state graph of a call plan, as the lists that a plan value stands for: its states and their marks, its
+-- transitions by number. Document 01, "The plan and its edits" and the first paragraph of "Routes and figures". Assumes
+-- nothing.
 use Prim.Native.Nat.{ℕ, _/_, _%_, _<_}
 use mathlib.Core.Path.{_≡_}
 use mathlib.Core.Bool.{Bool, true, false}
@@ -82,9 +83,9 @@ Unfinished g s = final g s ≡ false
 -- "A dead end is an unfinished state that no transition leaves."
 pub record DeadEnd (g : Graph) (s : ℕ) : Type 0 where
   pub unfinished : Unfinished g s
-  pub shut : (t : ℕ) → Departs g s t → ⊥
+  pub none-departs : (t : ℕ) → Departs g s t → ⊥
 
--- what the theorems ask of a plan, and its limits give: every transition leads to a state of the plan ("a state number not below n" is
--- refused)
+-- what the theorems ask of a plan, and its limits give: every transition leads to a state of the plan ("a state number
+-- not below n" is refused)
 abbrev pub Closed : Graph → Type 0
 Closed g = (t : ℕ) → t < count g → to g t < states g

@@ -1,9 +1,10 @@
--- The plans with known figures, P1 to P9, and the plans that mislead: document 01, "Plans with known figures" and "What misleads people
--- here". proofs/Known.antt proves `Holds` of every row. Assumes nothing.
+-- The plans with known figures, P1 to P9, and the plans that mislead: document 01, "Plans with known figures" and "What
+-- misleads people here". proofs/Known.antt proves `Holds` of every row. Assumes nothing.
 use Prim.Native.Nat.{ℕ}
 use mathlib.Core.List.{List, [], _∷_}
 use Rattle.graph.specs.Graph.{Graph, Transition}
-use Rattle.graph.specs.Figure.{Figure, number, NONE, STRANDED, ENDLESS, IsLeast, IsGreatest, leastDelayCost, greatestDelayCost, countCost}
+use Rattle.graph.specs.Figure.{Figure, number, NONE, STRANDED, ENDLESS, IsLeast, IsGreatest, leastDelayCost}
+use Rattle.graph.specs.Figure.{greatestDelayCost, countCost}
 
 -- "a→b 1..9 is a transition with its durations"
 abbrev pub join : ℕ → ℕ → ℕ → ℕ → Transition
@@ -18,7 +19,13 @@ pub record Row : Type 0 where
   pub greatest-count : Figure
 
 abbrev pub row : List ℕ → List Transition → Figure → Figure → Figure → Figure → Row
-row ms ts ld gd lc gc = record { plan = record { marks = ms; transitions = ts }; least-delay = ld; greatest-delay = gd; least-count = lc; greatest-count = gc }
+row ms ts ld gd lc gc = record {
+  plan = record { marks = ms; transitions = ts };
+  least-delay = ld;
+  greatest-delay = gd;
+  least-count = lc;
+  greatest-count = gc;
+}
 
 -- the row's figures are the plan's, by the rules of Figure.antt
 pub record Holds (r : Row) : Type 0 where
@@ -71,12 +78,13 @@ known = P1 ∷ P2 ∷ P3 ∷ P4 ∷ P5 ∷ P6 ∷ P7 ∷ P8 ∷ P9 ∷ []
 
 -- ---- "What misleads people here": P8, P7 and P4 above, and three rows of our own
 
--- "Letting a loop or dead end that no start reaches turn the greatest figure": P7 without its loop, so that state 2 is a dead end that
--- nothing reaches
+-- "Letting a loop or dead end that no start reaches turn the greatest figure": P7 without its loop, so that state 2 is
+-- a dead end that nothing reaches
 abbrev pub unreached-dead-end : Row
 unreached-dead-end = row (4 ∷ 2 ∷ 0 ∷ []) (join 0 1 2 3 ∷ []) (number 2) (number 3) (number 0) (number 0)
 
--- "Reading upper's result at a dead end as a delay: its walk has no answer": 9 seconds lead to the dead end 2, and the answer comes after 1
+-- "Reading upper's result at a dead end as a delay: its walk has no answer": 9 seconds lead to the dead end 2, and the
+-- answer comes after 1
 abbrev pub reached-dead-end : Row
 reached-dead-end = row (4 ∷ 2 ∷ 0 ∷ []) (join 0 1 1 1 ∷ join 0 2 9 9 ∷ []) (number 1) STRANDED (number 0) STRANDED
 

@@ -1,7 +1,7 @@
 -- Routes, and what a route costs. Document 01, "Routes and figures", first and second paragraph.
 --
--- A cost is one number for each transition and one for the last state. Delays and counts are costs, so whatever is said and proved of a
--- cost holds of both. Assumes nothing.
+-- A cost is one number for each transition and one for the last state. Delays and counts are costs, so whatever is said
+-- and proved of a cost holds of both. Assumes nothing.
 use Prim.Native.Nat.{ℕ, _+_}
 use mathlib.Core.Bool.{Bool, true, false}
 use mathlib.Core.List.{List, [], _∷_, map}
@@ -61,13 +61,14 @@ abbrev pub one : Bool → ℕ
 one true = 1
 one false = 0
 
--- "Its count is the number of counted states on it, first and last included, one for each visit", over any yes-or-no on states:
+-- "Its count is the number of counted states on it, first and last included, one for each visit", over any yes-or-no on
+-- states:
 -- each transition counts the state that it leaves, and the last state is added
 abbrev pub counts : Graph → (ℕ → Bool) → Cost
 counts g p = record { step = λ t. one (p (from g t)); close = λ s. one (p s) }
 
--- the same in 01's own words, to hold `total` against (`delay-is` and `count-is` of proofs/Cost.antt): the sum over the transitions,
--- and the number of states on the walk of which p says yes
+-- the same in 01's own words, to hold `total` against (`delay-is` and `count-is` of proofs/Cost.antt): the sum over the
+-- transitions, and the number of states on the walk of which p says yes
 abbrev pub sum : List ℕ → ℕ
 sum [] = 0
 sum (x ∷ xs) = x + sum xs

@@ -1,7 +1,8 @@
 -- Walks by transition numbers. Document 01, "Routes and figures", first paragraph.
 --
--- A walk is a state, where it begins, and a list of transition numbers: the states on it follow. What a walk must meet is said first of a walk
--- from any state; how the walks of a plan begin is said by `FromStart` alone, and at the end for an endless one. Assumes nothing.
+-- A walk is a state, where it begins, and a list of transition numbers: the states on it follow. What a walk must meet
+-- is said first of a walk from any state; how the walks of a plan begin is said by `FromStart` alone, and at the end
+-- for an endless one. Assumes nothing.
 use Prim.Native.Nat.{ℕ, suc, _<_}
 use mathlib.Core.Path.{_≡_}
 use mathlib.Core.Bool.{true}
@@ -33,8 +34,8 @@ Begins g s = start g s ≡ true
 abbrev pub FromStart : Graph → (ℕ → List ℕ → Type 0) → ℕ → List ℕ → Type 0
 FromStart g K s ts = Begins g s × K s ts
 
--- "A walk is a start state followed by transitions of the plan, each departing where the one before arrived": nothing more is asked of
--- its states. First from any state.
+-- "A walk is a start state followed by transitions of the plan, each departing where the one before arrived": nothing
+-- more is asked of its states. First from any state.
 abbrev pub WalkFrom : Graph → ℕ → List ℕ → Type 0
 WalkFrom g = WalkTo g (λ s. Unit {0}) (λ s. Unit {0})
 

@@ -1,9 +1,10 @@
 -- Runs of the procedures on small plans, turn by turn, and where they part from document 01.
 --
--- A run is written out: so many `turns`, then `ends`. Each test is computed. First plans of document 01, most with durations of 1: what misleads
--- people there does not mislead the procedures. Then plans that the comparison leaves out: other durations, a dead end, no start, no transition at
--- all. There a procedure's value is not the figure: "Where they .. assume more than a plan offers (dead ends, no start), this paper rules."
--- Last, why figure 5 is not read by how far in its lines stand. Assumes nothing.
+-- A run is written out: so many `turns`, then `ends`. Each test is computed. First plans of document 01, most with
+-- durations of 1: what misleads people there does not mislead the procedures. Then plans that the comparison leaves
+-- out: other durations, a dead end, no start, no transition at all. There a procedure's value is not the figure: "Where
+-- they .. assume more than a plan offers (dead ends, no start), this paper rules." Last, why figure 5 is not read by
+-- how far in its lines stand. Assumes nothing.
 use Prim.Native.Nat.{ℕ, zero, suc, _<_}
 use mathlib.Core.Path.{_≡_, refl, sym, _∙_, ap}
 use mathlib.Core.Bool.{true, false, not, cond, _&&_, true≢false, false≢true}
@@ -11,7 +12,7 @@ use mathlib.Core.List.{List, [], _∷_}
 use native.Mathlib.Nat.{not-suc-le-zero, le-of-suc-le-suc}
 use native.Mathlib.Omega.{arith}
 use lib.Dec.{lit<}
-use Rattle.graph.specs.Graph.{Graph, Transition, marksOf, start, final, counted, transition, from, to, Departs}
+use Rattle.graph.specs.Graph.{Graph, Transition, marksOf, start, final, counted, transition, from, to, Departs, DeadEnd}
 use Rattle.graph.specs.Compute.{any, nonempty}
 use Rattle.graph.specs.Figure.{number, NONE, STRANDED, IsLeast, IsGreatest, leastDelayCost, greatestDelayCost}
 use Rattle.graph.specs.Known.{join, P1, P2, P3, P5, reached-dead-end}
@@ -99,7 +100,8 @@ pub ends-counted : Counts (plan (5 ∷ 3 ∷ []) (step 0 1 ∷ [])) (finite 2) (
 unfolding any N marksOf start final counted from to transition those Nₐ Tₐ updated
 ends-counted = record { fewest = (_, turns refl (ends refl), refl); most = (_, turns refl (ends refl), refl) }
 
--- A dead end is a state without a transition out, so a plan that has one is none of those that the procedures are compared on.
+-- A dead end is a state without a transition out, so a plan that has one is none of those that the procedures are
+-- compared on.
 pub dead-end-out : TotalPlan (reached-dead-end .plan) → ⊥
 unfolding marksOf final from transition
 dead-end-out q = let (t, d) = q .leaves 2 (lit< tt) refl in none t d
@@ -115,7 +117,8 @@ dead-end-out q = let (t, d) = q .leaves 2 (lit< tt) refl in none t d
 pub durations : Returns (lower (P1 .plan)) (finite 2) × IsLeast (P1 .plan) (leastDelayCost (P1 .plan)) (number 7)
 durations = (P1-bounds .shortest, known-hold 0 (lit< tt) .least-delay)
 
--- "Reading upper's result at a dead end as a delay: its walk has no answer." P3, whose start is a dead end: upper returns 1, and the figure is STRANDED.
+-- "Reading upper's result at a dead end as a delay: its walk has no answer." P3, whose start is a dead end: upper
+-- returns 1, and the figure is STRANDED.
 pub dead-end : Returns (upper (P3 .plan)) (finite 1) × IsGreatest (P3 .plan) (greatestDelayCost (P3 .plan)) STRANDED
 unfolding any empty same N T T⁻¹ marksOf start final from to transition
 dead-end = ((_, turns refl (ends refl), refl), known-hold 2 (lit< tt) .greatest-delay)
@@ -125,8 +128,9 @@ pub no-start : Returns (upper (P5 .plan)) (finite 0) × IsGreatest (P5 .plan) (g
 unfolding any empty same N T T⁻¹ marksOf start final from to transition
 no-start = ((_, ends refl, refl), known-hold 4 (lit< tt) .greatest-delay)
 
--- Neither a start nor a final state. The report says below figure 4 that the two parts of the loop's test are never false together; its reason looks
--- one turn back, and before the first test there is none. Both are false here: upper returns infinity, and the figure is NONE.
+-- Neither a start nor a final state. The report says below figure 4 that the two parts of the loop's test are never
+-- false together; its reason looks one turn back, and before the first test there is none. Both are false here: upper
+-- returns infinity, and the figure is NONE.
 abbrev bare : Graph
 bare = plan (0 ∷ []) []
 
@@ -137,8 +141,8 @@ both-false = ((_, ends refl, refl), λ s b. absurd (false≢true (unmarked s (st
     unmarked : (s : ℕ) → s < 1 → start bare s ≡ true → false ≡ true
     unmarked s h b = let z : s ≡ 0 = omega arith in rw z at b
 
--- A start with no transition and no final state: every state is unfinished, so upper finds R' the same as R at once and returns infinity, and the
--- figure is STRANDED.
+-- A start with no transition and no final state: every state is unfinished, so upper finds R' the same as R at once and
+-- returns infinity, and the figure is STRANDED.
 abbrev alone : Graph
 alone = plan (4 ∷ []) []
 
@@ -146,12 +150,16 @@ pub no-final : Returns (upper alone) ∞ × IsGreatest alone (greatestDelayCost 
 unfolding any empty same N T T⁻¹ marksOf start final from to transition
 no-final = (
   (_, ends refl, refl),
-  ((λ none. none 0 refl), (λ e. not-suc-le-zero (e .departs 0 .listed)), (0, [], (refl, record { unfinished = refl; shut = λ t d. not-suc-le-zero (d .listed) }))),
+  ((λ none. none 0 refl), (λ e. not-suc-le-zero (e .departs 0 .listed)), (0, [], (refl, end))),
 )
+  where
+    end : DeadEnd alone 0
+    end = record { unfinished = refl; none-departs = λ t d. not-suc-le-zero (d .listed) }
 
 -- ---- figure 5 as its lines stand in
 
--- With "R' = .." and the lines below it under "if Reached_final ≠ ∅ then", a turn that reaches no final state leaves all variables as they are.
+-- With "R' = .." and the lines below it under "if Reached_final ≠ ∅ then", a turn that reaches no final state leaves
+-- all variables as they are.
 abbrev pub indented : Graph → States → Procedure Vars Bound
 indented g c = record {
   begin = mincount g c .begin;
@@ -162,11 +170,14 @@ indented g c = record {
 }
 
 -- So on P1, whose start is not final, it never returns.
-pub never-returns : (b : Bound) → Returns (indented (P1 .plan) (counted (P1 .plan))) b → ⊥
+abbrev on-P1 : Procedure Vars Bound
+on-P1 = indented (P1 .plan) (counted (P1 .plan))
+
+pub never-returns : (b : Bound) → Returns on-P1 b → ⊥
 unfolding any N marksOf start final counted from to transition those
 never-returns b (e, r, h) = stays r refl
   where
-    stays : {s e : Vars} → Loop (indented (P1 .plan) (counted (P1 .plan)) .first) (indented (P1 .plan) (counted (P1 .plan)) .stop) (indented (P1 .plan) (counted (P1 .plan)) .rest) s e
-        → s ≡ indented (P1 .plan) (counted (P1 .plan)) .begin → ⊥
-    stays (ends {s} h) q = true≢false (sym h ∙ ap (λ s. indented (P1 .plan) (counted (P1 .plan)) .stop (indented (P1 .plan) (counted (P1 .plan)) .first s)) q)
-    stays (turns {s} h r) q = stays r (ap (λ s. indented (P1 .plan) (counted (P1 .plan)) .rest (indented (P1 .plan) (counted (P1 .plan)) .first s)) q)
+    stays : {s e : Vars} → Loop (on-P1 .first) (on-P1 .stop) (on-P1 .rest) s e
+        → s ≡ on-P1 .begin → ⊥
+    stays (ends {s} h) q = true≢false (sym h ∙ ap (λ s. on-P1 .stop (on-P1 .first s)) q)
+    stays (turns {s} h r) q = stays r (ap (λ s. on-P1 .rest (on-P1 .first s)) q)

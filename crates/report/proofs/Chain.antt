@@ -1,9 +1,9 @@
 -- Procedures lower and upper return on every plan.
 --
--- In both the loop goes from R and R' to R' and F(R'), where F(R') is T(R') ∪ R' or T⁻¹(R') ∩ not_final, and it goes on only while R' differs
--- from R. F keeps the order of sets, so the sets go one way: in lower each lies within the next, in upper the next within each. So when R' differs
--- from R it has more states than R, or fewer; and a plan has n states, so that happens n times at most (`chain-returns`).
--- Nothing is asked of the plan. Assumes nothing.
+-- In both the loop goes from R and R' to R' and F(R'), where F(R') is T(R') ∪ R' or T⁻¹(R') ∩ not_final, and it goes on
+-- only while R' differs from R. F keeps the order of sets, so the sets go one way: in lower each lies within the next,
+-- in upper the next within each. So when R' differs from R it has more states than R, or fewer; and a plan has n
+-- states, so that happens n times at most (`chain-returns`). Nothing is asked of the plan. Assumes nothing.
 use Prim.Native.Nat.{ℕ, zero, suc, _+_, _-_, _≤_, _<_}
 use mathlib.Core.Path.{_≡_, refl, _∙_}
 use mathlib.Core.Bool.{Bool, true, false, not, _&&_, _||_, and-eq-true-iff}
@@ -24,7 +24,8 @@ module _ (g : Graph) (F : States → States) (more : Vars → Bool) (Down : Stat
     (falls : (A B : States) → Down A B → same g B A ≡ false → left B < left A) where
   -- the loop of both figures
   abbrev chain : Vars → (Vars → Bound) → Procedure Vars Bound
-  chain begin answer = while begin (λ v. not (same g (v .R′) (v .R)) && more v) (λ v. record { i = v .i + 1; R = v .R′; R′ = F (v .R′) }) answer
+  chain begin answer =
+      while begin (λ v. not (same g (v .R′) (v .R)) && more v) (λ v. record { i = v .i + 1; R = v .R′; R′ = F (v .R′) }) answer
 
   record Falling (k : ℕ) (v : Vars) : Type 0 where
     now : Down (v .R) (v .R′)
@@ -36,7 +37,8 @@ module _ (g : Graph) (F : States → States) (more : Vars → Bool) (Down : Stat
       let (moved, m) = goes-on (not (same g (v .R′) (v .R))) (more v) h in
       omega (arith, f .enough, falls (v .R) (v .R′) (f .now) (not-true (same g (v .R′) (v .R)) moved))
 
-  chain-returns : (v : Vars) (answer : Vars → Bound) → Down (v .R) (v .R′) → Down (v .R′) (F (v .R′)) → (b : Bound) × Returns (chain v answer) b
+  chain-returns : (v : Vars) (answer : Vars → Bound) → Down (v .R) (v .R′) → Down (v .R′) (F (v .R′))
+      → (b : Bound) × Returns (chain v answer) b
   chain-returns v answer a b =
       returns-some (chain v answer) Falling
       (λ k v f h. record { now = f .after; after = keeps (v .R′) (F (v .R′)) (f .after); enough = omega (arith, fewer (suc k) v f h) })
@@ -79,7 +81,8 @@ module _ (g : Graph) where
   pub upper-returns : (b : Bound) × Returns (upper g) b
   unfolding predecessors
   upper-returns =
-      chain-returns g predecessors (λ v. not (empty g (v .R′ ∩ start g))) (λ A B. Within (states g) B A) (λ A. size A (states g)) predecessors-keep
+      chain-returns g predecessors (λ v. not (empty g (v .R′ ∩ start g)))
+      (λ A B. Within (states g) B A) (λ A. size A (states g)) predecessors-keep
       (λ A B w h. smaller g B A w (same-comm g A B ∙ h))
       (upper g .begin) (upper g .answer)
       (λ s l h. refl)

@@ -1,14 +1,16 @@
--- Procedures mincount and maxcount return the least and the greatest count, wherever upper is finite: one argument for both.
+-- Procedures mincount and maxcount return the least and the greatest count, wherever upper is finite: one argument for
+-- both.
 --
--- The report's two invariants, said of routes (`Counted`). A route is met at a pair ⟨s, k⟩ of R if it goes on from s, and its count is k with what is
--- still to come after s (`Met`). Before each turn:
+-- The report's two invariants, said of routes (`Counted`). A route is met at a pair ⟨s, k⟩ of R if it goes on from s,
+-- and its count is k with what is still to come after s (`Met`). Before each turn:
 -- * every route is met at a pair of R, or its count is covered by what is current (`complete`);
 -- * a route from the state of a pair of R is the end of a route from a start that is met there (`sound`);
 -- * what is current, if it is a number, is what some route counts (`attained`).
--- A route met at a final state ends there, and its count is the pair's number, which the turn covers. One met at an unfinished state goes on by a
--- transition, to a pair of T(R'). At the end R' is empty, so every route is covered; and upper is finite, so there is a route, and what is current is a number.
--- The loop ends, since after j turns the state of a pair of R is j transitions from a start, through unfinished states, and upper's number says how
--- many those can be (`Far`). Assumes nothing.
+-- A route met at a final state ends there, and its count is the pair's number, which the turn covers. One met at an
+-- unfinished state goes on by a transition, to a pair of T(R'). At the end R' is empty, so every route is covered; and
+-- upper is finite, so there is a route, and what is current is a number. The loop ends, since after j turns the state
+-- of a pair of R is j transitions from a start, through unfinished states, and upper's number says how many those can
+-- be (`Far`). Assumes nothing.
 use Prim.Native.Nat.{ℕ, suc, _+_, _<_}
 use mathlib.Core.Path.{_≡_, refl, sym, _∙_, ap}
 use mathlib.Core.Bool.{true, false, not, true≢false}
@@ -29,11 +31,12 @@ use Rattle.graph.proofs.Extreme.{AtMost, AtLeast, picks-min, picks-max}
 use Rattle.report.specs.Procedure.{Returns}
 use Rattle.report.specs.Sets.{States, not-final}
 use Rattle.report.specs.Bounds.{Bound, finite, ∞, upper}
-use Rattle.report.specs.Counts.{Pairs, at, Tₐ, Side, minimal, maximal, numbers, Vars, counting, mincount, maxcount}
+use Rattle.report.specs.Counts.{Pairs, at, Tₐ, Side, minimal, maximal, numbers, Vars, counting, mincount}
+use Rattle.report.specs.Counts.{maxcount}
 use Rattle.report.specs.Agreement.{TotalPlan}
 use Rattle.report.proofs.Loop.{returns-holds, returns-some}
 use Rattle.report.proofs.Sets.{N-of, in-N}
-use Rattle.report.proofs.Upper.{Through, shorter, upper-says, largest-greatest}
+use Rattle.report.proofs.Upper.{Through, shorter, Longest, upper-says, largest-greatest}
 use Rattle.report.proofs.Pairs.{of-at, in-at, of-first, in-first, of-Tₐ, in-Tₐ, Follows}
 use Rattle.report.proofs.Current.{Sided, Covers, When, covers-new, covers-old, remains}
 
@@ -42,14 +45,16 @@ module _ (g : Graph) (c : States) where
   abbrev counted-on : ℕ → List ℕ → ℕ
   counted-on s ts = total g (counts g c) s ts
 
-  -- the route from s₀ by ts₀ is met at the pair u, with ts still to come. The state of u is counted in both numbers on the right.
+  -- the route from s₀ by ts₀ is met at the pair u, with ts still to come. The state of u is counted in both numbers on
+  -- the right.
   record Met (s₀ : ℕ) (ts₀ : List ℕ) (u : ℕ × ℕ) (ts : List ℕ) : Type 0 where
     begun : Route g s₀ ts₀
     onward : RouteFrom g (u .0) ts
     split : counted-on s₀ ts₀ + one (c (u .0)) ≡ u .1 + counted-on (u .0) ts
 
   -- a transition further, at a pair that N_a allows
-  further : (s₀ : ℕ) (ts₀ : List ℕ) (u u′ : ℕ × ℕ) (t : ℕ) (ts : List ℕ) → to g t ≡ u′ .0 → Follows g c u u′ → Met s₀ ts₀ u (t ∷ ts) → Met s₀ ts₀ u′ ts
+  further : (s₀ : ℕ) (ts₀ : List ℕ) (u u′ : ℕ × ℕ) (t : ℕ) (ts : List ℕ) → to g t ≡ u′ .0 → Follows g c u u′
+      → Met s₀ ts₀ u (t ∷ ts) → Met s₀ ts₀ u′ ts
   further s₀ ts₀ u u′ t ts e f m = record {
     begun = m .begun;
     onward = rw e at (m .onward .2);
@@ -66,7 +71,8 @@ module _ (g : Graph) (c : States) where
 
   module _ (z : Side) (before : ℕ → ℕ → Type 0) (Z : Sided z before) where
     record Counted (v : Vars) : Type 0 where
-      sound : (u : ℕ × ℕ) → u ∈ v .R → (ts : List ℕ) → RouteFrom g (u .0) ts → (s₀ : ℕ) × (ts₀ : List ℕ) × Met s₀ ts₀ u ts
+      sound : (u : ℕ × ℕ) → u ∈ v .R → (ts : List ℕ) → RouteFrom g (u .0) ts
+          → (s₀ : ℕ) × (ts₀ : List ℕ) × Met s₀ ts₀ u ts
       complete : (s₀ : ℕ) (ts₀ : List ℕ) → Route g s₀ ts₀
           → Covers before (v .current) (counted-on s₀ ts₀) ⊎ ((u : ℕ × ℕ) × (u ∈ v .R) × (ts : List ℕ) × Met s₀ ts₀ u ts)
       attained : When (Attained g (counts g c)) (v .current)
@@ -74,7 +80,9 @@ module _ (g : Graph) (c : States) where
     at-first : Counted (counting z g c .begin)
     at-first = record {
       sound = λ u m ts w. let (l, b, k) = of-first g c m in (u .0, ts, record { begun = (b, w); onward = w; split = omega arith });
-      complete = λ s ts r. inr ((s, one (c s)), in-first g c s (start-below g s (r .0)) (r .0), ts, record { begun = r; onward = r .1; split = omega arith });
+      complete = λ s ts r.
+          let m = in-first g c s (start-below g s (r .0)) (r .0) in
+          inr ((s, one (c s)), m, ts, record { begun = r; onward = r .1; split = omega arith });
       attained = tt;
     }
 
@@ -103,13 +111,15 @@ module _ (g : Graph) (c : States) where
               → Covers before (now .current) (counted-on s₀ ts₀) ⊎ Onward s₀ ts₀ (now .R′)
           go (inl o) = inl (covers-old z before Z (v .current) (numbers (at (final g) (v .R))) (counted-on s₀ ts₀) o)
           go (inr (u, m, [], met)) =
-              let reached : u .1 ∈ numbers (at (final g) (v .R)) = Memᴰ·map (λ (u : ℕ × ℕ). u .1) (in-at (final g) (v .R) m (met .onward)) in
+              let n = in-at (final g) (v .R) m (met .onward) in
+              let reached : u .1 ∈ numbers (at (final g) (v .R)) = Memᴰ·map (λ (u : ℕ × ℕ). u .1) n in
               inl (rw (arrived s₀ ts₀ u met) (covers-new z before Z (v .current) (numbers (at (final g) (v .R))) (u .1) reached))
           go (inr (u, m, t ∷ ts, met)) = inr (u, in-at (not-final g) (v .R) m (ap not (met .onward .0)), t, ts, met)
 
     -- a pair of T(R') comes from a pair of R' by a transition out of its unfinished state
     back : (v : Vars) {u′ : ℕ × ℕ} → u′ ∈ Tₐ g c (at (not-final g) (v .R))
-        → (u : ℕ × ℕ) × (u ∈ v .R) × Unfinished g (u .0) × (t : ℕ) × Departs g (u .0) t × (to g t ≡ u′ .0) × Follows g c u u′ × (u′ .0 < states g)
+        → (u : ℕ × ℕ) × (u ∈ v .R) × Unfinished g (u .0) × (t : ℕ) × Departs g (u .0) t × (to g t ≡ u′ .0)
+        × Follows g c u u′ × (u′ .0 < states g)
     back v {u′} m =
         let (u, n, l, f) = of-Tₐ g c (at (not-final g) (v .R)) m in
         let (y, o) = of-at (not-final g) (v .R) n in
@@ -117,17 +127,24 @@ module _ (g : Graph) (c : States) where
         (u, o, not-true (final g (u .0)) y, t, d, a, f, l)
 
     module _ (q : TotalPlan g) where
-      keep : (v : Vars) → Counted v → counting z g c .stop (counting z g c .first v) ≡ false → Counted (counting z g c .rest (counting z g c .first v))
+      keep : (v : Vars) → Counted v → counting z g c .stop (counting z g c .first v) ≡ false
+          → Counted (counting z g c .rest (counting z g c .first v))
       unfolding now
-      keep v b h = record { sound = sound-next; complete = λ s₀ ts₀ r. complete-next s₀ ts₀ (complete-now v b s₀ ts₀ r); attained = attained-now v b }
+      keep v b h = record {
+        sound = sound-next;
+        complete = λ s₀ ts₀ r. complete-next s₀ ts₀ (complete-now v b s₀ ts₀ r);
+        attained = attained-now v b;
+      }
         where
-          sound-next : (u′ : ℕ × ℕ) → u′ ∈ Tₐ g c (at (not-final g) (v .R)) → (ts : List ℕ) → RouteFrom g (u′ .0) ts → (s₀ : ℕ) × (ts₀ : List ℕ) × Met s₀ ts₀ u′ ts
+          sound-next : (u′ : ℕ × ℕ) → u′ ∈ Tₐ g c (at (not-final g) (v .R)) → (ts : List ℕ) → RouteFrom g (u′ .0) ts
+              → (s₀ : ℕ) × (ts₀ : List ℕ) × Met s₀ ts₀ u′ ts
           sound-next u′ m ts w =
               let (u, n, f, t, d, a, k, l) = back v m in
               let (s₀, ts₀, met) = b .sound u n (t ∷ ts) (f, d, rw a w) in
               (s₀, ts₀, further s₀ ts₀ u u′ t ts a k met)
 
-          complete-next : (s₀ : ℕ) (ts₀ : List ℕ) → Covers before (now v b .current) (counted-on s₀ ts₀) ⊎ Onward s₀ ts₀ (now v b .R′)
+          complete-next : (s₀ : ℕ) (ts₀ : List ℕ)
+              → Covers before (now v b .current) (counted-on s₀ ts₀) ⊎ Onward s₀ ts₀ (now v b .R′)
               → Covers before (now v b .current) (counted-on s₀ ts₀) ⊎ ((u : ℕ × ℕ) × (u ∈ Tₐ g c (at (not-final g) (v .R))) × (ts : List ℕ) × Met s₀ ts₀ u ts)
           complete-next s₀ ts₀ (inl o) = inl o
           complete-next s₀ ts₀ (inr (u, m, t, ts, met)) =
@@ -141,17 +158,21 @@ module _ (g : Graph) (c : States) where
         all : (s₀ : ℕ) (ts₀ : List ℕ) → Route g s₀ ts₀ → Covers before b (counted-on s₀ ts₀)
         attained : When (Attained g (counts g c)) b
 
-      end : (v : Vars) → Counted v → counting z g c .stop (counting z g c .first v) ≡ true → Answered (counting z g c .first v .current)
+      end : (v : Vars) → Counted v → counting z g c .stop (counting z g c .first v) ≡ true
+          → Answered (counting z g c .first v .current)
       unfolding now
       end v b h = record { all = λ s₀ ts₀ r. go s₀ ts₀ (complete-now v b s₀ ts₀ r); attained = attained-now v b }
         where
-          go : (s₀ : ℕ) (ts₀ : List ℕ) → Covers before (now v b .current) (counted-on s₀ ts₀) ⊎ Onward s₀ ts₀ (now v b .R′)
+          go : (s₀ : ℕ) (ts₀ : List ℕ)
+              → Covers before (now v b .current) (counted-on s₀ ts₀) ⊎ Onward s₀ ts₀ (now v b .R′)
               → Covers before (now v b .current) (counted-on s₀ ts₀)
           go s₀ ts₀ (inl o) = o
-          go s₀ ts₀ (inr (u, m, t, ts, met)) = absurd (true≢false (sym (in-nonempty (at (not-final g) (v .R)) m) ∙ not-true (nonempty (at (not-final g) (v .R))) h))
+          go s₀ ts₀ (inr (u, m, t, ts, met)) =
+              absurd (true≢false (sym (in-nonempty (at (not-final g) (v .R)) m) ∙ not-true (nonempty (at (not-final g) (v .R))) h))
 
       -- a number that covers every route, where there is one
-      extreme : (b : Bound) → Answered b → (s : ℕ) (ts : List ℕ) → Route g s ts → (k : ℕ) × (b ≡ finite k) × Extreme before g (counts g c) k
+      extreme : (b : Bound) → Answered b → (s : ℕ) (ts : List ℕ) → Route g s ts
+          → (k : ℕ) × (b ≡ finite k) × Extreme before g (counts g c) k
       extreme (finite k) a s ts r = (k, refl, record { attained = a .attained; bound = a .all })
       extreme ∞ a s ts r = absurd (a .all s ts r)
 
@@ -205,7 +226,8 @@ module _ (g : Graph) (c : States) where
             i (0, omega arith, far-first)
 
         -- so where there is a route it returns what it is to return
-        returns : (s : ℕ) (ts : List ℕ) → Route g s ts → (k : ℕ) × Returns (counting z g c) (finite k) × Extreme before g (counts g c) k
+        returns : (s : ℕ) (ts : List ℕ) → Route g s ts
+            → (k : ℕ) × Returns (counting z g c) (finite k) × Extreme before g (counts g c) k
         returns s ts r =
             let (b, run) = some-run in
             let (k, e, x) = extreme b (returns-holds (counting z g c) Counted Answered keep end at-first b run) s ts r in
@@ -214,21 +236,31 @@ module _ (g : Graph) (c : States) where
 -- ---- the two figures
 
 sided-min : Sided minimal AtMost
-sided-min = record { picks = picks-min; better-before = λ m k h. omega (arith, ltb-true m k h); else-after = λ m k h. omega (arith, ltb-false m k h) }
+sided-min = record {
+  picks = picks-min;
+  better-before = λ m k h. omega (arith, ltb-true m k h);
+  else-after = λ m k h. omega (arith, ltb-false m k h);
+}
 
 sided-max : Sided maximal AtLeast
-sided-max = record { picks = picks-max; better-before = λ m k h. omega (arith, ltb-true k m h); else-after = λ m k h. omega (arith, ltb-false k m h) }
+sided-max = record {
+  picks = picks-max;
+  better-before = λ m k h. omega (arith, ltb-true k m h);
+  else-after = λ m k h. omega (arith, ltb-false k m h);
+}
 
 module _ (g : Graph) (q : TotalPlan g) (i : ℕ) (u : Returns (upper g) (finite i)) (c : States) where
+  longest : Longest g i
+  longest = upper-says g q (finite i) u
+
+  counted-by : (z : Side) (before : ℕ → ℕ → Type 0) → Sided z before
+      → (k : ℕ) × Returns (counting z g c) (finite k) × Extreme before g (counts g c) k
+  counted-by z before Z = let (s, ts, r, h) = longest .attained in returns g c z before Z q i (longest .ends) s ts r
+
   pub mincount-returns : (k : ℕ) × Returns (mincount g c) (finite k) × IsLeast g (counts g c) (number k)
-  mincount-returns =
-      let x = upper-says g q (finite i) u in
-      let (s, ts, r, h) = x .attained in
-      returns g c minimal AtMost sided-min q i (x .ends) s ts r
+  mincount-returns = counted-by minimal AtMost sided-min
 
   pub maxcount-returns : (k : ℕ) × Returns (maxcount g c) (finite k) × IsGreatest g (counts g c) (number k)
   maxcount-returns =
-      let x = upper-says g q (finite i) u in
-      let (s, ts, r, h) = x .attained in
-      let (k, run, y) = returns g c maximal AtLeast sided-max q i (x .ends) s ts r in
-      (k, run, largest-greatest g q i x (counts g c) k y)
+      let (k, run, y) = counted-by maximal AtLeast sided-max in
+      (k, run, largest-greatest g q i longest (counts g c) k y)

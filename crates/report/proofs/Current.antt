@@ -1,9 +1,9 @@
 -- What a turn of figures 5 and 6 makes of what is current.
 --
--- The number picked out of a list is in the list and before all of it, for min with ≤ and for max with ≥ (`fold-in`, `fold-before` of graph;
--- `Sided`). It replaces what is current where it is better, and otherwise what is current is before it. So after a turn what is current is
--- before all that it was before, and before all the numbers reached (`covers-old`, `covers-new`), and it is one of them or what it was
--- (`remains`). Assumes nothing.
+-- The number picked out of a list is in the list and before all of it, for min with ≤ and for max with ≥ (`fold-in`,
+-- `fold-before` of graph; `Sided`). It replaces what is current where it is better, and otherwise what is current is
+-- before it. So after a turn what is current is before all that it was before, and before all the numbers reached
+-- (`covers-old`, `covers-new`), and it is one of them or what it was (`remains`). Assumes nothing.
 use Prim.Native.Nat.{ℕ}
 use mathlib.Core.Path.{_≡_}
 use mathlib.Core.Bool.{Bool, true, false, cond}
@@ -33,7 +33,8 @@ When P (finite m) = P m
 When P ∞ = Unit {0}
 
 module _ (z : Side) (before : ℕ → ℕ → Type 0) (Z : Sided z before) where
-  -- what "if m < current_min then current_min = m" leaves is before m and before all that was covered, and it is m or what was there (`one-of`)
+  -- what "if m < current_min then current_min = m" leaves is before m and before all that was covered, and it is m or
+  -- what was there (`one-of`)
   record Replaced (b : Bound) (m : ℕ) (b′ : Bound) : Type 0 where
     new : Covers before b′ m
     old : (x : ℕ) → Covers before b x → Covers before b′ x
@@ -42,7 +43,8 @@ module _ (z : Side) (before : ℕ → ℕ → Type 0) (Z : Sided z before) where
   replaced ∞ m = record { new = Z .picks .self m; old = λ x o. absurd o }
   replaced (finite l) m = go (decided (z .better m l))
     where
-      go : (z .better m l ≡ true) ⊎ (z .better m l ≡ false) → Replaced (finite l) m (cond (z .better m l) (finite m) (finite l))
+      go : (z .better m l ≡ true) ⊎ (z .better m l ≡ false)
+          → Replaced (finite l) m (cond (z .better m l) (finite m) (finite l))
       go (inl h) = rw h (record { new = Z .picks .self m; old = λ x o. Z .picks .trans m l x (Z .better-before m l h) o })
       go (inr h) = rw h (record { new = Z .else-after m l h; old = λ x o. o })
 
@@ -70,7 +72,8 @@ module _ (z : Side) (before : ℕ → ℕ → Type 0) (Z : Sided z before) where
   covers-old b [] x o = o
   covers-old b (k ∷ ks) x o = replaced b (fold (z .pick) k ks) .old x o
 
-  pub remains : (P : ℕ → Type 0) (b : Bound) (ks : List ℕ) → ((k : ℕ) → k ∈ ks → P k) → When P b → When P (updated z ks b)
+  pub remains : (P : ℕ → Type 0) (b : Bound) (ks : List ℕ) → ((k : ℕ) → k ∈ ks → P k) → When P b
+      → When P (updated z ks b)
   unfolding updated
   remains P b [] p o = o
   remains P b (x ∷ xs) p o = let m = fold (z .pick) x xs in one-of P b m (p m (fold-in (z .pick) before (Z .picks) x xs)) o

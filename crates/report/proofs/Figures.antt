@@ -1,58 +1,63 @@
 -- The report's procedures agree with the figures, on the plans that demand 2 names; the counts whatever the durations.
 --
--- A procedure returns one value, and a plan has one figure of each name. So if a procedure returns and what it returns is the figure, then it returns
--- whatever is the figure (`exactly`). The rest is what Chain, Lower, Upper and Counts show. Assumes nothing.
+-- A procedure returns one value, and a plan has one figure of each name. So if a procedure returns and what it returns
+-- is the figure, then it returns whatever is the figure (`exactly`). The rest is what Chain, Lower, Upper and Counts
+-- show. Assumes nothing.
 use Prim.Native.Nat.{ℕ}
-use mathlib.Core.Path.{_≡_, refl}
+use mathlib.Core.Path.{_≡_, refl, sym}
 use mathlib.Core.Logic.{_↔_}
+use native.Mathlib.Omega.{arith}
 use Rattle.graph.specs.Graph.{Graph, counted}
 use Rattle.graph.specs.Route.{Cost, counts}
-use Rattle.graph.specs.Figure.{Figure, number, IsLeast, IsGreatest, leastDelayCost, greatestDelayCost, countCost}
+use Rattle.graph.specs.Figure.{Figure, number, NONE, ENDLESS, IsLeast, IsGreatest, leastDelayCost, greatestDelayCost, countCost}
 use Rattle.graph.proofs.Least.{least-unique}
 use Rattle.graph.proofs.Greatest.{greatest-unique}
 use Rattle.report.specs.Procedure.{Procedure, Returns}
 use Rattle.report.specs.Bounds.{Bound, finite, ∞, lower, upper}
 use Rattle.report.specs.Counts.{mincount, maxcount}
-use Rattle.report.specs.Agreement.{TotalPlan, ReportPlan, leastFigure, greatestFigure, CountAgreement, Agreement}
+use Rattle.report.specs.Agreement.{TotalPlan, ReportPlan, figure, leastFigure, greatestFigure, CountAgreement, Agreement}
 use Rattle.report.proofs.Loop.{returns-once}
 use Rattle.report.proofs.Chain.{lower-returns, upper-returns}
 use Rattle.report.proofs.Lower.{lower-says}
 use Rattle.report.proofs.Upper.{upper-greatest}
 use Rattle.report.proofs.Counts.{mincount-returns, maxcount-returns}
 
--- no two values are the same figure
-least-apart : (a b : Bound) → leastFigure a ≡ leastFigure b → a ≡ b
-least-apart (finite k) (finite l) e = cc
-least-apart (finite k) ∞ e = cc
-least-apart ∞ (finite l) e = cc
-least-apart ∞ ∞ e = refl
+-- no two values are the same figure, where infinity is no number
+apart : (f : Figure) → ((k : ℕ) → f ≡ number k → ⊥) → (a b : Bound) → figure f a ≡ figure f b → a ≡ b
+apart f no-number (finite k) (finite l) e = cc
+apart f no-number (finite k) ∞ e = absurd (no-number k (sym e))
+apart f no-number ∞ (finite l) e = absurd (no-number l e)
+apart f no-number ∞ ∞ e = refl
 
-greatest-apart : (a b : Bound) → greatestFigure a ≡ greatestFigure b → a ≡ b
-greatest-apart (finite k) (finite l) e = cc
-greatest-apart (finite k) ∞ e = cc
-greatest-apart ∞ (finite l) e = cc
-greatest-apart ∞ ∞ e = refl
-
-exactly : {S : Type 0} (q : Procedure S Bound) (figure : Bound → Figure) (Is : Figure → Type 0)
-    → ((a b : Bound) → figure a ≡ figure b → a ≡ b) → ((f h : Figure) → Is f → Is h → f ≡ h)
-    → (a : Bound) → Returns q a → Is (figure a) → (b : Bound) → Returns q b ↔ Is (figure b)
-exactly q figure Is apart unique a r i b = (λ r′. rw (returns-once q r r′) at i, λ i′. rw (apart a b (unique (figure a) (figure b) i i′)) at r)
+exactly : {S : Type 0} (q : Procedure S Bound) (f : Figure) (Is : Figure → Type 0)
+    → ((k : ℕ) → f ≡ number k → ⊥) → ((h h′ : Figure) → Is h → Is h′ → h ≡ h′)
+    → (a : Bound) → Returns q a → Is (figure f a) → (b : Bound) → Returns q b ↔ Is (figure f b)
+exactly q f Is no-number unique a r i b = (
+  λ r′. rw (returns-once q r r′) at i,
+  λ i′. rw (apart f no-number a b (unique (figure f a) (figure f b) i i′)) at r,
+)
 
 -- at the least and the greatest of a cost
-exactly-least : {S : Type 0} (q : Procedure S Bound) (g : Graph) (c : Cost) (a : Bound) → Returns q a → IsLeast g c (leastFigure a)
-    → (b : Bound) → Returns q b ↔ IsLeast g c (leastFigure b)
-exactly-least q g c = exactly q leastFigure (IsLeast g c) least-apart (least-unique g c)
+exactly-least : {S : Type 0} (q : Procedure S Bound) (g : Graph) (c : Cost) (a : Bound)
+    → Returns q a → IsLeast g c (leastFigure a) → (b : Bound) → Returns q b ↔ IsLeast g c (leastFigure b)
+exactly-least q g c =
+    exactly q NONE (IsLeast g c) (λ k e. let z : _≡_ {A = ℕ} 0 1 = cc in omega arith) (least-unique g c)
 
-exactly-greatest : {S : Type 0} (q : Procedure S Bound) (g : Graph) (c : Cost) (a : Bound) → Returns q a → IsGreatest g c (greatestFigure a)
-    → (b : Bound) → Returns q b ↔ IsGreatest g c (greatestFigure b)
-exactly-greatest q g c = exactly q greatestFigure (IsGreatest g c) greatest-apart (greatest-unique g c)
+exactly-greatest : {S : Type 0} (q : Procedure S Bound) (g : Graph) (c : Cost) (a : Bound)
+    → Returns q a → IsGreatest g c (greatestFigure a) → (b : Bound) → Returns q b ↔ IsGreatest g c (greatestFigure b)
+exactly-greatest q g c =
+    exactly q ENDLESS (IsGreatest g c) (λ k e. let z : _≡_ {A = ℕ} 0 1 = cc in omega arith) (greatest-unique g c)
 
 pub count-agreement : (g : Graph) → TotalPlan g → CountAgreement g
 count-agreement g q = record {
   mincount-returns = λ i u c. let (k, r, h) = mincount-returns g q i u c in (k, r);
   maxcount-returns = λ i u c. let (k, r, h) = maxcount-returns g q i u c in (k, r);
-  mincount-least = λ i u c k. let (l, r, h) = mincount-returns g q i u c in exactly-least (mincount g c) g (counts g c) (finite l) r h (finite k);
-  maxcount-greatest = λ i u c k. let (l, r, h) = maxcount-returns g q i u c in exactly-greatest (maxcount g c) g (counts g c) (finite l) r h (finite k);
+  mincount-least = λ i u c k.
+      let (l, r, h) = mincount-returns g q i u c in
+      exactly-least (mincount g c) g (counts g c) (finite l) r h (finite k);
+  maxcount-greatest = λ i u c k.
+      let (l, r, h) = maxcount-returns g q i u c in
+      exactly-greatest (maxcount g c) g (counts g c) (finite l) r h (finite k);
 }
 
 pub agreement : (g : Graph) → ReportPlan g → Agreement g

@@ -1,9 +1,10 @@
 -- Runs of a procedure, whatever its variables are.
 --
--- What holds before each turn holds before the last one, so what is returned can be read off it (`returns-holds`): that is the report's "loop invariant".
--- If before each turn a number says how many turns may follow at most, and falls with each turn, then there is a run: by recursion on that number (`returns-some`).
--- A test says yes or no and not both, so there is one run, and a procedure returns one value (`returns-once`).
--- Last, what the test of a `while` says that has two parts. Assumes nothing.
+-- What holds before each turn holds before the last one, so what is returned can be read off it (`returns-holds`): that
+-- is the report's "loop invariant". If before each turn a number says how many turns may follow at most, and falls with
+-- each turn, then there is a run: by recursion on that number (`returns-some`). A test says yes or no and not both, so
+-- there is one run, and a procedure returns one value (`returns-once`). Last, what the test of a `while` says that has
+-- two parts. Assumes nothing.
 use Prim.Native.Nat.{ℕ, zero, suc}
 use mathlib.Core.Path.{_≡_, refl, sym, _∙_, ap}
 use mathlib.Core.Bool.{Bool, true, false, not, _&&_, true≢false, false≢true}
@@ -27,7 +28,8 @@ module _ {S A : Type 0} (q : Procedure S A) where
   module _ (Left : ℕ → S → Type 0)
       (fall : (k : ℕ) (s : S) → Left (suc k) s → q .stop (q .first s) ≡ false → Left k (q .rest (q .first s)))
       (last : (s : S) → Left zero s → q .stop (q .first s) ≡ false → ⊥) where
-    turn : (k : ℕ) (s : S) → (q .stop (q .first s) ≡ false → (e : S) × From (q .rest (q .first s)) e) → (e : S) × From s e
+    turn : (k : ℕ) (s : S) → (q .stop (q .first s) ≡ false → (e : S) × From (q .rest (q .first s)) e)
+        → (e : S) × From s e
     turn k s on = go (q .stop (q .first s)) refl
       where
         go : (b : Bool) → q .stop (q .first s) ≡ b → (e : S) × From s e

@@ -3,10 +3,11 @@
 -- Before each turn (`Reached`):
 -- * every route is at a state of R after i transitions (`complete`); so no route has fewer than i;
 -- * a route from a state of R is the end of a route from a start that has at most i transitions more (`sound`).
--- A turn is taken only where R has no final state. So every route goes on from its state of R by a transition, to a state of R'; and each state of R is
--- unfinished, so a walk may go on through it to a new state of R'.
--- At the end, if R has a final state, then that is a route of no transitions from there: some route has at most i, and none has fewer. So i is the
--- least. If R has none, then R' is R: a route never leaves R, but its last state is final. So there is no route. Assumes nothing.
+-- A turn is taken only where R has no final state. So every route goes on from its state of R by a transition, to a
+-- state of R'; and each state of R is unfinished, so a walk may go on through it to a new state of R'. At the end, if R
+-- has a final state, then that is a route of no transitions from there: some route has at most i, and none has fewer.
+-- So i is the least. If R has none, then R' is R: a route never leaves R, but its last state is final. So there is no
+-- route. Assumes nothing.
 use Prim.Native.Nat.{ℕ, _+_, _≤_, _<_}
 use mathlib.Core.Path.{_≡_, refl, sym, _∙_}
 use mathlib.Core.Bool.{true, false, not, _||_, true≢false, and-eq-true-iff}
@@ -30,7 +31,8 @@ use Rattle.report.proofs.Sets.{of-empty, of-not-empty, of-same, T-of, i
 
 module _ (g : Graph) where
   record Reached (v : Vars) : Type 0 where
-    sound : (s : ℕ) → v .R s ≡ true → (ts : List ℕ) → RouteFrom g s ts → (s₀ : ℕ) × (ts₀ : List ℕ) × Route g s₀ ts₀ × (length ts₀ ≤ v .i + length ts)
+    sound : (s : ℕ) → v .R s ≡ true → (ts : List ℕ) → RouteFrom g s ts
+        → (s₀ : ℕ) × (ts₀ : List ℕ) × Route g s₀ ts₀ × (length ts₀ ≤ v .i + length ts)
     complete : (s₀ : ℕ) (ts₀ : List ℕ) → Route g s₀ ts₀
         → (s : ℕ) × (ts : List ℕ) × (s < states g) × (v .R s ≡ true) × RouteFrom g s ts × (length ts₀ ≡ v .i + length ts)
     next : (s : ℕ) → v .R′ s ≡ (T g (v .R) s || v .R s)
@@ -57,10 +59,12 @@ module _ (g : Graph) (q : ReportPlan g) where
 
   -- a turn: R has no final state
   module _ (v : Vars) (b : Reached g v) (apart : empty g (v .R ∩ final g) ≡ true) where
-    sound-next : (s : ℕ) → v .R′ s ≡ true → (ts : List ℕ) → RouteFrom g s ts → (s₀ : ℕ) × (ts₀ : List ℕ) × Route g s₀ ts₀ × (length ts₀ ≤ v .i + 1 + length ts)
+    sound-next : (s : ℕ) → v .R′ s ≡ true → (ts : List ℕ) → RouteFrom g s ts
+        → (s₀ : ℕ) × (ts₀ : List ℕ) × Route g s₀ ts₀ × (length ts₀ ≤ v .i + 1 + length ts)
     sound-next s m ts w = go (or-cases (T g (v .R) s) (v .R s) (sym (b .next s) ∙ m))
       where
-        go : (T g (v .R) s ≡ true) ⊎ (v .R s ≡ true) → (s₀ : ℕ) × (ts₀ : List ℕ) × Route g s₀ ts₀ × (length ts₀ ≤ v .i + 1 + length ts)
+        go : (T g (v .R) s ≡ true) ⊎ (v .R s ≡ true)
+            → (s₀ : ℕ) × (ts₀ : List ℕ) × Route g s₀ ts₀ × (length ts₀ ≤ v .i + 1 + length ts)
         go (inl n) =
             let (s′, l, m′, t, d, e) = T-of g (v .R) s n in
             let (s₀, ts₀, r, h) = b .sound s′ m′ (t ∷ ts) (unfinished (v .R) apart s′ l m′, d, rw e w) in
@@ -117,7 +121,8 @@ module _ (g : Graph) (q : ReportPlan g) where
   end : (v : Vars) → Reached g v → lower g .stop v ≡ true → Says (lower g .answer v)
   end v b h = go (decided (empty g (v .R ∩ final g))) (ended (not (same g (v .R′) (v .R))) (empty g (v .R ∩ final g)) h)
     where
-      go : (empty g (v .R ∩ final g) ≡ true) ⊎ (empty g (v .R ∩ final g) ≡ false) → (not (same g (v .R′) (v .R)) ≡ false) ⊎ (empty g (v .R ∩ final g) ≡ false)
+      go : (empty g (v .R ∩ final g) ≡ true) ⊎ (empty g (v .R ∩ final g) ≡ false)
+          → (not (same g (v .R′) (v .R)) ≡ false) ⊎ (empty g (v .R ∩ final g) ≡ false)
           → Says (lower g .answer v)
       go (inr meets) e = rw meets (least v b meets)
       go (inl apart) (inl still) = rw apart (none v b apart (not-false (same g (v .R′) (v .R)) still))

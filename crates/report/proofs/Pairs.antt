@@ -1,13 +1,14 @@
 -- What is in the sets of pairs of specs/Counts.antt.
 --
--- The sets are listed, so each fact is by recursion on the list, or on the numbers below n that it is gathered over: which pairs R ∩ Final and
--- R ∩ Not_final keep; that the first pairs are the starts, each with its count; and that T's pairs are those that a transition leads to, each with the
--- count of its state added (`Follows`). Assumes nothing.
+-- The sets are listed, so each fact is by recursion on the list, or on the numbers below n that it is gathered over:
+-- which pairs R ∩ Final and R ∩ Not_final keep; that the first pairs are the starts, each with its count; and that T's
+-- pairs are those that a transition leads to, each with the count of its state added (`Follows`). Assumes nothing.
 use Prim.Native.Nat.{ℕ, _+_, _<_}
 use mathlib.Core.Path.{_≡_, refl, sym, _∙_, ap}
 use mathlib.Core.Bool.{Bool, true, false, not, _&&_, _||_, and-eq-true-iff}
 use mathlib.Core.Logic.{_⊎_, inl, inr}
-use mathlib.Core.List.{[], _∷_, _++_, List·Memᴰ·head, List·Memᴰ·tail, List·Memᴰ·not-nil, List·Memᴰ·cases-cons, List·Memᴰ·eq-of-singleton}
+use mathlib.Core.List.{[], _∷_, _++_, List·Memᴰ·head, List·Memᴰ·tail, List·Memᴰ·not-nil, List·Memᴰ·cases-cons}
+use mathlib.Core.List.{List·Memᴰ·eq-of-singleton}
 use mathlib.Core.List.{List·Memᴰ·append-cases, Memᴰ·append-left, Memᴰ·append-right, Memᴰ·cast}
 use native.Mathlib.Omega.{arith}
 use lib.Dec.{eqb}
@@ -28,7 +29,8 @@ unfolding those
 of-those p [] m = absurd (List·Memᴰ·not-nil m)
 of-those p (x ∷ xs) {u} m = go (of-those p xs) (List·Memᴰ·append-cases (given (p x) (x ∷ [])) m)
   where
-    go : (u ∈ those p xs → (p u ≡ true) × (u ∈ xs)) → (u ∈ given (p x) (x ∷ [])) ⊎ (u ∈ those p xs) → (p u ≡ true) × (u ∈ (x ∷ xs))
+    go : (u ∈ those p xs → (p u ≡ true) × (u ∈ xs)) → (u ∈ given (p x) (x ∷ [])) ⊎ (u ∈ those p xs)
+        → (p u ≡ true) × (u ∈ (x ∷ xs))
     go ih (inl l) = let (a, n) = of-given (p x) l in let e : u ≡ x = List·Memᴰ·eq-of-singleton n in (ap p e ∙ a, List·Memᴰ·head e)
     go ih (inr r) = let (a, n) = ih r in (a, List·Memᴰ·tail n)
 
@@ -49,7 +51,8 @@ in-at A U m a = in-those (λ u. A (u .0)) U m a
 
 -- ---- the first pairs: the starts, each with 1 if it is in cond and with 0 if not
 
-of-paired : (g : Graph) (A : States) (k : ℕ) {u : ℕ × ℕ} → u ∈ paired g A k → (u .0 < states g) × (A (u .0) ≡ true) × (u .1 ≡ k)
+of-paired : (g : Graph) (A : States) (k : ℕ) {u : ℕ × ℕ} → u ∈ paired g A k
+    → (u .0 < states g) × (A (u .0) ≡ true) × (u .1 ≡ k)
 of-paired g A k {u} m =
     let (s, l, n) = of-gather (λ (s : ℕ). given (A s) ((s, k) ∷ [])) (states g) m in
     let (a, o) = of-given (A s) n in
@@ -69,11 +72,16 @@ one-no e = ap one e
 abbrev first-pairs : Graph → States → Pairs
 first-pairs g c = paired g (start g ∩ c) 1 ++ paired g (start g ∩ (λ s. not (c s))) 0
 
-pub of-first : (g : Graph) (c : States) {u : ℕ × ℕ} → u ∈ first-pairs g c → (u .0 < states g) × Begins g (u .0) × (u .1 ≡ one (c (u .0)))
+pub of-first : (g : Graph) (c : States) {u : ℕ × ℕ} → u ∈ first-pairs g c
+    → (u .0 < states g) × Begins g (u .0) × (u .1 ≡ one (c (u .0)))
 of-first g c {u} m = go (List·Memᴰ·append-cases (paired g (start g ∩ c) 1) m)
   where
-    go : (u ∈ paired g (start g ∩ c) 1) ⊎ (u ∈ paired g (start g ∩ (λ s. not (c s))) 0) → (u .0 < states g) × Begins g (u .0) × (u .1 ≡ one (c (u .0)))
-    go (inl n) = let (l, a, k) = of-paired g (start g ∩ c) 1 n in let (b, y) = and-eq-true-iff (start g (u .0)) (c (u .0)) .0 a in (l, b, k ∙ sym (one-yes y))
+    go : (u ∈ paired g (start g ∩ c) 1) ⊎ (u ∈ paired g (start g ∩ (λ s. not (c s))) 0)
+        → (u .0 < states g) × Begins g (u .0) × (u .1 ≡ one (c (u .0)))
+    go (inl n) =
+        let (l, a, k) = of-paired g (start g ∩ c) 1 n in
+        let (b, y) = and-eq-true-iff (start g (u .0)) (c (u .0)) .0 a in
+        (l, b, k ∙ sym (one-yes y))
     go (inr n) =
         let (l, a, k) = of-paired g (start g ∩ (λ (s : ℕ). not (c s))) 0 n in
         let (b, y) = and-eq-true-iff (start g (u .0)) (not (c (u .0))) .0 a in
@@ -88,7 +96,8 @@ in-first g c s l b = go (decided (c s))
         (Memᴰ·cast (ap (λ (k : ℕ). (s, k)) (one-yes y)) (in-paired g (start g ∩ c) 1 s l (and-eq-true-iff (start g s) (c s) .1 (b, y))))
     go (inr y) =
         Memᴰ·append-right (paired g (start g ∩ c) 1)
-        (Memᴰ·cast (ap (λ (k : ℕ). (s, k)) (one-no y)) (in-paired g (start g ∩ (λ s. not (c s))) 0 s l (and-eq-true-iff (start g s) (not (c s)) .1 (b, ap not y))))
+        (Memᴰ·cast (ap (λ (k : ℕ). (s, k)) (one-no y))
+        (in-paired g (start g ∩ (λ s. not (c s))) 0 s l (and-eq-true-iff (start g s) (not (c s)) .1 (b, ap not y))))
 
 -- ---- the next pairs
 
@@ -112,7 +121,9 @@ module _ (g : Graph) (c : States) (u u′ : ℕ × ℕ) where
       record { joined = n; adds = go (or-cases counts-one counts-none k) }
     where
       go : (counts-one ≡ true) ⊎ (counts-none ≡ true) → u′ .1 ≡ u .1 + one (c (u′ .0))
-      go (inl a) = let (y, e) = and-eq-true-iff (c (u′ .0)) (eqb (u′ .1) (u .1 + 1)) .0 a in omega (arith, eqb-true (u′ .1) (u .1 + 1) e, one-yes y)
+      go (inl a) =
+          let (y, e) = and-eq-true-iff (c (u′ .0)) (eqb (u′ .1) (u .1 + 1)) .0 a in
+          omega (arith, eqb-true (u′ .1) (u .1 + 1) e, one-yes y)
       go (inr a) =
           let (y, e) = and-eq-true-iff (not (c (u′ .0))) (eqb (u′ .1) (u .1)) .0 a in
           omega (arith, eqb-true (u′ .1) (u .1) e, one-no (not-true (c (u′ .0)) y))
@@ -147,7 +158,8 @@ a-choice g c u u′ f = go (decided (c (u′ .0)))
     go (inl y) = let e : u′ .1 ≡ u .1 + 1 = omega (arith, f .adds, one-yes y) in List·Memᴰ·head (ap (λ (k : ℕ). (u′ .0, k)) e)
     go (inr y) = let e : u′ .1 ≡ u .1 = omega (arith, f .adds, one-no y) in List·Memᴰ·tail (List·Memᴰ·head (ap (λ (k : ℕ). (u′ .0, k)) e))
 
-pub of-Tₐ : (g : Graph) (c : States) (U : Pairs) {u′ : ℕ × ℕ} → u′ ∈ Tₐ g c U → (u : ℕ × ℕ) × (u ∈ U) × (u′ .0 < states g) × Follows g c u u′
+pub of-Tₐ : (g : Graph) (c : States) (U : Pairs) {u′ : ℕ × ℕ} → u′ ∈ Tₐ g c U
+    → (u : ℕ × ℕ) × (u ∈ U) × (u′ .0 < states g) × Follows g c u u′
 unfolding Tₐ
 of-Tₐ g c [] m = absurd (List·Memᴰ·not-nil m)
 of-Tₐ g c (x ∷ xs) {u′} m = go (of-Tₐ g c xs) (List·Memᴰ·append-cases (gather (λ s′. those (Nₐ g c x) (pair-choices x s′)) (states g)) m)
@@ -161,7 +173,8 @@ of-Tₐ g c (x ∷ xs) {u′} m = go (of-Tₐ g c xs) (List·Memᴰ·append-case
         (x, List·Memᴰ·head refl, rw (chosen-at x u′ s′ o) h, of-Nₐ g c x u′ a)
     go ih (inr r) = let (u, n, h, f) = ih r in (u, List·Memᴰ·tail n, h, f)
 
-pub in-Tₐ : (g : Graph) (c : States) (U : Pairs) {u : ℕ × ℕ} (u′ : ℕ × ℕ) → u ∈ U → u′ .0 < states g → Follows g c u u′ → u′ ∈ Tₐ g c U
+pub in-Tₐ : (g : Graph) (c : States) (U : Pairs) {u : ℕ × ℕ} (u′ : ℕ × ℕ) → u ∈ U → u′ .0 < states g → Follows g c u u′
+    → u′ ∈ Tₐ g c U
 unfolding Tₐ
 in-Tₐ g c [] u′ m h f = absurd (List·Memᴰ·not-nil m)
 in-Tₐ g c (x ∷ xs) {u} u′ m h f = go (in-Tₐ g c xs u′) (List·Memᴰ·cases-cons m)

@@ -1,14 +1,16 @@
 -- The premises of `ReportPlan` and `TotalPlan` can be met, and tested.
 --
--- Whether a plan is one that demand 2 names is a computed test: every transition leads to a state and lasts 1, some state is a start, and no
--- state is a dead end (`report-plan`). A plan of Basic passes it, so what lower and upper return there are its delays. The test without durations
--- is for the counts (`total-plan`): P1 passes that, so what mincount and maxcount return there are its counts. Assumes nothing.
+-- Whether a plan is one that demand 2 names is a computed test: every transition leads to a state and lasts 1, some
+-- state is a start, and no state is a dead end (`report-plan`). A plan of Basic passes it, so what lower and upper
+-- return there are its delays. The test without durations is for the counts (`total-plan`): P1 passes that, so what
+-- mincount and maxcount return there are its counts. Assumes nothing.
 use Prim.Native.Nat.{ℕ, _<_}
 use mathlib.Core.Path.{_≡_, refl}
 use mathlib.Core.Bool.{Bool, true, false, not, _&&_, and-eq-true-iff}
 use lib.Dec.{eqb}
 use borrow.Author.Tests.{eqb-true, not-true, not-false}
-use Rattle.graph.specs.Graph.{Graph, states, count, marksOf, start, final, transition, from, to, low, high, Departs, Unfinished}
+use Rattle.graph.specs.Graph.{Graph, states, count, marksOf, start, final, transition, from, to, low, high, Departs}
+use Rattle.graph.specs.Graph.{Unfinished}
 use Rattle.graph.specs.Figure.{number, IsLeast, IsGreatest, leastDelayCost, greatestDelayCost, countCost}
 use Rattle.graph.specs.Compute.{any, closed, leaving, deadEnd}
 use Rattle.graph.specs.Known.{P1}
@@ -57,7 +59,8 @@ pub of-report-plan : (g : Graph) → report-plan g ≡ true → ReportPlan g
 unfolding report-plan
 of-report-plan g h =
     let (a, b) = and-eq-true-iff (total-plan g) (not (any (longer g) (count g))) .0 h in
-    let one : (t : ℕ) → t < count g → (low g t ≡ 1) × (high g t ≡ 1) = λ t l. not-longer g t (none-of (longer g) (count g) (not-true (any (longer g) (count g)) b) t l) in
+    let none = none-of (longer g) (count g) (not-true (any (longer g) (count g)) b) in
+    let one : (t : ℕ) → t < count g → (low g t ≡ 1) × (high g t ≡ 1) = λ t l. not-longer g t (none t l) in
     record { total = of-total-plan g a; lows-one = λ t l. one t l .0; highs-one = λ t l. one t l .1 }
 
 -- such a plan: its runs give its delays

@@ -1,8 +1,9 @@
 -- What the tests and the operations of specs/Sets.antt say of states.
 --
--- A search for a number below n that a test accepts finds one exactly if there is one (`any-of`, `in-any` of graph). All tests and operations
--- are such searches: so an empty set has no state, the same set the same states, and N, T and T⁻¹ are what transitions of the plan join.
--- Last, the number of states in a set, by recursion on n: a set within another that is not the same has fewer (`smaller`). Assumes nothing.
+-- A search for a number below n that a test accepts finds one exactly if there is one (`any-of`, `in-any` of graph).
+-- All tests and operations are such searches: so an empty set has no state, the same set the same states, and N, T and
+-- T⁻¹ are what transitions of the plan join. Last, the number of states in a set, by recursion on n: a set within
+-- another that is not the same has fewer (`smaller`). Assumes nothing.
 use Prim.Native.Nat.{ℕ, zero, suc, _+_, _≤_, _<_}
 use mathlib.Core.Path.{_≡_, refl, sym, _∙_, ap, fun-ext}
 use mathlib.Core.Bool.{Bool, true, false, not, _&&_, Bool·beq, true≢false, false≢true, and-eq-true-iff}
@@ -62,7 +63,8 @@ in-N g s t d =
     in-any (λ (t′ : ℕ). eqb (from g t′) s && eqb (to g t′) (to g t)) (count g) t (d .listed)
     (and-eq-true-iff (eqb (from g t) s) (eqb (to g t) (to g t)) .1 (eq-eqb (from g t) s (d .source), eq-eqb (to g t) (to g t) refl))
 
-pub T-of : (g : Graph) (A : States) (s′ : ℕ) → T g A s′ ≡ true → (s : ℕ) × (s < states g) × (A s ≡ true) × (t : ℕ) × Departs g s t × (to g t ≡ s′)
+pub T-of : (g : Graph) (A : States) (s′ : ℕ) → T g A s′ ≡ true
+    → (s : ℕ) × (s < states g) × (A s ≡ true) × (t : ℕ) × Departs g s t × (to g t ≡ s′)
 unfolding T
 T-of g A s′ h =
     let (s, l, a) = any-of (λ (s : ℕ). A s && N g s s′) (states g) h in
@@ -72,9 +74,11 @@ T-of g A s′ h =
 
 pub in-T : (g : Graph) (A : States) (s t : ℕ) → s < states g → A s ≡ true → Departs g s t → T g A (to g t) ≡ true
 unfolding T
-in-T g A s t l m d = in-any (λ (s : ℕ). A s && N g s (to g t)) (states g) s l (and-eq-true-iff (A s) (N g s (to g t)) .1 (m, in-N g s t d))
+in-T g A s t l m d =
+    in-any (λ (s : ℕ). A s && N g s (to g t)) (states g) s l (and-eq-true-iff (A s) (N g s (to g t)) .1 (m, in-N g s t d))
 
-pub T⁻¹-of : (g : Graph) (A : States) (s : ℕ) → T⁻¹ g A s ≡ true → (t : ℕ) × Departs g s t × (to g t < states g) × (A (to g t) ≡ true)
+pub T⁻¹-of : (g : Graph) (A : States) (s : ℕ) → T⁻¹ g A s ≡ true
+    → (t : ℕ) × Departs g s t × (to g t < states g) × (A (to g t) ≡ true)
 unfolding T⁻¹
 T⁻¹-of g A s h =
     let (s′, l, a) = any-of (λ (s′ : ℕ). A s′ && N g s s′) (states g) h in
@@ -82,9 +86,12 @@ T⁻¹-of g A s h =
     let (t, d, e) = N-of g s s′ n in
     (t, d, rw e l, rw e m)
 
-pub in-T⁻¹ : (g : Graph) (A : States) (s t : ℕ) → to g t < states g → A (to g t) ≡ true → Departs g s t → T⁻¹ g A s ≡ true
+pub in-T⁻¹ : (g : Graph) (A : States) (s t : ℕ) → to g t < states g → A (to g t) ≡ true → Departs g s t
+    → T⁻¹ g A s ≡ true
 unfolding T⁻¹
-in-T⁻¹ g A s t l m d = in-any (λ (s′ : ℕ). A s′ && N g s s′) (states g) (to g t) l (and-eq-true-iff (A (to g t)) (N g s (to g t)) .1 (m, in-N g s t d))
+in-T⁻¹ g A s t l m d =
+    let both = and-eq-true-iff (A (to g t)) (N g s (to g t)) .1 (m, in-N g s t d) in
+    in-any (λ (s′ : ℕ). A s′ && N g s s′) (states g) (to g t) l both
 
 -- ---- how many states a set has
 
@@ -123,10 +130,12 @@ unfolding size any
 size-lt A B zero w d = absurd (false≢true d)
 size-lt A B (suc n) w d = go (size-lt A B n (λ s h. w s (le-step h))) (or-cases (any (B Δ A) n) ((B Δ A) n) d)
   where
-    go : (any (B Δ A) n ≡ true → size A n < size B n) → (any (B Δ A) n ≡ true) ⊎ ((B Δ A) n ≡ true) → one (A n) + size A n < one (B n) + size B n
+    go : (any (B Δ A) n ≡ true → size A n < size B n) → (any (B Δ A) n ≡ true) ⊎ ((B Δ A) n ≡ true)
+        → one (A n) + size A n < one (B n) + size B n
     go ih (inl l) = omega (arith, ih l, one-mono (A n) (B n) (w n (lt-suc-self n)))
     go ih (inr r) = omega (arith, one-lt (A n) (B n) (w n (lt-suc-self n)) r, size-le A B n (λ s h. w s (le-step h)))
 
-pub smaller : (g : Graph) (A B : States) → Within (states g) A B → same g B A ≡ false → size A (states g) < size B (states g)
+pub smaller : (g : Graph) (A B : States) → Within (states g) A B → same g B A ≡ false
+    → size A (states g) < size B (states g)
 unfolding same
 smaller g A B w h = size-lt A B (states g) w (not-false (any (B Δ A) (states g)) h)

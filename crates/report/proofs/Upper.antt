@@ -1,13 +1,15 @@
 -- Procedure upper returns the greatest delay.
 --
--- Before each turn R holds the states from which a walk goes through i unfinished states, one transition out of each, and R' those for i + 1
--- (`Through`, `Behind`). At first that is so since every unfinished state has a transition out; and a turn goes from R' to the unfinished states with
--- a transition into R'. R has a start: at first since some state is marked start, and later since a turn is taken only where R' has one.
--- At the end, if R' is R, then every state of R is unfinished and has a transition into R: from the start in R that goes on for ever. If R' is
--- not R, then R' has no start. So no walk from a start goes through more than i unfinished states: no route has more than i transitions, and
--- no walk is endless. And the walk from the start in R, through i unfinished states, ends in a final one, or else the transition out of it
--- would make it longer: a route of i transitions (`Longest`). No walk ends in a dead end, so what is largest over all routes is the greatest
--- figure, for any cost (`largest-greatest`); and where each transition lasts 1, i is the greatest delay. Assumes nothing.
+-- Before each turn R holds the states from which a walk goes through i unfinished states, one transition out of each,
+-- and R' those for i + 1 (`Through`, `Behind`). At first that is so since every unfinished state has a transition out;
+-- and a turn goes from R' to the unfinished states with a transition into R'. R has a start: at first since some state
+-- is marked start, and later since a turn is taken only where R' has one. At the end, if R' is R, then every state of R
+-- is unfinished and has a transition into R: from the start in R that goes on for ever. If R' is not R, then R' has no
+-- start. So no walk from a start goes through more than i unfinished states: no route has more than i transitions, and
+-- no walk is endless. And the walk from the start in R, through i unfinished states, ends in a final one, or else the
+-- transition out of it would make it longer: a route of i transitions (`Longest`). No walk ends in a dead end, so what
+-- is largest over all routes is the greatest figure, for any cost (`largest-greatest`); and where each transition lasts
+-- 1, i is the greatest delay. Assumes nothing.
 use Prim.Native.Nat.{ℕ, zero, suc, _≤_, _<_}
 use mathlib.Core.Path.{_≡_, refl, sym, _∙_, ap}
 use mathlib.Core.Bool.{true, false, not, _&&_, true≢false, and-eq-true-iff}
@@ -134,7 +136,8 @@ module _ (g : Graph) (q : TotalPlan g) where
         of-empty g (v .R′ ∩ start g) apart s l (and-eq-true-iff (v .R′ s) (start g s) .1 (b .next s l .1 w, b′))
 
     -- a walk through unfinished states that goes no further is a route
-    ends-final : (k s : ℕ) → s < states g → Through g k s → (Through g (suc k) s → ⊥) → (ts : List ℕ) × RouteFrom g s ts × (length ts ≡ k)
+    ends-final : (k s : ℕ) → s < states g → Through g k s → (Through g (suc k) s → ⊥)
+        → (ts : List ℕ) × RouteFrom g s ts × (length ts ≡ k)
     ends-final zero s l w no-more = go (decided (final g s))
       where
         go : (final g s ≡ true) ⊎ (final g s ≡ false) → (ts : List ℕ) × RouteFrom g s ts × (length ts ≡ 0)
@@ -154,7 +157,8 @@ module _ (g : Graph) (q : TotalPlan g) where
   end : (v : Vars) → Behind g v → upper g .stop v ≡ true → Says g (upper g .answer v)
   end v b h = go (decided (same g (v .R) (v .R′))) (ended (not (same g (v .R′) (v .R))) (not (empty g (v .R′ ∩ start g))) h)
     where
-      go : (same g (v .R) (v .R′) ≡ true) ⊎ (same g (v .R) (v .R′) ≡ false) → (not (same g (v .R′) (v .R)) ≡ false) ⊎ (not (empty g (v .R′ ∩ start g)) ≡ false)
+      go : (same g (v .R) (v .R′) ≡ true) ⊎ (same g (v .R) (v .R′) ≡ false)
+          → (not (same g (v .R′) (v .R)) ≡ false) ⊎ (not (empty g (v .R′ ∩ start g)) ≡ false)
           → Says g (upper g .answer v)
       go (inl still) e = rw still (endless v b still)
       go (inr moved) (inl e) = absurd (true≢false (sym (not-false (same g (v .R′) (v .R)) e) ∙ same-comm g (v .R′) (v .R) ∙ moved))
@@ -166,7 +170,7 @@ module _ (g : Graph) (q : TotalPlan g) where
   -- ---- what that says of the figures
 
   stranded : (s : ℕ) (ts : List ℕ) → s < states g → StrandedFrom g s ts → ⊥
-  stranded s [] l w = let (t, d) = q .leaves s l (w .unfinished) in w .shut t d
+  stranded s [] l w = let (t, d) = q .leaves s l (w .unfinished) in w .none-departs t d
   stranded s (t ∷ ts) l w = stranded (to g t) ts (q .closed t (w .1 .listed)) (w .2)
 
   pub started : NoStart g → ⊥

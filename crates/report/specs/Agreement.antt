@@ -1,4 +1,5 @@
--- What is shown of the four procedures: on which plans, and a field for each claim. proofs/Figures.antt proves it. Assumes nothing.
+-- What is shown of the four procedures: on which plans, and a field for each claim. proofs/Figures.antt proves it.
+-- Assumes nothing.
 use Prim.Native.Nat.{ℕ, _<_}
 use mathlib.Core.Path.{_≡_}
 use mathlib.Core.Logic.{_↔_}
@@ -11,13 +12,14 @@ use Rattle.report.specs.Sets.{States}
 use Rattle.report.specs.Bounds.{Bound, finite, ∞, lower, upper}
 use Rattle.report.specs.Counts.{mincount, maxcount}
 
--- The plans that the counts are compared on, whatever their durations. Of a plan's limits one is needed: a transition leads to a state of
--- the plan.
+-- The plans that the counts are compared on, whatever their durations. Of a plan's limits one is needed: a transition
+-- leads to a state of the plan.
 pub record TotalPlan (g : Graph) : Type 0 where
   pub closed : Closed g
   -- "some state is marked start"
   pub started : (s : ℕ) × Begins g s
-  -- "every unfinished state has a transition out": the report's "the transition relation is total" (section 4, last paragraph)
+  -- "every unfinished state has a transition out": the report's "the transition relation is total" (section 4, last
+  -- paragraph)
   pub leaves : (s : ℕ) → s < states g → Unfinished g s → (t : ℕ) × Departs g s t
 
 -- The plans that demand 2 names.
@@ -27,21 +29,29 @@ pub record ReportPlan (g : Graph) : Type 0 where
   pub lows-one : (t : ℕ) → t < count g → low g t ≡ 1
   pub highs-one : (t : ℕ) → t < count g → high g t ≡ 1
 
+-- the figure that a value stands for: the number itself, and for infinity the kind f
+abbrev pub figure : Figure → Bound → Figure
+figure f (finite k) = number k
+figure f ∞ = f
+
 -- "Infinity from lower is NONE here, infinity from upper is ENDLESS." (document 01, "Where the rules come from")
 abbrev pub leastFigure : Bound → Figure
-leastFigure (finite k) = number k
-leastFigure ∞ = NONE
+leastFigure = figure NONE
 
 abbrev pub greatestFigure : Bound → Figure
-greatestFigure (finite k) = number k
-greatestFigure ∞ = ENDLESS
+greatestFigure = figure ENDLESS
 
--- wherever upper is finite, mincount and maxcount return numbers, the least and the greatest count: over any yes-or-no on states
+-- wherever upper is finite, mincount and maxcount return numbers, the least and the greatest count: over any yes-or-no
+-- on states
 pub record CountAgreement (g : Graph) : Type 0 where
-  pub mincount-returns : (i : ℕ) → Returns (upper g) (finite i) → (c : States) → (k : ℕ) × Returns (mincount g c) (finite k)
-  pub maxcount-returns : (i : ℕ) → Returns (upper g) (finite i) → (c : States) → (k : ℕ) × Returns (maxcount g c) (finite k)
-  pub mincount-least : (i : ℕ) → Returns (upper g) (finite i) → (c : States) (k : ℕ) → Returns (mincount g c) (finite k) ↔ IsLeast g (counts g c) (number k)
-  pub maxcount-greatest : (i : ℕ) → Returns (upper g) (finite i) → (c : States) (k : ℕ) → Returns (maxcount g c) (finite k) ↔ IsGreatest g (counts g c) (number k)
+  pub mincount-returns : (i : ℕ) → Returns (upper g) (finite i) → (c : States)
+      → (k : ℕ) × Returns (mincount g c) (finite k)
+  pub maxcount-returns : (i : ℕ) → Returns (upper g) (finite i) → (c : States)
+      → (k : ℕ) × Returns (maxcount g c) (finite k)
+  pub mincount-least : (i : ℕ) → Returns (upper g) (finite i) → (c : States) (k : ℕ)
+      → Returns (mincount g c) (finite k) ↔ IsLeast g (counts g c) (number k)
+  pub maxcount-greatest : (i : ℕ) → Returns (upper g) (finite i) → (c : States) (k : ℕ)
+      → Returns (maxcount g c) (finite k) ↔ IsGreatest g (counts g c) (number k)
 
 pub record Agreement (g : Graph) : Type 0 where
   -- lower and upper return

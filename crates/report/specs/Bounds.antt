@@ -1,14 +1,16 @@
 -- Procedures lower and upper, figures 3 and 4 of CMU-CS-94-147, each line of a figure beside its own words.
 --
--- start and final are the graph's sets. The report's set of initial states is not used: document 01, "every state marked start counts".
--- Procedures minimum and maximum of document 002 (its figure 2) are the same two, line by line, under other names. Assumes nothing.
+-- start and final are the graph's sets. The report's set of initial states is not used: document 01, "every state
+-- marked start counts". Procedures minimum and maximum of document 002 (its figure 2) are the same two, line by line,
+-- under other names. Assumes nothing.
 use Prim.Native.Nat.{ℕ, _+_}
 use mathlib.Core.Bool.{not, cond, _&&_}
 use Rattle.graph.specs.Graph.{Graph, start, final}
 use Rattle.report.specs.Procedure.{Procedure, while}
 use Rattle.report.specs.Sets.{States, _∩_, _∪_, TRUE, not-final, empty, same, T, T⁻¹}
 
--- what a procedure returns: a number, or infinity. (In figure 6 it is minus infinity; no procedure has both, so one constructor serves.)
+-- what a procedure returns: a number, or infinity. (In figure 6 it is minus infinity; no procedure has both, so one
+-- constructor serves.)
 pub data Bound : Type 0 where
   finite : ℕ → Bound
   ∞ : Bound

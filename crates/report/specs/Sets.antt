@@ -1,7 +1,7 @@
 -- Sets of states, and the successors and predecessors of a set: what figures 3 and 4 are written in.
 --
--- A set of states is its yes-or-no on states. The states are the numbers below n, and no other number is ever looked at: `any` of graph's
--- specs/Compute.antt is the only way to ask whether some state is in a set. Assumes nothing.
+-- A set of states is its yes-or-no on states. The states are the numbers below n, and no other number is ever looked
+-- at: `any` of graph's specs/Compute.antt is the only way to ask whether some state is in a set. Assumes nothing.
 use Prim.Native.Nat.{ℕ}
 use mathlib.Core.Bool.{Bool, true, not, _&&_, _||_, Bool·beq}
 use lib.Dec.{eqb}
@@ -41,7 +41,8 @@ unfoldable pub same : Graph → States → States → Bool
 unfolding empty
 same g A B = empty g (A Δ B)
 
--- N(s, s') "evaluates to true when there is a transition in the model from the state .. to the state .." (section 3, first paragraph)
+-- N(s, s') "evaluates to true when there is a transition in the model from the state .. to the state .." (section 3,
+-- first paragraph)
 unfoldable pub N : Graph → ℕ → ℕ → Bool
 N g s s′ = any (λ t. eqb (from g t) s && eqb (to g t) s′) (count g)
 
