@@ -11,11 +11,11 @@ use native.Mathlib.Nat.{not-suc-le-zero, le-of-suc-le-suc}
 use native.Mathlib.Omega.{arith}
 use lib.Dec.{T, ltb, lit<}
 use Rattle.graph.specs.Graph.{Graph, Transition, count, start, final, counted, from, to, low, high, Departs}
-use Rattle.graph.specs.Walk.{Begins, Walk}
+use Rattle.graph.specs.Walk.{Begins, Walk, Different}
 use Rattle.graph.specs.Route.{Route, GoesOnForever, StrandedFrom, EndsUnanswered, Cost, total}
-use Rattle.graph.specs.Figure.{number, NONE, STRANDED, ENDLESS, NoStart, IsGreatest, Shown, leastDelayCost}
+use Rattle.graph.specs.Figure.{number, NONE, STRANDED, ENDLESS, NoStart, IsLeast, IsGreatest, Shown, leastDelayCost}
 use Rattle.graph.specs.Figure.{greatestDelayCost, countCost}
-use Rattle.graph.specs.Known.{join, P1, P4, P6, P7, P8, P9, unreached-dead-end, reached-dead-end, counted-ends}
+use Rattle.graph.specs.Known.{join, P1, P3, P4, P6, P7, P8, P9, unreached-dead-end, reached-dead-end, counted-ends}
 
 -- transition t, a numeral, departs from s
 departs : (g : Graph) (s t : ℕ) → T (ltb t (count g)) → from g t ≡ s → Departs g s t
@@ -135,14 +135,41 @@ P9-stranded = (0, 1 ∷ [], (refl, (refl, departs (P9 .plan) 0 1 tt refl, record
     none-departs (suc zero) d = omega (arith, d .source)
     none-departs (suc (suc t)) d = not-suc-le-zero (le-of-suc-le-suc (le-of-suc-le-suc (d .listed)))
 
-P9-started : NoStart (P9 .plan) → ⊥
+pub P9-start : Begins (P9 .plan) 0
 unfolding start
-P9-started none = none 0 refl
+P9-start = refl
+
+-- "NONE if no state is marked start": P9 has a start, though none that leads to an answer
+pub P9-started : NoStart (P9 .plan) → ⊥
+P9-started none = none 0 P9-start
 
 pub endless-first : (c : Cost) → IsGreatest (P9 .plan) c ENDLESS
 endless-first c = (P9-started, P9-endless)
 
+-- "NONE if there is no route": P3 has a start, and no route
+P3-no-route : (s : ℕ) (ts : List ℕ) → Route (P3 .plan) s ts → ⊥
+unfolding start final
+P3-no-route zero [] (b, w) = false≢true w
+P3-no-route (suc zero) [] (b, w) = false≢true b
+P3-no-route (suc (suc s)) [] (b, w) = false≢true b
+P3-no-route s (t ∷ ts) (b, w) = not-suc-le-zero (w .1 .listed)
+
+pub none-without-route : (c : Cost) → IsLeast (P3 .plan) c NONE
+none-without-route c = P3-no-route
+
 -- ---- what is shown
+
+one-place : Different (0 ∷ [])
+one-place i j l h e = omega arith
+
+-- for ENDLESS 0→0, back where it began, and for STRANDED the start alone
+pub loop-shown : (c : Cost) → Shown (P4 .plan) c ENDLESS (0 ∷ []) 0
+unfolding start final from to
+loop-shown c = (0, (refl, (refl, departs (P4 .plan) 0 0 tt refl, refl)), lit< tt, refl, one-place)
+
+pub start-shown : (c : Cost) → Shown (P3 .plan) c STRANDED [] 0
+unfolding start final
+start-shown c = (0, (refl, record { unfinished = refl; none-departs = λ t d. not-suc-le-zero (d .listed) }), one-place)
 
 -- "visits no state twice": 0→0, 0→1 is a route of 1 second
 pub not-twice : Shown (P4 .plan) (leastDelayCost (P4 .plan)) (number 1) (0 ∷ 1 ∷ []) 0 → ⊥

@@ -13,6 +13,7 @@
 --    each, that visits no state twice (`tree-walk`).
 -- 5. Together, values at a best start are the least figure (`least-number`, `least-none`), or the greatest
 --    (`greatest-number`); and walks that may be shown prove the other kinds (`greatest-endless`, `greatest-stranded`).
+--    For ENDLESS that walk is a search's stack with one transition more (`endless-by-places`).
 -- Assumes nothing.
 use Prim.Native.Nat.{ℕ, zero, suc, _+_, _≤_, _<_}
 use mathlib.Core.Path.{_≡_, refl, sym, _∙_, ap}
@@ -26,9 +27,9 @@ use Rattle.graph.specs.Graph.{Graph, count, final, from, to, Departs, Fi
 use Rattle.graph.specs.Walk.{Begins, visits, arrival, UnfinishedWalk, Different, EndlessWalk}
 use Rattle.graph.specs.Route.{RouteFrom, LeadsToAnswer, StrandedFrom, GoesOnForever, EndsUnanswered, Cost, total}
 use Rattle.graph.specs.Figure.{number, NONE, STRANDED, ENDLESS, IsLeast, IsGreatest, Shown}
-use Rattle.graph.proofs.Repeat.{nth, different-cons, different-one, different-snoc, Snoc, nth-snoc}
-use Rattle.graph.proofs.Build.{arrival-snoc, visits-snoc, walk-snoc}
-use Rattle.graph.proofs.Walks.{with-last}
+use Rattle.graph.proofs.Repeat.{nth, Apart, different-take, different-cons, different-one, different-snoc, Snoc, nth-snoc}
+use Rattle.graph.proofs.Build.{arrival-snoc, visits-snoc, walk-snoc, StepAt, walk-by-places, visits-by-places}
+use Rattle.graph.proofs.Walks.{state-after, state-last, with-last}
 use Rattle.graph.proofs.Endless.{shown-endless}
 use Rattle.graph.proofs.Greatest.{leads-to-answer}
 
@@ -326,6 +327,23 @@ module _ (g : Graph) (c : Cost) (In : ℕ → Type 0) (value rank : ℕ → ℕ)
   -- a walk that is shown for ENDLESS
   pub greatest-endless : (ts : List ℕ) (j : ℕ) → Shown g c ENDLESS ts j → IsGreatest g c ENDLESS
   greatest-endless ts j shown = (λ no-start. no-start (shown .0) (shown .1 .0), shown-endless g c ts j shown)
+
+  -- such a walk by its places, as on a search's stack: k transitions through unfinished states that differ, and the
+  -- state after them is the one at place j
+  pub endless-by-places : (state : ℕ → ℕ) (ts : List ℕ) → Begins g (state 0)
+      → ((i : ℕ) → i < length ts → StepAt g (Unfinished g) (Unfinished g) state ts i)
+      → (j : ℕ) → j < length ts → state (length ts) ≡ state j → Apart state (length ts) → Shown g c ENDLESS ts j
+  endless-by-places state ts b at j l same apart =
+      let s = state 0 in
+      let here = visits-by-places g (Unfinished g) (Unfinished g) state ts at in
+      let last : Unfinished g (state (length ts)) = rw same (at j l .passes) in
+      let at-j = state-after g s ts j (le-of-lt l) in (
+        s,
+        (b, walk-by-places g (Unfinished g) (Unfinished g) state ts at last),
+        l,
+        sym (state-last g s ts) ∙ here (length ts) (le-refl (length ts)) ∙ same ∙ sym (here j (le-of-lt l)) ∙ at-j,
+        different-take (visits g s ts) (length ts) (λ i i′ o h e. apart i i′ o h (sym (here i (omega arith)) ∙ e ∙ here i′ (le-of-lt h))),
+      )
 
   -- a walk that is shown for STRANDED, where the rank falls
   pub greatest-stranded : FallingRank g In rank → (ts : List ℕ) (j : ℕ) → Shown g c STRANDED ts j
