@@ -32,6 +32,11 @@ module _ (g : Graph) where
   walk-snoc pass stop stop′ s [] t w p d q = (p, d, q)
   walk-snoc pass stop stop′ s (u ∷ ts) t w p d q = (w .0, w .1, walk-snoc pass stop stop′ (to g u) ts t (w .2) p d q)
 
+  pub last-departs : (pass stop : ℕ → Type 0) (s : ℕ) (ts : List ℕ) (t : ℕ) → WalkTo g pass stop s (ts ++ (t ∷ []))
+      → Departs g (arrival g s ts) t
+  last-departs pass stop s [] t w = w .1
+  last-departs pass stop s (u ∷ ts) t w = last-departs pass stop (to g u) ts t (w .2)
+
   -- a cost is the sum over the transitions, and the close at the last state
   pub total-is : (c : Cost) (s : ℕ) (ts : List ℕ) → total g c s ts ≡ delay (c .step) ts + c .close (arrival g s ts)
   total-is c s [] = sym (zero-add (c .close s))

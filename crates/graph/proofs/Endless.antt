@@ -3,30 +3,32 @@
 -- 1. A walk through unfinished states whose state after k transitions is the state after j, with j < k, goes on
 --    forever: walk on to place k, be at place j again, and so on. The place that the endless walk is at goes up by one,
 --    and from k - 1 back to j (`next`).
--- 2. An endless walk has a walk of every length: its first k transitions (`run-walk`).
+-- 2. An endless walk has a walk of every length, its first k transitions (`run-walk`); and a sequence of transitions
+--    of which that is so is an endless walk (`endless-of`).
 -- 3. So a plan of n states has an endless walk exactly when n transitions can be walked from a start through unfinished
 --    states: by 2 one way; and by 1 the other, since n + 1 states below n hold a repeat. Up to the first repeat, that
 --    walk is what 01 asks to be shown for ENDLESS (`repeat-shown`).
 -- 4. Where no endless walk exists, every walk through unfinished states visits no state twice (`simple-or-endless`).
 -- Assumes nothing.
-use Prim.Native.Nat.{ℕ, zero, suc, _≤_, _<_, zero-le}
-use mathlib.Core.Path.{_≡_, refl, sym, _∙_, ap}
+use Prim.Native.Nat.{ℕ, zero, suc, _+_, _≤_, _<_, zero-le}
+use mathlib.Core.Path.{_≡_, refl, sym, _∙_, ap, subst}
 use mathlib.Core.Bool.{Bool, true, false, cond}
 use mathlib.Core.Logic.{_⊎_, inl, inr}
-use mathlib.Core.List.{List, [], _∷_}
-use native.Mathlib.Nat.{le-refl, le-of-lt, lt-of-lt-of-le}
+use mathlib.Core.List.{List, [], _∷_, _++_}
+use native.Mathlib.Nat.{zero-add, le-refl, le-of-lt, lt-of-lt-of-le}
 use native.Mathlib.Omega.{arith}
 use lib.Dec.{eqb}
 use lib.ListN.{length, take}
 use lib.Seq.{length-take-le, take-take}
 use borrow.Author.Tests.{eqb-true, eqb-false}
 use Rattle.graph.specs.Graph.{Graph, states, Unfinished, Closed}
-use Rattle.graph.specs.Walk.{Begins, WalkTo, visits, arrival, UnfinishedFrom, Different, EndlessWalk}
+use Rattle.graph.specs.Walk.{Begins, WalkTo, visits, arrival, UnfinishedFrom, UnfinishedWalk, Different, EndlessWalk}
 use Rattle.graph.specs.Route.{Cost}
 use Rattle.graph.specs.Figure.{ENDLESS, Shown}
 use Rattle.graph.proofs.Repeat.{nth, Repeat, first-repeat, repeat-below, different-take}
 use Rattle.graph.proofs.Walks.{start-below, length-visits, state-after, state-last, visits-take, passed}
-use Rattle.graph.proofs.Walks.{departs-at, arrives-at, visits-below, front}
+use Rattle.graph.proofs.Walks.{departs-at, arrives-at, stopped, visits-below, front}
+use Rattle.graph.proofs.Build.{arrival-snoc, last-departs}
 
 -- ---- 1
 
@@ -81,19 +83,42 @@ module _ (g : Graph) (stop : ℕ → Type 0) (s : ℕ) (ts : List ℕ) (b : Begi
 
 -- ---- 2
 
-module _ (g : Graph) (e : EndlessWalk g) where
-  -- k transitions, from the i-th on
-  abbrev pub run : ℕ → ℕ → List ℕ
-  run i zero = []
-  run i (suc k) = e .taken i ∷ run (suc i) k
+-- k transitions of a sequence, from the i-th on
+abbrev pub run : (ℕ → ℕ) → ℕ → ℕ → List ℕ
+run taken i zero = []
+run taken i (suc k) = taken i ∷ run taken (suc i) k
 
-  pub length-run : (i k : ℕ) → length (run i k) ≡ k
-  length-run i zero = refl
-  length-run i (suc k) = ap suc (length-run (suc i) k)
+pub length-run : (taken : ℕ → ℕ) (i k : ℕ) → length (run taken i k) ≡ k
+length-run taken i zero = refl
+length-run taken i (suc k) = ap suc (length-run taken (suc i) k)
 
-  pub run-walk : (i k : ℕ) → UnfinishedFrom g (e .state i) (run i k)
-  run-walk i zero = e .unfinished i
-  run-walk i (suc k) = (e .unfinished i, e .departs i, rw (e .arrives i) (run-walk (suc i) k))
+pub run-snoc : (taken : ℕ → ℕ) (i k : ℕ) → run taken i (suc k) ≡ run taken i k ++ (taken (i + k) ∷ [])
+run-snoc taken i zero = ap (λ (t : ℕ). taken t ∷ []) (omega arith)
+run-snoc taken i (suc k) =
+    let later : taken (suc i + k) ≡ taken (i + suc k) = ap taken (omega arith) in
+    ap (λ (ts : List ℕ). taken i ∷ ts) (run-snoc taken (suc i) k ∙ ap (λ (t : ℕ). run taken (suc i) k ++ (t ∷ [])) later)
+
+module _ (g : Graph) where
+  pub run-walk : (e : EndlessWalk g) (i k : ℕ) → UnfinishedFrom g (e .state i) (run (e .taken) i k)
+  run-walk e i zero = e .unfinished i
+  run-walk e i (suc k) = (e .unfinished i, e .departs i, rw (e .arrives i) (run-walk e (suc i) k))
+
+  -- and a sequence whose first k transitions are such a walk, for each k, is an endless one
+  pub endless-of : (s : ℕ) (taken : ℕ → ℕ) → ((k : ℕ) → UnfinishedWalk g s (run taken 0 k)) → EndlessWalk g
+  endless-of s taken w = record {
+    state = λ i. arrival g s (run taken 0 i);
+    taken = taken;
+    begins = w 0 .0;
+    departs = λ i. last-departs g (Unfinished g) (Unfinished g) s (run taken 0 i) (taken i) (one-more i);
+    arrives = λ i. sym (ap (arrival g s) (run-to i) ∙ arrival-snoc g s (run taken 0 i) (taken i));
+    unfinished = λ i. stopped g (Unfinished g) (Unfinished g) s (run taken 0 i) (w i .1);
+  }
+    where
+      run-to : (i : ℕ) → run taken 0 (suc i) ≡ run taken 0 i ++ (taken i ∷ [])
+      run-to i = run-snoc taken 0 i ∙ ap (λ (t : ℕ). run taken 0 i ++ (taken t ∷ [])) (zero-add i)
+
+      one-more : (i : ℕ) → UnfinishedFrom g s (run taken 0 i ++ (taken i ∷ []))
+      one-more i = subst (UnfinishedFrom g s) (run-to i) (w (suc i) .1)
 
 -- ---- 3
 
@@ -135,9 +160,9 @@ module _ (g : Graph) (c : Cost) where
   -- ENDLESS can always be shown ..
   pub endless-shown : Closed g → EndlessWalk g → (us : List ℕ) × (j : ℕ) × Shown g c ENDLESS us j
   endless-shown closed e =
-      let ts = run g e 0 (states g) in
+      let ts = run (e .taken) 0 (states g) in
       let w = run-walk g e 0 (states g) in
-      long-shown g c (Unfinished g) (e .state 0) ts (e .begins) w closed (omega (arith, length-run g e 0 (states g)))
+      long-shown g c (Unfinished g) (e .state 0) ts (e .begins) w closed (omega (arith, length-run (e .taken) 0 (states g)))
 
   -- .. and what is shown goes on forever
   pub shown-endless : (ts : List ℕ) (j : ℕ) → Shown g c ENDLESS ts j → EndlessWalk g

@@ -61,12 +61,12 @@ module _ (g : Graph) where
         let l = of-begun g unanswered (states g) r m in
         long-endless g (Yes unanswered) (r .0) (r .1) (l .begins) (l .walk) closed (le-of-eq (sym (l .size)));
     complete = λ e.
-        let ts = run g e 0 (states g) in
+        let ts = run (e .taken) 0 (states g) in
         let u = run-walk g e 0 (states g) in
         let w = with-stop g (Unfinished g) (Unfinished g) (Yes unanswered) (λ x u. ap not u) (e .state 0) ts u in
         let m = in-begun g unanswered (e .state 0) ts (e .begins) w in
         in-nonempty (begun g unanswered (states g))
-        (subst (λ (k : ℕ). (e .state 0, ts) ∈ begun g unanswered k) (length-run g e 0 (states g)) m);
+        (subst (λ (k : ℕ). (e .state 0, ts) ∈ begun g unanswered k) (length-run (e .taken) 0 (states g)) m);
   }
 
   any-stranded : Closed g → Tests (anyStranded g) (EndsUnanswered g)

@@ -1,21 +1,23 @@
 -- The theorems, in the order to read them.
 -- Facts on small plans, straight from the definitions.
 pub mod Basic
--- Walks: what tests say; a list of numbers below n has a repeat; what every walk has; simple walks; endless walks; what walks cost.
+-- Walks: what tests say; a list of numbers below n has a repeat; what every walk has; walks built step by step;
+-- simple walks; endless walks; what walks cost.
 pub mod Tests
 pub mod Repeat
 pub mod Walks
+pub mod Build
 pub mod Simple
 pub mod Endless
 pub mod Cost
--- Figures: the computed lists hold just the walks; smallest and largest by one argument; the least and the greatest figure; their bounds.
+-- Figures: the computed lists hold just the walks; smallest and largest by one argument; the least and the greatest
+-- figure; their bounds.
 pub mod Listed
 pub mod Extreme
 pub mod Least
 pub mod Greatest
 pub mod Bound
--- For a search: walks built step by step, and certificates.
-pub mod Build
+-- For a search: what it must leave behind.
 pub mod Certificate
 -- Document 01's plans and sentences.
 pub mod Known

@@ -8,12 +8,13 @@ use mathlib.Core.List.{List, []}
 use lib.Dec.{lit<}
 use lib.ListN.{length}
 use Rattle.graph.specs.Graph.{Graph, low, high, Final, Unfinished, DeadEnd}
-use Rattle.graph.specs.Walk.{Begins, WalkTo, FromStart, Walk, UnfinishedWalk, visits, arrival}
+use Rattle.graph.specs.Walk.{Begins, WalkTo, FromStart, Walk, UnfinishedWalk, EndlessWalk, visits, arrival}
 use Rattle.graph.specs.Route.{Route, StrandedWalk, Cost, lows, highs, counts, delay, number-on}
 use Rattle.graph.specs.Figure.{Figure, number, NONE, STRANDED, ENDLESS, IsLeast, IsGreatest, Shown}
 use Rattle.graph.specs.Known.{P2, P3}
 use Rattle.graph.proofs.Repeat.{nth}
 use Rattle.graph.proofs.Walks.{passed, stopped, plain, walk-of}
+use Rattle.graph.proofs.Endless.{run, run-walk, endless-of}
 use Rattle.graph.proofs.Cost.{delay-is, count-is}
 use Rattle.graph.proofs.Known.{known-hold}
 
@@ -50,6 +51,14 @@ module _ (g : Graph) where
   -- "a walk of unfinished states ends in a dead end", which is unfinished too
   pub stranded-is : (s : ℕ) (ts : List ℕ) → StrandedWalk g s ts ↔ InWords (Unfinished g) (DeadEnd g) s ts
   stranded-is = in-words (Unfinished g) (DeadEnd g)
+
+  -- "an endless walk of unfinished states": a sequence of transitions whose first k are a walk of unfinished states, for
+  -- each k; so it begins as any walk does
+  pub endless-is : EndlessWalk g ↔ ((s : ℕ) × (taken : ℕ → ℕ) × ((k : ℕ) → UnfinishedWalk g s (run taken 0 k)))
+  endless-is = (
+    λ e. (e .state 0, e .taken, λ k. (e .begins, run-walk g e 0 k)),
+    λ (s, taken, w). endless-of g s taken w,
+  )
 
   -- "A number or STRANDED shown with k at 0 means the walk of some start alone."
   pub number-alone : (c : Cost) (k j : ℕ) → Shown g c (number k) [] j → (s : ℕ) × Begins g s × Final g s
