@@ -17,8 +17,9 @@ pub mod Extreme
 pub mod Least
 pub mod Greatest
 pub mod Bound
--- For a search: what it must leave behind.
+-- For a search: what it must leave behind, and that for P1.
 pub mod Certificate
+pub mod Worked
 -- Document 01's plans and sentences.
 pub mod Known
 pub mod Sentences

@@ -1,0 +1,137 @@
+-- P1 with what a search would leave behind: the certificates of Certificate.antt can be met, and give P1's delays again.
+--
+-- The values are the least and the greatest delay from each state to an answer. The rank of a state is the number of
+-- transitions that may follow at most. What is asked of a transition is asked of P1's four (`P1-cases`). Assumes nothing.
+use Prim.Native.Nat.{ℕ, zero, suc, _+_, _≤_, _<_}
+use mathlib.Core.Path.{_≡_, refl, subst}
+use mathlib.Core.Bool.{true≢false, false≢true}
+use mathlib.Core.List.{[], _∷_}
+use native.Mathlib.Omega.{arith}
+use lib.Dec.{T, ltb, lit<}
+use Rattle.graph.specs.Graph.{Graph, start, final, from, to, low, high, Departs, Final, Unfinished}
+use Rattle.graph.specs.Walk.{Begins}
+use Rattle.graph.specs.Route.{Cost, lows, highs}
+use Rattle.graph.specs.Figure.{number, IsLeast, IsGreatest}
+use Rattle.graph.specs.Known.{P1}
+use Rattle.graph.proofs.Repeat.{nth}
+use Rattle.graph.proofs.Certificate.{LeastValues, GreatestValues, FallingRank, Choice, Choices, least-number, greatest-number}
+
+abbrev g : Graph
+g = P1 .plan
+
+-- the states that a start reaches through unfinished ones, and all that have a value
+abbrev Reached : ℕ → Type 0
+Reached s = s < 3
+
+abbrev Valued : ℕ → Type 0
+Valued s = s < 4
+
+abbrev rank : ℕ → ℕ
+rank = nth (3 ∷ 2 ∷ 1 ∷ 0 ∷ [])
+
+abbrev least : ℕ → ℕ
+least = nth (7 ∷ 2 ∷ 4 ∷ 0 ∷ [])
+
+abbrev greatest : ℕ → ℕ
+greatest = nth (60 ∷ 40 ∷ 25 ∷ 0 ∷ [])
+
+-- P1's transitions, each with the state that it departs from
+P1-cases : (P : ℕ → ℕ → Type 0) → P 0 0 → P 1 1 → P 1 2 → P 2 3 → (s t : ℕ) → Departs g s t → P s t
+unfolding from
+P1-cases P a b c d s zero q = subst (λ (s : ℕ). P s 0) (q .source) a
+P1-cases P a b c d s (suc zero) q = subst (λ (s : ℕ). P s 1) (q .source) b
+P1-cases P a b c d s (suc (suc zero)) q = subst (λ (s : ℕ). P s 2) (q .source) c
+P1-cases P a b c d s (suc (suc (suc zero))) q = subst (λ (s : ℕ). P s 3) (q .source) d
+P1-cases P a b c d s (suc (suc (suc (suc t)))) q = absurd (omega (arith, q .listed))
+
+-- only state 3 is final, and only state 0 a start
+final-3 : (s : ℕ) → Final g s → s ≡ 3
+unfolding final
+final-3 zero f = absurd (false≢true f)
+final-3 (suc zero) f = absurd (false≢true f)
+final-3 (suc (suc zero)) f = absurd (false≢true f)
+final-3 (suc (suc (suc zero))) f = refl
+final-3 (suc (suc (suc (suc s)))) f = absurd (false≢true f)
+
+start-0 : (s : ℕ) → Begins g s → s ≡ 0
+unfolding start
+start-0 zero b = refl
+start-0 (suc zero) b = absurd (false≢true b)
+start-0 (suc (suc zero)) b = absurd (false≢true b)
+start-0 (suc (suc (suc zero))) b = absurd (false≢true b)
+start-0 (suc (suc (suc (suc s)))) b = absurd (false≢true b)
+
+-- at state s transition t is taken, a numeral of each
+module _ (c : Cost) (In : ℕ → Type 0) (value : ℕ → ℕ) where
+  take : (s t : ℕ) → T (ltb t 4) → from g t ≡ s → value s ≡ c .step t + value (to g t)
+      → (Unfinished g (to g t) → In (to g t) × (rank (to g t) < rank s)) → Choice g c In value rank s
+  take s t l e a o = record { next = t; departs = record { listed = lit< l; source = e }; accounts = a; onward = o }
+
+-- ---- the greatest delay
+
+falling : FallingRank g Reached rank
+unfolding final to
+falling = record {
+  begins = λ s b u. omega (arith, start-0 s b);
+  onward = λ s t i d u.
+      P1-cases (λ s t. Unfinished g (to g t) → (to g t < 3) × (rank (to g t) < rank s))
+      (λ u. (lit< tt, lit< tt)) (λ u. (lit< tt, lit< tt)) (λ u. absurd (true≢false u)) (λ u. absurd (true≢false u))
+      s t d u;
+}
+
+greatest-over : GreatestValues g (highs g) Reached greatest
+unfolding to high
+greatest-over = record {
+  at-final = λ s f. omega arith;
+  over = λ s t i d. P1-cases (λ s t. high g t + greatest (to g t) ≤ greatest s)
+      (omega arith) (omega arith) (omega arith) (omega arith) s t d;
+}
+
+greatest-choices : Choices g (highs g) Reached greatest rank
+unfolding final from to high
+greatest-choices = record { at-final = λ s f. rw (final-3 s f) refl; choice = choice }
+  where
+    choice : (s : ℕ) → s < 3 → Unfinished g s → Choice g (highs g) Reached greatest rank s
+    choice zero i u = take (highs g) Reached greatest 0 0 tt refl refl (λ v. (lit< tt, lit< tt))
+    choice (suc zero) i u = take (highs g) Reached greatest 1 1 tt refl refl (λ v. (lit< tt, lit< tt))
+    choice (suc (suc zero)) i u = take (highs g) Reached greatest 2 3 tt refl refl (λ v. absurd (true≢false v))
+    choice (suc (suc (suc s))) i u = absurd (omega arith)
+
+pub P1-greatest-certified : IsGreatest g (highs g) (number 60)
+unfolding start final
+P1-greatest-certified =
+    greatest-number g (highs g) Reached greatest rank falling greatest-over greatest-choices 0 refl
+    (λ x b. rw (start-0 x b) (omega arith)) unfinished
+  where
+    unfinished : (x : ℕ) → x < 3 → Unfinished g x
+    unfinished zero i = refl
+    unfinished (suc zero) i = refl
+    unfinished (suc (suc zero)) i = refl
+    unfinished (suc (suc (suc x))) i = absurd (omega arith)
+
+-- ---- the least delay
+
+least-over : LeastValues g (lows g) Valued least
+unfolding to low
+least-over = record {
+  at-final = λ s f. rw (final-3 s f) (lit< tt, omega arith);
+  over = λ s t u d h. P1-cases (λ s t. (s < 4) × (least s ≤ low g t + least (to g t)))
+      (lit< tt, omega arith) (lit< tt, omega arith) (lit< tt, omega arith) (lit< tt, omega arith) s t d;
+}
+
+least-choices : Choices g (lows g) Valued least rank
+unfolding final from to low
+least-choices = record { at-final = λ s f. rw (final-3 s f) refl; choice = choice }
+  where
+    choice : (s : ℕ) → s < 4 → Unfinished g s → Choice g (lows g) Valued least rank s
+    choice zero i u = take (lows g) Valued least 0 0 tt refl refl (λ v. (lit< tt, lit< tt))
+    choice (suc zero) i u = take (lows g) Valued least 1 2 tt refl refl (λ v. (lit< tt, lit< tt))
+    choice (suc (suc zero)) i u = take (lows g) Valued least 2 3 tt refl refl (λ v. (lit< tt, lit< tt))
+    choice (suc (suc (suc zero))) i u = absurd (true≢false u)
+    choice (suc (suc (suc (suc s)))) i u = absurd (omega arith)
+
+pub P1-least-certified : IsLeast g (lows g) (number 7)
+unfolding start
+P1-least-certified =
+    least-number g (lows g) Valued least rank least-over least-choices 0 refl (lit< tt)
+    (λ x b i. rw (start-0 x b) (omega arith))
