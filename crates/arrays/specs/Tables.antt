@@ -3,7 +3,6 @@ use mathlib.Core.List.{List, [], _∷_, _++_}
 use Prim.Native.Nat.{ℕ, zero, suc}
 use lib.ListN.{getD}
 use Rattle.graph.specs.Graph.{Transition}
-use Rattle.arrays.specs.declared.Transition.{Transition as Value}
 
 -- the list of f 0 up to f (n - 1)
 unfoldable pub tabulate : {A : Type 0} → ℕ → (ℕ → A) → List A
@@ -25,7 +24,3 @@ transitionsOf m from to low high = tabulate m (transitionOf from to low high)
 -- a transition by its four numbers
 abbrev pub transition : ℕ → ℕ → ℕ → ℕ → Transition
 transition from to low high = record { from = from; to = to; low = low; high = high }
-
--- the transition that a value of the code stands for
-abbrev pub meant : Value → Transition
-meant t = transition (t .from) (t .to) (t .low) (t .high)

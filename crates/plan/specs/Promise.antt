@@ -5,6 +5,7 @@ use mathlib.Core.Path.{_≡_}
 use Prim.Native.Nat.{ℕ}
 use Rattle.graph.specs.Graph.{Graph}
 use Rattle.rules.specs.declared.Answer.{Answer}
+use Rattle.rules.specs.declared.Refusal.{Refusal}
 use Rattle.rules.specs.Calls.{Call, step}
 use Rattle.rules.specs.Refusal.{Result, accepted, refused, number, answerOf, said}
 use Rattle.rules.specs.Rules.{next, writeRule, written}
@@ -13,6 +14,13 @@ use Rattle.plan.specs.declared.Edited.{Edited}
 use Rattle.plan.specs.declared.Written.{Written}
 use Rattle.plan.specs.declared.Written.the-variants.{Length, Refused}
 use Rattle.plan.specs.View.{view}
+
+-- what a call returns: a refusal with the plan as it was, or the plan that it made
+abbrev pub refusing : Plan → Refusal → Edited
+refusing p r = record { answer = Answer.Refused r; plan = p }
+
+abbrev pub accepting : Plan → Edited
+accepting p = record { answer = Answer.Accepted; plan = p }
 
 -- a call that was given the plan p and for which the rules give o: its answer and the plan afterwards are the rules', and a refusal returns
 -- the very plan value that was passed in

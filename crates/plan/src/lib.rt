@@ -4,7 +4,11 @@ ghost use Rattle.rules.specs.Limits.{within as withinLimits};
 ghost use Rattle.rules.specs.Rules.{freshRule, markRule, joinRule, unjoinRule, readRule};
 ghost use Rattle.arrays.specs.Tables.{transition};
 ghost use Rattle.plan.specs.View.{view, blankPlan, noPlan};
-ghost use Rattle.plan.specs.Promise.{Edit, Write};
+ghost use Rattle.plan.specs.Promise.{Edit, Write, refusing, accepting};
+use arrays::limits;
+use arrays::places;
+use image::reading;
+use image::writing;
 use rules::Answer;
 use rules::Refusal;
 
@@ -37,21 +41,41 @@ pub fn within(plan: Plan) -> bool
 {
     let n = plan.states;
     let m = plan.transitions;
-    if !arrays::limits::state_count_ok(n) {
+    if !limits::state_count_ok(n) {
         return false;
     }
     if 2048 < m {
         return false;
     }
     let marks = plan.marks;
-    if !arrays::limits::marks_within(&marks, n) {
+    if !limits::marks_within(&marks, n) {
         return false;
     }
     let from = plan.from;
     let to = plan.to;
     let low = plan.low;
     let high = plan.high;
-    arrays::limits::transitions_within(&from, &to, &low, &high, n, m)
+    limits::transitions_within(&from, &to, &low, &high, n, m)
+}
+
+// A refusal, with the plan as it was.
+fn refuse(plan: Plan, refusal: Refusal) -> Edited
+    ensures { λ r. ⌜ r ≡ refusing plan refusal ⌝ }
+{
+    Edited {
+        answer: Answer::Refused(refusal),
+        plan,
+    }
+}
+
+// An accepted call, with the plan that it made.
+fn accept(plan: Plan) -> Edited
+    ensures { λ r. ⌜ r ≡ accepting plan ⌝ }
+{
+    Edited {
+        answer: Answer::Accepted,
+        plan,
+    }
 }
 
 // The plan with n states, all marks 0 and no transitions.
@@ -73,16 +97,10 @@ fn blank(n: usize) -> Plan
 pub fn fresh(n: usize) -> Edited
     ensures { λ r. ⌜ Edit noPlan (freshRule n) r ⌝ }
 {
-    if !arrays::limits::state_count_ok(n) {
-        return Edited {
-            answer: Answer::Refused(Refusal::StateCount),
-            plan: blank(0),
-        };
+    if !limits::state_count_ok(n) {
+        return refuse(blank(0), Refusal::StateCount);
     }
-    Edited {
-        answer: Answer::Accepted,
-        plan: blank(n),
-    }
+    accept(blank(n))
 }
 
 // Makes a state's marks value the value given.
@@ -90,29 +108,18 @@ pub fn mark(plan: Plan, state: usize, value: usize) -> Edited
     ensures { λ r. ⌜ Edit plan (markRule (view plan) state value) r ⌝ }
 {
     if !within(plan) {
-        return Edited {
-            answer: Answer::Refused(Refusal::PlanLimits),
-            plan: plan,
-        };
+        return refuse(plan, Refusal::PlanLimits);
     }
-    if plan.states <= state {
-        return Edited {
-            answer: Answer::Refused(Refusal::StateNumber),
-            plan: plan,
-        };
+    let n = plan.states;
+    if n <= state {
+        return refuse(plan, Refusal::StateNumber); // 7: the state
     }
     if 7 < value {
-        return Edited {
-            answer: Answer::Refused(Refusal::MarksValue),
-            plan: plan,
-        };
+        return refuse(plan, Refusal::MarksValue); // 12: the value
     }
-    let mut next = plan;
-    next.marks[state] = value as u8;
-    Edited {
-        answer: Answer::Accepted,
-        plan: next,
-    }
+    let mut marked = plan;
+    marked.marks[state] = value as u8;
+    accept(marked)
 }
 
 // Puts a transition at the end of the list.
@@ -120,41 +127,28 @@ pub fn join(plan: Plan, from: usize, to: usize, low: usize, high: usize) -> Edit
     ensures { λ r. ⌜ Edit plan (joinRule (view plan) (transition from to low high)) r ⌝ }
 {
     if !within(plan) {
-        return Edited {
-            answer: Answer::Refused(Refusal::PlanLimits),
-            plan: plan,
-        };
+        return refuse(plan, Refusal::PlanLimits);
     }
     let n = plan.states;
     let m = plan.transitions;
-    if !arrays::limits::ends_ok(n, from, to) {
-        return Edited {
-            answer: Answer::Refused(Refusal::StateNumber),
-            plan: plan,
-        };
+    let ends = limits::ends_ok(n, from, to);
+    let durations = limits::durations_ok(low, high);
+    if !ends {
+        return refuse(plan, Refusal::StateNumber); // 7: from or to
     }
-    if !arrays::limits::durations_ok(low, high) {
-        return Edited {
-            answer: Answer::Refused(Refusal::Duration),
-            plan: plan,
-        };
+    if !durations {
+        return refuse(plan, Refusal::Duration); // 8: low or high
     }
     if 2048 <= m {
-        return Edited {
-            answer: Answer::Refused(Refusal::ListFull),
-            plan: plan,
-        };
+        return refuse(plan, Refusal::ListFull); // 9: the list
     }
-    let mut next = plan;
-    next.from[m] = from as u16;
-    next.to[m] = to as u16;
-    next.low[m] = low as u16;
-    next.high[m] = high as u16;
-    next.transitions = m + 1;
-    Edited {
-        answer: Answer::Accepted,
-        plan: next,
-    }
+    let mut joined = plan;
+    joined.from[m] = from as u16;
+    joined.to[m] = to as u16;
+    joined.low[m] = low as u16;
+    joined.high[m] = high as u16;
+    joined.transitions = m + 1;
+    accept(joined)
 }
 
 // Takes a transition out of the list; later ones move down by one.
@@ -162,17 +156,11 @@ pub fn unjoin(plan: Plan, number: usize) -> Edited
     ensures { λ r. ⌜ Edit plan (unjoinRule (view plan) number) r ⌝ }
 {
     if !within(plan) {
-        return Edited {
-            answer: Answer::Refused(Refusal::PlanLimits),
-            plan: plan,
-        };
+        return refuse(plan, Refusal::PlanLimits);
     }
     let m = plan.transitions;
     if m <= number {
-        return Edited {
-            answer: Answer::Refused(Refusal::TransitionNumber),
-            plan: plan,
-        };
+        return refuse(plan, Refusal::TransitionNumber);
     }
     let n = plan.states;
     let marks = plan.marks;
@@ -183,16 +171,13 @@ pub fn unjoin(plan: Plan, number: usize) -> Edited
     let kept = Plan {
         states: n,
         transitions: m - 1,
-        marks: marks,
-        from: arrays::places::without(from, number, m),
-        to: arrays::places::without(to, number, m),
-        low: arrays::places::without(low, number, m),
-        high: arrays::places::without(high, number, m),
+        marks,
+        from: places::without(from, number, m),
+        to: places::without(to, number, m),
+        low: places::without(low, number, m),
+        high: places::without(high, number, m),
     };
-    Edited {
-        answer: Answer::Accepted,
-        plan: kept,
-    }
+    accept(kept)
 }
 
 // Reads an image. An accepted one replaces the whole plan.
@@ -200,60 +185,37 @@ pub fn read(plan: Plan, octets: &[u8]) -> Edited
     ensures { λ r. ⌜ Edit plan (readRule (view plan) (now (octets .entry))) r ⌝ }
 {
     if !within(plan) {
-        return Edited {
-            answer: Answer::Refused(Refusal::PlanLimits),
-            plan: plan,
-        };
+        return refuse(plan, Refusal::PlanLimits);
     }
-    let head = arrays::reading::header(octets);
+    let head = reading::header(octets);
     if let Answer::Refused(r) = head {
-        return Edited {
-            answer: Answer::Refused(r),
-            plan: plan,
-        };
+        return refuse(plan, r);
     }
-    let n = arrays::reading::state_count(octets);
-    let m = arrays::reading::transition_count(octets);
+    let n = reading::state_count(octets);
+    let m = reading::transition_count(octets);
     let mut marks = [0u8; 512];
-    let states = arrays::reading::states(octets, n, &mut marks);
-    if let Answer::Refused(r) = states {
-        return Edited {
-            answer: Answer::Refused(r),
-            plan: plan,
-        };
+    let marked = reading::states(octets, n, &mut marks);
+    if let Answer::Refused(r) = marked {
+        return refuse(plan, r);
     }
     let mut from = [0u16; 2048];
     let mut to = [0u16; 2048];
     let mut low = [0u16; 2048];
     let mut high = [0u16; 2048];
-    let transitions = arrays::reading::transitions(
-        octets,
-        n,
-        m,
-        &mut from,
-        &mut to,
-        &mut low,
-        &mut high,
-    );
-    if let Answer::Refused(r) = transitions {
-        return Edited {
-            answer: Answer::Refused(r),
-            plan: plan,
-        };
+    let listed = reading::transitions(octets, n, m, &mut from, &mut to, &mut low, &mut high);
+    if let Answer::Refused(r) = listed {
+        return refuse(plan, r);
     }
-    let next = Plan {
+    let image = Plan {
         states: n,
         transitions: m,
-        marks: marks,
-        from: from,
-        to: to,
-        low: low,
-        high: high,
+        marks,
+        from,
+        to,
+        low,
+        high,
     };
-    Edited {
-        answer: Answer::Accepted,
-        plan: next,
-    }
+    accept(image)
 }
 
 // Puts the image at the front of the buffer, and returns its length.
@@ -274,8 +236,8 @@ pub fn write(plan: Plan, buffer: &mut [u8]) -> Written
     let to = plan.to;
     let low = plan.low;
     let high = plan.high;
-    arrays::writing::header(buffer, n, m);
-    arrays::writing::states(buffer, &marks, n);
-    arrays::writing::transitions(buffer, n, m, &from, &to, &low, &high);
+    writing::header(buffer, n, m);
+    writing::states(buffer, &marks, n);
+    writing::transitions(buffer, n, m, &from, &to, &low, &high);
     Written::Length(length)
 }

@@ -2,5 +2,6 @@ pub mod Results
 pub mod Fields
 pub mod ReadWrite
 pub mod Kept
+pub mod Order
 pub mod Grounds
 pub mod Vectors

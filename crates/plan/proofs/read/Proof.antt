@@ -29,22 +29,28 @@ use Rattle.plan.proofs.read.Statement.{statement}
 use Rattle.plan.proofs.read.Tie as tie
 use Rattle.plan.proofs.read.Reads as reads
 use Rattle.plan.proofs.read.Lts as lts
-use Rattle.arrays.proofs.reading.header.Reads as header-reads
-use Rattle.arrays.proofs.reading.state_count.Reads as state-count-reads
-use Rattle.arrays.proofs.reading.states.Reads as states-reads
-use Rattle.arrays.proofs.reading.transition_count.Reads as transition-count-reads
-use Rattle.arrays.proofs.reading.transitions.Reads as transitions-reads
+use Rattle.image.proofs.reading.header.Reads as header-reads
+use Rattle.image.proofs.reading.state_count.Reads as state-count-reads
+use Rattle.image.proofs.reading.states.Reads as states-reads
+use Rattle.image.proofs.reading.transition_count.Reads as transition-count-reads
+use Rattle.image.proofs.reading.transitions.Reads as transitions-reads
 use Rattle.plan.proofs.within.Reads as within-reads
+use Rattle.plan.proofs.accept.Reads as accept-reads
+use Rattle.plan.proofs.refuse.Reads as refuse-reads
 
 within-requires : tie.Need-within-requires
 within-requires c κs = search needs
 
+refuse-requires : tie.Need-refuse-requires
+refuse-requires c κs = search needs
+
 returns : tie.Need-returns
 unfolding readRule readImage
 returns c =
-    let p = c .before .before .before .args .plan in
-    let w : within (view p) ≡ false = sym (c .before .within .ensures) ∙ not-true _ (c .if1 .taken) in
-    refusal p (readRule (view p) (c .before .before .before .args .octets .now)) PlanLimits (rw w)
+    let p = c .before .before .before .before .args .plan in
+    let w : within (view p) ≡ false = sym (c .before .before .within .ensures) ∙ not-true _ (c .before .if1 .taken) in
+    rw (c .refuse .ensures)
+    (refusal p (readRule (view p) (c .before .before .before .before .args .octets .now)) PlanLimits (rw w))
 
 header-requires : tie.Need-header-requires
 header-requires c κs = search needs
@@ -52,14 +58,18 @@ header-requires c κs = search needs
 enum-known-head : tie.Need-enum-known-head
 enum-known-head c = search needs
 
+refuse-requires-2 : tie.Need-refuse-requires-2
+refuse-requires-2 c κs = search needs
+
 returns-2 : tie.Need-returns-2
 unfolding readRule readImage
 returns-2 c =
-    let p = c .before .before .before .before .before .before .before .args .plan in
-    let os = c .before .before .before .before .before .before .before .args .octets .now in
-    let w : within (view p) ≡ true = sym (c .before .before .before .before .before .within .ensures) ∙ not-false _ (c .before .before .before .before .if1 .left) in
-    let h : headerRule os ≡ refused (number (c .before .head .given .0 .0)) = sym (c .before .before .before .header .ensures) ∙ ap said (c .before .head .given .1) in
-    refusal p (readRule (view p) os) (c .before .head .given .0 .0) (rw (w, h))
+    let p = c .before .before .before .before .before .before .before .before .args .plan in
+    let os = c .before .before .before .before .before .before .before .before .args .octets .now in
+    let w : within (view p) ≡ true = sym (c .before .before .before .before .before .before .within .ensures) ∙ not-false _ (c .before .before .before .before .before .if1 .left) in
+    let h : headerRule os ≡ refused (number (c .before .before .head .given .0 .0)) = sym (c .before .before .before .before .header .ensures) ∙ ap said (c .before .before .head .given .1) in
+    rw (c .refuse2 .ensures)
+    (refusal p (readRule (view p) os) (c .before .before .head .given .0 .0) (rw (w, h)))
 
 enum-told : tie.Need-enum-told
 enum-told c = search needs
@@ -79,23 +89,27 @@ transition-count-requires c κs = omega (arith, head (c .before) .1 .long)
 states-requires : tie.Need-states-requires
 states-requires c κs = omega (arith, head (c .before .before .before) .1, c .before .before .state-count .ensures, c .before .transition-count .ensures)
 
-enum-known-states : tie.Need-enum-known-states
-enum-known-states c = search needs
+enum-known-marked : tie.Need-enum-known-marked
+enum-known-marked c = search needs
+
+refuse-requires-3 : tie.Need-refuse-requires-3
+refuse-requires-3 c κs = search needs
 
 returns-3 : tie.Need-returns-3
 unfolding readRule readImage
 returns-3 c =
-    let p = c .before .before .before .before .before .before .before .before .before .before .before .before .before .args .plan in
-    let os = c .before .before .before .before .before .before .before .before .before .before .before .before .before .args .octets .now in
-    let n = c .before .before .before .before .before .before .state-count .result in
-    let m = c .before .before .before .before .before .transition-count .result in
-    let w : within (view p) ≡ true = sym (c .before .before .before .before .before .before .before .before .before .before .before .within .ensures) ∙ not-false _ (c .before .before .before .before .before .before .before .before .before .before .if1 .left) in
-    let h : headerRule os ≡ accepted tt = head (c .before .before .before .before .before .before .before) .0 in
-    let en : stateCountOf os ≡ n = sym (c .before .before .before .before .before .before .state-count .ensures) in
-    let em : transitionCountOf os ≡ m = sym (c .before .before .before .before .before .transition-count .ensures) in
-    let r = c .before .states2 .given .0 .0 in
-    let s : statesIn os n ≡ refused (number r) = sym (c .before .before .before .states .ensures) ∙ ap (λ (x : Answer). outcome x (marksOf n (c .before .before .before .states .last .1 .1 .0))) (c .before .states2 .given .1) in
-    refusal p (readRule (view p) os) r (rw (w, h, en, s))
+    let p = c .before .before .before .before .before .before .before .before .before .before .before .before .before .before .args .plan in
+    let os = c .before .before .before .before .before .before .before .before .before .before .before .before .before .before .args .octets .now in
+    let n = c .before .before .before .before .before .before .before .state-count .result in
+    let m = c .before .before .before .before .before .before .transition-count .result in
+    let w : within (view p) ≡ true = sym (c .before .before .before .before .before .before .before .before .before .before .before .before .within .ensures) ∙ not-false _ (c .before .before .before .before .before .before .before .before .before .before .before .if1 .left) in
+    let h : headerRule os ≡ accepted tt = head (c .before .before .before .before .before .before .before .before) .0 in
+    let en : stateCountOf os ≡ n = sym (c .before .before .before .before .before .before .before .state-count .ensures) in
+    let em : transitionCountOf os ≡ m = sym (c .before .before .before .before .before .before .transition-count .ensures) in
+    let r = c .before .before .marked .given .0 .0 in
+    let s : statesIn os n ≡ refused (number r) = sym (c .before .before .before .before .states .ensures) ∙ ap (λ (x : Answer). outcome x (marksOf n (c .before .before .before .before .states .last .1 .1 .0))) (c .before .before .marked .given .1) in
+    rw (c .refuse3 .ensures)
+    (refusal p (readRule (view p) os) r (rw (w, h, en, s)))
 
 enum-told-2 : tie.Need-enum-told-2
 enum-told-2 c = search needs
@@ -103,12 +117,39 @@ enum-told-2 c = search needs
 transitions-requires : tie.Need-transitions-requires
 transitions-requires c κs = omega (arith, head (c .before .before .before .before .before .before .before .before .before .before) .1, c .before .before .before .before .before .before .before .before .before .state-count .ensures, c .before .before .before .before .before .before .before .before .transition-count .ensures)
 
-enum-known-transitions : tie.Need-enum-known-transitions
-enum-known-transitions c = search needs
+enum-known-listed : tie.Need-enum-known-listed
+enum-known-listed c = search needs
+
+refuse-requires-4 : tie.Need-refuse-requires-4
+refuse-requires-4 c κs = search needs
 
 returns-4 : tie.Need-returns-4
 unfolding readRule readImage
 returns-4 c =
+    let p = c .before .before .before .before .before .before .before .before .before .before .before .before .before .before .before .before .before .before .before .before .before .args .plan in
+    let os = c .before .before .before .before .before .before .before .before .before .before .before .before .before .before .before .before .before .before .before .before .before .args .octets .now in
+    let n = c .before .before .before .before .before .before .before .before .before .before .before .before .before .before .state-count .result in
+    let m = c .before .before .before .before .before .before .before .before .before .before .before .before .before .transition-count .result in
+    let w : within (view p) ≡ true = sym (c .before .before .before .before .before .before .before .before .before .before .before .before .before .before .before .before .before .before .before .within .ensures) ∙ not-false _ (c .before .before .before .before .before .before .before .before .before .before .before .before .before .before .before .before .before .before .if1 .left) in
+    let h : headerRule os ≡ accepted tt = head (c .before .before .before .before .before .before .before .before .before .before .before .before .before .before .before) .0 in
+    let en : stateCountOf os ≡ n = sym (c .before .before .before .before .before .before .before .before .before .before .before .before .before .before .state-count .ensures) in
+    let em : transitionCountOf os ≡ m = sym (c .before .before .before .before .before .before .before .before .before .before .before .before .before .transition-count .ensures) in
+    let ms = marksOf n (c .before .before .before .before .before .before .before .before .before .before .before .states .last .1 .1 .0) in
+    let s : statesIn os n ≡ accepted ms = sym (c .before .before .before .before .before .before .before .before .before .before .before .states .ensures) ∙ ap (λ (x : Answer). outcome x ms) (c .before .before .before .before .before .before .before .before .before .enum-told2 .given .1) in
+    let r = c .before .before .listed .given .0 .0 in
+    let t : transitionsIn os n m ≡ refused (number r) = sym (c .before .before .before .before .transitions .ensures) ∙ ap (λ (x : Answer). outcome x (transitionsOf m (c .before .before .before .before .transitions .last .1 .1 .1 .0) (c .before .before .before .before .transitions .last .1 .1 .1 .1 .0) (c .before .before .before .before .transitions .last .1 .1 .1 .1 .1 .0) (c .before .before .before .before .transitions .last .1 .1 .1 .1 .1 .1 .0))) (c .before .before .listed .given .1) in
+    rw (c .refuse4 .ensures)
+    (refusal p (readRule (view p) os) r (rw (w, h, en, em, s, t)))
+
+enum-told-3 : tie.Need-enum-told-3
+enum-told-3 c = search needs
+
+accept-requires : tie.Need-accept-requires
+accept-requires c κs = search needs
+
+returns-5 : tie.Need-returns-5
+unfolding readRule readImage view
+returns-5 c =
     let p = c .before .before .before .before .before .before .before .before .before .before .before .before .before .before .before .before .before .before .before .before .args .plan in
     let os = c .before .before .before .before .before .before .before .before .before .before .before .before .before .before .before .before .before .before .before .before .args .octets .now in
     let n = c .before .before .before .before .before .before .before .before .before .before .before .before .before .state-count .result in
@@ -119,48 +160,34 @@ returns-4 c =
     let em : transitionCountOf os ≡ m = sym (c .before .before .before .before .before .before .before .before .before .before .before .before .transition-count .ensures) in
     let ms = marksOf n (c .before .before .before .before .before .before .before .before .before .before .states .last .1 .1 .0) in
     let s : statesIn os n ≡ accepted ms = sym (c .before .before .before .before .before .before .before .before .before .before .states .ensures) ∙ ap (λ (x : Answer). outcome x ms) (c .before .before .before .before .before .before .before .before .enum-told2 .given .1) in
-    let r = c .before .transitions2 .given .0 .0 in
-    let t : transitionsIn os n m ≡ refused (number r) = sym (c .before .before .before .transitions .ensures) ∙ ap (λ (x : Answer). outcome x (transitionsOf m (c .before .before .before .transitions .last .1 .1 .1 .0) (c .before .before .before .transitions .last .1 .1 .1 .1 .0) (c .before .before .before .transitions .last .1 .1 .1 .1 .1 .0) (c .before .before .before .transitions .last .1 .1 .1 .1 .1 .1 .0))) (c .before .transitions2 .given .1) in
-    refusal p (readRule (view p) os) r (rw (w, h, en, em, s, t))
-
-enum-told-3 : tie.Need-enum-told-3
-enum-told-3 c = search needs
-
-returns-5 : tie.Need-returns-5
-unfolding readRule readImage view
-returns-5 c =
-    let p = c .before .before .before .before .before .before .before .before .before .before .before .before .before .before .before .before .before .before .before .args .plan in
-    let os = c .before .before .before .before .before .before .before .before .before .before .before .before .before .before .before .before .before .before .before .args .octets .now in
-    let n = c .before .before .before .before .before .before .before .before .before .before .before .before .state-count .result in
-    let m = c .before .before .before .before .before .before .before .before .before .before .before .transition-count .result in
-    let w : within (view p) ≡ true = sym (c .before .before .before .before .before .before .before .before .before .before .before .before .before .before .before .before .before .within .ensures) ∙ not-false _ (c .before .before .before .before .before .before .before .before .before .before .before .before .before .before .before .before .if1 .left) in
-    let h : headerRule os ≡ accepted tt = head (c .before .before .before .before .before .before .before .before .before .before .before .before .before) .0 in
-    let en : stateCountOf os ≡ n = sym (c .before .before .before .before .before .before .before .before .before .before .before .before .state-count .ensures) in
-    let em : transitionCountOf os ≡ m = sym (c .before .before .before .before .before .before .before .before .before .before .before .transition-count .ensures) in
-    let ms = marksOf n (c .before .before .before .before .before .before .before .before .before .states .last .1 .1 .0) in
-    let s : statesIn os n ≡ accepted ms = sym (c .before .before .before .before .before .before .before .before .before .states .ensures) ∙ ap (λ (x : Answer). outcome x ms) (c .before .before .before .before .before .before .before .enum-told2 .given .1) in
-    let ts = transitionsOf m (c .before .before .transitions .last .1 .1 .1 .0) (c .before .before .transitions .last .1 .1 .1 .1 .0) (c .before .before .transitions .last .1 .1 .1 .1 .1 .0) (c .before .before .transitions .last .1 .1 .1 .1 .1 .1 .0) in
-    let t : transitionsIn os n m ≡ accepted ts = sym (c .before .before .transitions .ensures) ∙ ap (λ (x : Answer). outcome x ts) (c .enum-told3 .given .1) in
-    acceptance p _ (readRule (view p) os) (record { marks = ms; transitions = ts }) (rw (w, h, en, em, s, t)) refl
+    let ts = transitionsOf m (c .before .before .before .transitions .last .1 .1 .1 .0) (c .before .before .before .transitions .last .1 .1 .1 .1 .0) (c .before .before .before .transitions .last .1 .1 .1 .1 .1 .0) (c .before .before .before .transitions .last .1 .1 .1 .1 .1 .1 .0) in
+    let t : transitionsIn os n m ≡ accepted ts = sym (c .before .before .before .transitions .ensures) ∙ ap (λ (x : Answer). outcome x ts) (c .before .enum-told3 .given .1) in
+    rw (c .accept .ensures)
+    (acceptance p _ (readRule (view p) os) (record { marks = ms; transitions = ts }) (rw (w, h, en, em, s, t)) refl)
 
 pub read-spec : {M : Type 1} → statement M
 read-spec =
     tie.close
     (tie.spec
     within-requires
+    refuse-requires
     returns
     header-requires
     enum-known-head
+    refuse-requires-2
     returns-2
     enum-told
     state-count-requires
     transition-count-requires
     states-requires
-    enum-known-states
+    enum-known-marked
+    refuse-requires-3
     returns-3
     enum-told-2
     transitions-requires
-    enum-known-transitions
+    enum-known-listed
+    refuse-requires-4
     returns-4
     enum-told-3
+    accept-requires
     returns-5)

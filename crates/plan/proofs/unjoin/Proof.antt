@@ -24,26 +24,40 @@ use Rattle.plan.proofs.unjoin.Reads as reads
 use Rattle.plan.proofs.unjoin.Lts as lts
 use Rattle.arrays.proofs.places.without.Reads as without-reads
 use Rattle.plan.proofs.within.Reads as within-reads
+use Rattle.plan.proofs.accept.Reads as accept-reads
+use Rattle.plan.proofs.refuse.Reads as refuse-reads
 
 within-requires : tie.Need-within-requires
 within-requires c κs = search needs
 
+refuse-requires : tie.Need-refuse-requires
+refuse-requires c κs = search needs
+
+-- the arrays of a plan value have their lengths
+lengths : (c : tie.Start) → (length (c .args .plan .from) ≡ 2048) × (length (c .args .plan .to) ≡ 2048) × (length (c .args .plan .low) ≡ 2048) × (length (c .args .plan .high) ≡ 2048)
+lengths c = (search needs, search needs, search needs, search needs)
+
 returns : tie.Need-returns
 unfolding unjoinRule
 returns c =
-    let p = c .before .before .args .plan in
-    let w : within (view p) ≡ false = sym (c .before .within .ensures) ∙ not-true _ (c .if1 .taken) in
-    refusal p (unjoinRule (view p) (c .before .before .args .number)) PlanLimits (rw w)
+    let p = c .before .before .before .args .plan in
+    let w : within (view p) ≡ false = sym (c .before .before .within .ensures) ∙ not-true _ (c .before .if1 .taken) in
+    rw (c .refuse .ensures)
+    (refusal p (unjoinRule (view p) (c .before .before .before .args .number)) PlanLimits (rw w))
+
+refuse-requires-2 : tie.Need-refuse-requires-2
+refuse-requires-2 c κs = search needs
 
 returns-2 : tie.Need-returns-2
 unfolding unjoinRule
 returns-2 c =
-    let p = c .before .before .before .args .plan in
-    let w : within (view p) ≡ true = sym (c .before .before .within .ensures) ∙ not-false _ (c .before .if1 .left) in
-    refusal p (unjoinRule (view p) (c .before .before .before .args .number)) TransitionNumber (rw (w, count-view p, le-leb (p .transitions) (c .before .before .before .args .number) (c .if2 .taken)))
+    let p = c .before .before .before .before .args .plan in
+    let w : within (view p) ≡ true = sym (c .before .before .before .within .ensures) ∙ not-false _ (c .before .before .if1 .left) in
+    rw (c .refuse2 .ensures)
+    (refusal p (unjoinRule (view p) (c .before .before .before .before .args .number)) TransitionNumber (rw (w, count-view p, le-leb (p .transitions) (c .before .before .before .before .args .number) (c .before .if2 .taken))))
 
-sub-t17 : tie.Need-sub-t17
-sub-t17 c = search needs
+sub-t15 : tie.Need-sub-t15
+sub-t15 c = search needs
 
 room : (c : tie.After-high) → (c .before .before .before .before .before .before .before .before .args .number < c .before .before .before .before .before .before .before .before .args .plan .transitions) × (c .before .before .before .before .before .before .before .before .args .plan .transitions ≤ 2048)
 room c =
@@ -63,33 +77,37 @@ without-requires-3 c κs = room (c .before .before)
 without-requires-4 : tie.Need-without-requires-4
 without-requires-4 c κs = room (c .before .before .before)
 
+accept-requires : tie.Need-accept-requires
+accept-requires c κs = search needs
+
 returns-3 : tie.Need-returns-3
 unfolding unjoinRule
 returns-3 c =
-    let p = c .before .before .before .before .before .before .before .before .before .before .before .before .args .plan in
-    let k = c .before .before .before .before .before .before .before .before .before .before .before .before .args .number in
-    let w : within (view p) ≡ true = sym (c .before .before .before .before .before .before .before .before .before .before .before .within .ensures) ∙ not-false _ (c .before .before .before .before .before .before .before .before .before .before .if1 .left) in
-    let r = room (c .before .before .before .before) in
-    let lf : length (p .from) ≡ 2048 = search needs in
-    let lt : length (p .to) ≡ 2048 = search needs in
-    let ll : length (p .low) ≡ 2048 = search needs in
-    let lh : length (p .high) ≡ 2048 = search needs in
-    let e : record { states = p .states; transitions = p .transitions - 1; marks = p .marks; from = c .before .before .before .without .result; to = c .before .before .without2 .result; low = c .before .without3 .result; high = c .without4 .result } ≡ unjoined p k =
-    λ i. record { states = p .states; transitions = p .transitions - 1; marks = p .marks; from = c .before .before .before .without .ensures i; to = c .before .before .without2 .ensures i; low = c .before .without3 .ensures i; high = c .without4 .ensures i } in
-    acceptance p _ (unjoinRule (view p) k) (without (view p) k)
+    let p = c .before .before .before .before .before .before .before .before .before .before .before .before .before .args .plan in
+    let k = c .before .before .before .before .before .before .before .before .before .before .before .before .before .args .number in
+    let w : within (view p) ≡ true = sym (c .before .before .before .before .before .before .before .before .before .before .before .before .within .ensures) ∙ not-false _ (c .before .before .before .before .before .before .before .before .before .before .before .if1 .left) in
+    let r = room (c .before .before .before .before .before) in
+    let z = lengths (c .before .before .before .before .before .before .before .before .before .before .before .before .before) in
+    let e : record { states = p .states; transitions = p .transitions - 1; marks = p .marks; from = c .before .before .before .before .without .result; to = c .before .before .before .without2 .result; low = c .before .before .without3 .result; high = c .before .without4 .result } ≡ unjoined p k =
+    λ i. record { states = p .states; transitions = p .transitions - 1; marks = p .marks; from = c .before .before .before .before .without .ensures i; to = c .before .before .before .without2 .ensures i; low = c .before .before .without3 .ensures i; high = c .before .without4 .ensures i } in
+    rw (c .accept .ensures)
+    (acceptance p _ (unjoinRule (view p) k) (without (view p) k)
     (rw (w, count-view p, lt-leb (p .transitions) k (r .0)))
-    (ap view e ∙ view-unjoined p k (r .0) (omega arith) (omega arith) (omega arith) (omega arith))
+    (ap view e ∙ view-unjoined p k (r .0) (omega arith) (omega arith) (omega arith) (omega arith)))
 
 pub unjoin-spec : {M : Type 1} → statement M
 unjoin-spec =
     tie.close
     (tie.spec
     within-requires
+    refuse-requires
     returns
+    refuse-requires-2
     returns-2
-    sub-t17
+    sub-t15
     without-requires
     without-requires-2
     without-requires-3
     without-requires-4
+    accept-requires
     returns-3)

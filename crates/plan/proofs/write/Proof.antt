@@ -24,9 +24,9 @@ use Rattle.plan.proofs.write.Statement.{statement}
 use Rattle.plan.proofs.write.Tie as tie
 use Rattle.plan.proofs.write.Reads as reads
 use Rattle.plan.proofs.write.Lts as lts
-use Rattle.arrays.proofs.writing.header.Reads as header-reads
-use Rattle.arrays.proofs.writing.states.Reads as states-reads
-use Rattle.arrays.proofs.writing.transitions.Reads as transitions-reads
+use Rattle.image.proofs.writing.header.Reads as header-reads
+use Rattle.image.proofs.writing.states.Reads as states-reads
+use Rattle.image.proofs.writing.transitions.Reads as transitions-reads
 use Rattle.plan.proofs.within.Reads as within-reads
 
 within-requires : tie.Need-within-requires

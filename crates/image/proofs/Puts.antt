@@ -1,0 +1,46 @@
+-- Fields put one after another: four of them, as the header, a state and a transition have, and those of one item more. Assumes nothing.
+use mathlib.Core.List.{List, [], _∷_, _++_, append-nil}
+use mathlib.Core.Path.{_≡_, refl, sym, ap, ap₂, _∙_}
+use Prim.Native.Nat.{ℕ, suc, _+_, _*_, _≤_, _<_}
+use native.Mathlib.Numerals.{add-one}
+use native.Mathlib.Omega.{arith}
+use lib.ListN.{length}
+use Rattle.field.specs.Field.{Field, withField, putAll, widthOfAll}
+use Rattle.field.proofs.Pack.{putAll-append}
+use Rattle.rules.specs.Image.{field, fieldsOfEach}
+use Rattle.rules.proofs.Fields.{width-each}
+use Rattle.arrays.specs.Tables.{tabulate}
+use Rattle.arrays.proofs.Lists.{length-tabulate}
+
+pub putAll-four : (os : List ℕ) (at w₁ v₁ w₂ v₂ w₃ v₃ w₄ v₄ : ℕ)
+    → withField (withField (withField (withField os at w₁ v₁) (at + w₁) w₂ v₂) (at + (w₁ + w₂)) w₃ v₃) (at + (w₁ + w₂ + w₃)) w₄ v₄
+    ≡ putAll os at (field w₁ v₁ ∷ field w₂ v₂ ∷ field w₃ v₃ ∷ field w₄ v₄ ∷ [])
+unfolding putAll
+putAll-four os at w₁ v₁ w₂ v₂ w₃ v₃ w₄ v₄ =
+    let p : at + (w₁ + w₂) ≡ at + w₁ + w₂ = omega arith in
+    let q : at + (w₁ + w₂ + w₃) ≡ at + w₁ + w₂ + w₃ = omega arith in
+    ap₂ (λ (x y : ℕ). withField (withField (withField (withField os at w₁ v₁) (at + w₁) w₂ v₂) x w₃ v₃) y w₄ v₄) p q
+
+-- one item more, of w bits each, from a base position on
+module _ {A : Type 0} (fields : A → List Field) (w : ℕ) (wide : (a : A) → widthOfAll (fields a) ≡ w) where
+  fields-append : (xs ys : List A) → fieldsOfEach fields (xs ++ ys) ≡ fieldsOfEach fields xs ++ fieldsOfEach fields ys
+  unfolding fieldsOfEach
+  fields-append [] ys = refl
+  fields-append (x ∷ xs) ys =
+      ap {B = List Field} (λ (l : List Field). fields x ++ l) (fields-append xs ys) ∙ sym (mathlib.Core.List.append-assoc (fields x) (fieldsOfEach fields xs) (fieldsOfEach fields ys))
+
+  pub put-none : (os : List ℕ) (base : ℕ) (f : ℕ → A) → os ≡ putAll os base (fieldsOfEach fields (tabulate 0 f))
+  unfolding tabulate fieldsOfEach putAll
+  put-none os base f = refl
+
+  pub put-more : (os : List ℕ) (base i : ℕ) (f : ℕ → A)
+      → putAll (putAll os base (fieldsOfEach fields (tabulate i f))) (base + w * i) (fields (f i)) ≡ putAll os base (fieldsOfEach fields (tabulate (i + 1) f))
+  unfolding tabulate fieldsOfEach
+  put-more os base i f =
+      let t : List A = tabulate i f in
+      let e : widthOfAll (fieldsOfEach fields t) ≡ w * i = width-each fields w wide t ∙ ap (λ (n : ℕ). w * n) (length-tabulate i f) in
+      sym (ap (λ (n : ℕ). putAll os base (fieldsOfEach fields (tabulate n f))) (add-one i)
+      ∙ ap (λ (l : List Field). putAll os base l)
+      (fields-append t (f i ∷ []) ∙ ap {B = List Field} (λ (l : List Field). fieldsOfEach fields t ++ l) (append-nil (fields (f i))))
+      ∙ putAll-append (fieldsOfEach fields t) (fields (f i)) os base
+      ∙ ap (λ (n : ℕ). putAll (putAll os base (fieldsOfEach fields t)) (base + n) (fields (f i))) e)

@@ -1,0 +1,84 @@
+// A plan's states and transitions, written as the fields of an image.
+ghost use mathlib.Core.Path.{_≡_};
+ghost use Prim.Native.Nat.{_+_, _*_, _≤_, _<_, _^_};
+ghost use lib.ListN.{length};
+ghost use Rattle.field.specs.Field.{Within, AllFit, putAll};
+ghost use Rattle.rules.specs.Image.{headerFields, stateFields, transitionFields, fieldsOfEach};
+ghost use Rattle.rules.specs.Limits.{all, transitionOk};
+ghost use mathlib.Core.Bool.{true};
+ghost use Rattle.arrays.specs.Tables.{marksOf, transitionOf, transitionsOf};
+
+// Puts the fields of the header at the front.
+pub fn header(buffer: &mut [u8], n: usize, m: usize)
+    requires { ⌜ (n ≤ 512) × (m ≤ 2048) × (4 ≤ length (now buffer)) ⌝ }
+    ensures { λ r. ⌜ now (buffer .exit) ≡ putAll (now (buffer .entry)) 0 (headerFields n m) ⌝ }
+{
+    field::put(buffer, 0, 4, 1);
+    field::put(buffer, 4, 10, n as u32);
+    field::put(buffer, 14, 12, m as u32);
+    field::put(buffer, 26, 6, 0);
+}
+
+// Puts the fields of a state at a bit position.
+fn state(buffer: &mut [u8], at: usize, value: u8)
+    requires { ⌜ Within (now buffer) at 8 ⌝ }
+    ensures { λ r. ⌜ now (buffer .exit) ≡ putAll (now (buffer .entry)) at (stateFields value) ⌝ }
+{
+    field::put(buffer, at, 1, (value / 4 % 2) as u32);
+    field::put(buffer, at + 1, 1, (value / 2 % 2) as u32);
+    field::put(buffer, at + 2, 1, (value % 2) as u32);
+    field::put(buffer, at + 3, 5, 0);
+}
+
+// Puts the fields of the transition at place i of the arrays at a bit position.
+fn transition(
+    buffer: &mut [u8],
+    at: usize,
+    from: &[u16; 2048],
+    to: &[u16; 2048],
+    low: &[u16; 2048],
+    high: &[u16; 2048],
+    i: usize,
+)
+    requires { ⌜ (at + 40 ≤ 8 * length (now buffer)) × (at + 40 < 2 ^ 32) × (i < 2048) ⌝ }
+    requires { ⌜ AllFit (transitionFields (transitionOf (now from) (now to) (now low) (now high) i)) ⌝ }
+    ensures { λ r. ⌜ now (buffer .exit) ≡ putAll (now (buffer .entry)) at (transitionFields (transitionOf (now (from .entry)) (now (to .entry)) (now (low .entry)) (now (high .entry)) i)) ⌝ }
+{
+    field::put(buffer, at, 9, from[i] as u32);
+    field::put(buffer, at + 9, 9, to[i] as u32);
+    field::put(buffer, at + 18, 11, low[i] as u32);
+    field::put(buffer, at + 29, 11, high[i] as u32);
+}
+
+// Puts the fields of the first n states, by number.
+pub fn states(buffer: &mut [u8], marks: &[u8; 512], n: usize)
+    requires { ⌜ (n ≤ 512) × (4 + n ≤ length (now buffer)) ⌝ }
+    ensures { λ r. ⌜ now (buffer .exit) ≡ putAll (now (buffer .entry)) 32 (fieldsOfEach stateFields (marksOf n (now (marks .entry)))) ⌝ }
+{
+    let mut i = 0;
+    while i < n {
+        state(buffer, 32 + 8 * i, marks[i]);
+        i += 1;
+    }
+}
+
+// Puts the fields of the first m transitions of a plan with n states, by number.
+pub fn transitions(
+    buffer: &mut [u8],
+    n: usize,
+    m: usize,
+    from: &[u16; 2048],
+    to: &[u16; 2048],
+    low: &[u16; 2048],
+    high: &[u16; 2048],
+)
+    requires { ⌜ (n ≤ 512) × (m ≤ 2048) × (4 + n + 5 * m ≤ length (now buffer)) ⌝ }
+    requires { ⌜ all (transitionOk n) (transitionsOf m (now from) (now to) (now low) (now high)) ≡ true ⌝ }
+    ensures { λ r. ⌜ now (buffer .exit) ≡ putAll (now (buffer .entry)) (32 + 8 * n) (fieldsOfEach transitionFields (transitionsOf m (now (from .entry)) (now (to .entry)) (now (low .entry)) (now (high .entry)))) ⌝ }
+{
+    let mut i = 0;
+    while i < m {
+        transition(buffer, 32 + 8 * n + 40 * i, from, to, low, high, i);
+        i += 1;
+    }
+}
