@@ -1,5 +1,9 @@
--- Sentences of 01 that follow from the definitions in a line or two, so that a reader can hold the definitions against
--- them; and calculators that demand 2 names, refuted. Assumes nothing.
+-- Sentences of 01 that follow from the definitions in a few lines, so that a reader can hold the definitions against
+-- them; and the impostors of 01's acceptance point 2 that a figure or a walk gives away, refuted.
+--
+-- A walk with conditions on its states is a walk, with those conditions place by place; so a route is just what 01 says,
+-- and so are the other walks (`in-words`). What is shown of a number is that number. And no figure is right for both P2
+-- and P3. Assumes nothing.
 use Prim.Native.Nat.{ℕ, _<_}
 use mathlib.Core.Path.{_≡_, sym, _∙_}
 use mathlib.Core.Logic.{_↔_}

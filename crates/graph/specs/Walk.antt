@@ -2,7 +2,7 @@
 --
 -- A walk is a state, where it begins, and a list of transition numbers: the states on it follow. What a walk must meet
 -- is said first of a walk from any state; how the walks of a plan begin is said by `FromStart` alone, and at the end
--- for an endless one. Assumes nothing.
+-- for an endless one, which begins as any walk does (`endless-is` of proofs/Sentences.antt). Assumes nothing.
 use Prim.Native.Nat.{ℕ, suc, _<_}
 use mathlib.Core.Path.{_≡_}
 use mathlib.Core.Bool.{true}
