@@ -13,9 +13,11 @@ use lib.Dec.{T, ltb, lit<}
 use Rattle.graph.specs.Graph.{Graph, Transition, count, start, final, counted, from, to, low, high, Departs}
 use Rattle.graph.specs.Walk.{Begins, Walk, Different}
 use Rattle.graph.specs.Route.{Route, GoesOnForever, StrandedFrom, EndsUnanswered, Cost, total}
-use Rattle.graph.specs.Figure.{number, NONE, STRANDED, ENDLESS, NoStart, IsLeast, IsGreatest, Shown, leastDelayCost}
+use Rattle.graph.specs.Figure.{number, NONE, STRANDED, ENDLESS, NoStart, IsLeast, IsGreatest, Shown}
+use Rattle.graph.specs.Figure.{leastDelayCost}
 use Rattle.graph.specs.Figure.{greatestDelayCost, countCost}
-use Rattle.graph.specs.Known.{join, P1, P3, P4, P6, P7, P8, P9, unreached-dead-end, reached-dead-end, counted-ends}
+use Rattle.graph.specs.Known.{join, P1, P3, P4, P6, P7, P8, P9, unreached-dead-end, reached-dead-end}
+use Rattle.graph.specs.Known.{counted-ends}
 
 -- transition t, a numeral, departs from s
 departs : (g : Graph) (s t : ℕ) → T (ltb t (count g)) → from g t ≡ s → Departs g s t

@@ -6,7 +6,8 @@
 --    a bound from below (`least-values`), greatest values one from above (`greatest-values`).
 -- 2. A rank that falls along the transitions between the unfinished states that starts reach: no walk among them is
 --    longer than the rank of its first state, so none is endless (`no-endless`); and where each of them has a
---    transition out, none is a dead end (`no-stranded`). So every start leads to an answer (`rank-answers`).
+--    transition out, none is a dead end (`no-stranded`). So every start leads to an answer (`rank-answers`), and there
+--    is a greatest value (`rank-greatest`).
 -- 3. A transition chosen at each unfinished state, that leads on with a lower rank and accounts for the value:
 --    following the choices is a route that costs the value and visits no state twice (`follow`).
 -- 4. A tree of the states found, each by a transition from a state found before it: it holds a walk from a start to
@@ -26,12 +27,14 @@ use lib.ListN.{length}
 use Rattle.graph.specs.Graph.{Graph, count, final, from, to, Departs, Final, Unfinished, DeadEnd, Closed}
 use Rattle.graph.specs.Walk.{Begins, visits, arrival, UnfinishedWalk, Different, EndlessWalk}
 use Rattle.graph.specs.Route.{RouteFrom, LeadsToAnswer, StrandedFrom, GoesOnForever, EndsUnanswered, Cost, total}
-use Rattle.graph.specs.Figure.{number, NONE, STRANDED, ENDLESS, IsLeast, IsGreatest, Shown}
-use Rattle.graph.proofs.Repeat.{nth, Apart, different-take, different-cons, different-one, different-snoc, Snoc, nth-snoc}
+use Rattle.graph.specs.Figure.{Figure, number, NONE, STRANDED, ENDLESS, IsLeast, IsGreatest, Shown}
+use Rattle.graph.specs.Compute.{greatest}
+use Rattle.graph.proofs.Repeat.{nth, Apart, different-take, different-cons, different-one, different-snoc, Snoc}
+use Rattle.graph.proofs.Repeat.{nth-snoc}
 use Rattle.graph.proofs.Build.{arrival-snoc, visits-snoc, walk-snoc, StepAt, walk-by-places, visits-by-places}
 use Rattle.graph.proofs.Walks.{state-after, state-last, with-last}
 use Rattle.graph.proofs.Endless.{shown-endless}
-use Rattle.graph.proofs.Greatest.{leads-to-answer}
+use Rattle.graph.proofs.Greatest.{leads-to-answer, greatest-is}
 
 -- ---- 1
 
@@ -115,6 +118,17 @@ module _ (g : Graph) (In : ℕ → Type 0) (rank : ℕ → ℕ) where
 
     pub rank-answers : Closed g → ((s : ℕ) → In s → (t : ℕ) × Departs g s t) → (s : ℕ) → Begins g s → LeadsToAnswer g s
     rank-answers closed out = leads-to-answer g closed no-endless (no-stranded out)
+
+    -- and there is a greatest value, where some state is marked start: no other kind is left for the figure
+    pub rank-greatest : (c : Cost) → Closed g → ((s : ℕ) → In s → (t : ℕ) × Departs g s t) → (s : ℕ) → Begins g s
+        → (k : ℕ) × IsGreatest g c (number k)
+    rank-greatest c closed out s b = go (greatest g c) (greatest-is g c closed)
+      where
+        go : (f : Figure) → IsGreatest g c f → (k : ℕ) × IsGreatest g c (number k)
+        go (number k) u = (k, u)
+        go NONE u = absurd (u s b)
+        go ENDLESS u = absurd (no-endless (u .1))
+        go STRANDED u = absurd (no-stranded out (u .2))
 
 -- ---- 3
 

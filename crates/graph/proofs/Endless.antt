@@ -22,7 +22,8 @@ use lib.ListN.{length, take}
 use lib.Seq.{length-take-le, take-take}
 use borrow.Author.Tests.{eqb-true, eqb-false}
 use Rattle.graph.specs.Graph.{Graph, states, Unfinished, Closed}
-use Rattle.graph.specs.Walk.{Begins, WalkTo, visits, arrival, UnfinishedFrom, UnfinishedWalk, Different, EndlessWalk}
+use Rattle.graph.specs.Walk.{Begins, WalkTo, visits, arrival, UnfinishedFrom, UnfinishedWalk, Different}
+use Rattle.graph.specs.Walk.{EndlessWalk}
 use Rattle.graph.specs.Route.{Cost}
 use Rattle.graph.specs.Figure.{ENDLESS, Shown}
 use Rattle.graph.proofs.Repeat.{nth, Repeat, first-repeat, repeat-below, different-take}

@@ -14,7 +14,8 @@ use Rattle.graph.specs.Route.{Cost, lows, highs}
 use Rattle.graph.specs.Figure.{number, IsLeast, IsGreatest}
 use Rattle.graph.specs.Known.{P1}
 use Rattle.graph.proofs.Repeat.{nth}
-use Rattle.graph.proofs.Certificate.{LeastValues, GreatestValues, FallingRank, Choice, Choices, least-number, greatest-number}
+use Rattle.graph.proofs.Certificate.{LeastValues, GreatestValues, FallingRank, Choice, Choices, least-number}
+use Rattle.graph.proofs.Certificate.{greatest-number}
 
 abbrev g : Graph
 g = P1 .plan

@@ -9,13 +9,15 @@ use mathlib.Core.Logic.{_↔_}
 use native.Mathlib.Omega.{arith}
 use Rattle.graph.specs.Graph.{Graph, counted}
 use Rattle.graph.specs.Route.{Cost, counts}
-use Rattle.graph.specs.Figure.{Figure, number, NONE, ENDLESS, IsLeast, IsGreatest, leastDelayCost, greatestDelayCost, countCost}
+use Rattle.graph.specs.Figure.{Figure, number, NONE, ENDLESS, IsLeast, IsGreatest, leastDelayCost, greatestDelayCost}
+use Rattle.graph.specs.Figure.{countCost}
 use Rattle.graph.proofs.Least.{least-unique}
 use Rattle.graph.proofs.Greatest.{greatest-unique}
 use Rattle.report.specs.Procedure.{Procedure, Returns}
 use Rattle.report.specs.Bounds.{Bound, finite, ∞, lower, upper}
 use Rattle.report.specs.Counts.{mincount, maxcount}
-use Rattle.report.specs.Agreement.{TotalPlan, ReportPlan, figure, leastFigure, greatestFigure, CountAgreement, Agreement}
+use Rattle.report.specs.Agreement.{TotalPlan, ReportPlan, figure, leastFigure, greatestFigure, CountAgreement}
+use Rattle.report.specs.Agreement.{Agreement}
 use Rattle.report.proofs.Loop.{returns-once}
 use Rattle.report.proofs.Chain.{lower-returns, upper-returns}
 use Rattle.report.proofs.Lower.{lower-says}
