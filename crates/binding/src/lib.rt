@@ -7,7 +7,6 @@ ghost use mathlib.Core.List.{List};
 ghost use lib.ListN.{length, take, drop};
 ghost use lib.Seq.{paste};
 ghost use Rattle.arrays.specs.Tables.{transition};
-ghost use Rattle.rules.specs.Refusal.{number as numberOf};
 ghost use Rattle.plan.specs.View.{view};
 ghost use Rattle.rules.specs.Rules.{freshRule, markRule, joinRule, unjoinRule, readRule};
 ghost use Rattle.binding.specs.Lent.{Roomy, roomy, lentPlan, planIn, slices, Later, Finished, LentEdit, LentWrite};
@@ -15,7 +14,6 @@ use plan::Edited;
 use plan::Plan;
 use plan::Written;
 use rules::Answer;
-use rules::Refusal;
 
 // Whether three lent slices have the places of a plan.
 fn has_room(counts: usize, marks: usize, fields: usize) -> bool
@@ -25,28 +23,6 @@ fn has_room(counts: usize, marks: usize, fields: usize) -> bool
         if 512 <= marks { 8192 <= fields } else { false }
     } else {
         false
-    }
-}
-
-// The number of a refusal.
-fn number(refusal: Refusal) -> u32
-    ensures { λ r. ⌜ r ≡ numberOf refusal ⌝ }
-{
-    match refusal {
-        Refusal::PlanLimits => 0,
-        Refusal::ImageShort => 1,
-        Refusal::ImageLong => 2,
-        Refusal::Version => 3,
-        Refusal::StateCount => 4,
-        Refusal::TransitionCount => 5,
-        Refusal::SpareBits => 6,
-        Refusal::StateNumber => 7,
-        Refusal::Duration => 8,
-        Refusal::ListFull => 9,
-        Refusal::TransitionNumber => 10,
-        Refusal::BufferLength => 11,
-        Refusal::MarksValue => 12,
-        Refusal::FigureSize => 13,
     }
 }
 
@@ -149,7 +125,7 @@ fn finish(edited: Edited, counts: &mut [usize], marks: &mut [u8], fields: &mut [
             store(plan, counts, marks, fields);
             256
         }
-        Answer::Refused(r) => number(r),
+        Answer::Refused(r) => rules::number(r),
     }
 }
 
@@ -279,6 +255,6 @@ pub extern "C" fn callplan_write(
     let written = plan::write(load(counts, marks, fields), buffer);
     match written {
         Written::Length(n) => 256 + n as u32,
-        Written::Refused(r) => number(r),
+        Written::Refused(r) => rules::number(r),
     }
 }

@@ -1,5 +1,8 @@
 // The grounds on which a call is refused, and the answer of a call that edits a plan. The rules themselves are definitions, in specs/.
 
+ghost use mathlib.Core.Path.{_≡_};
+ghost use Rattle.rules.specs.Refusal.{number as numberOf};
+
 // A row of document 01's table of refused calls. specs/Refusal.antt gives the number of each.
 pub enum Refusal {
     // the plan value breaks a limit of a plan
@@ -36,4 +39,26 @@ pub enum Refusal {
 pub enum Answer {
     Accepted,
     Refused(Refusal),
+}
+
+// The number of a refusal, as the table has it.
+pub fn number(refusal: Refusal) -> u32
+    ensures { λ r. ⌜ r ≡ numberOf refusal ⌝ }
+{
+    match refusal {
+        Refusal::PlanLimits => 0,
+        Refusal::ImageShort => 1,
+        Refusal::ImageLong => 2,
+        Refusal::Version => 3,
+        Refusal::StateCount => 4,
+        Refusal::TransitionCount => 5,
+        Refusal::SpareBits => 6,
+        Refusal::StateNumber => 7,
+        Refusal::Duration => 8,
+        Refusal::ListFull => 9,
+        Refusal::TransitionNumber => 10,
+        Refusal::BufferLength => 11,
+        Refusal::MarksValue => 12,
+        Refusal::FigureSize => 13,
+    }
 }

@@ -27,7 +27,7 @@ use Rattle.binding.proofs.callplan_write.Reads as reads
 use Rattle.binding.proofs.callplan_write.Lts as lts
 use Rattle.binding.proofs.has_room.Reads as has-room-reads
 use Rattle.binding.proofs.load.Reads as load-reads
-use Rattle.binding.proofs.number.Reads as number-reads
+use Rattle.rules.proofs.number.Reads as number-reads
 use Rattle.plan.proofs.write.Reads as write-reads
 
 has-room-requires : tie.Need-has-room-requires

@@ -22,7 +22,7 @@ use Rattle.binding.proofs.finish.Statement.{statement}
 use Rattle.binding.proofs.finish.Tie as tie
 use Rattle.binding.proofs.finish.Reads as reads
 use Rattle.binding.proofs.finish.Lts as lts
-use Rattle.binding.proofs.number.Reads as number-reads
+use Rattle.rules.proofs.number.Reads as number-reads
 use Rattle.binding.proofs.store.Reads as store-reads
 
 enum-told : tie.Need-enum-told
