@@ -77,64 +77,69 @@ returns-5 c =
     let p : eqb (padOf os) 0 ≡ false = ne-eqb (padOf os) 0 (λ e. c .if5 .taken (c .before .before .before .before .before .word2 .ensures ∙ e)) in
     rw (a, v, s, t, p)
 
-add-needed : tie.Need-add-needed
-add-needed c =
+-- the tests of the fields, once all have been passed
+known : (c : tie.Else5) → (ltb (length (c .before .before .before .before .before .before .before .before .before .before .before .args .octets .now)) 4 ≡ false) × (eqb (versionOf (c .before .before .before .before .before .before .before .before .before .before .before .args .octets .now)) 1 ≡ true)
+    × (stateCountOk (stateCountOf (c .before .before .before .before .before .before .before .before .before .before .before .args .octets .now)) ≡ true) × (leb (transitionCountOf (c .before .before .before .before .before .before .before .before .before .before .before .args .octets .now)) 2048 ≡ true) × (eqb (padOf (c .before .before .before .before .before .before .before .before .before .before .before .args .octets .now)) 0 ≡ true)
+known c =
+    let os = c .before .before .before .before .before .before .before .before .before .before .before .args .octets .now in
+    let a : ltb (length os) 4 ≡ false = le-ltb (length os) 4 (c .before .before .before .before .before .before .before .before .before .if1 .left) in
+    let v : eqb (versionOf os) 1 ≡ true = eq-eqb (versionOf os) 1 (sym (c .before .before .before .before .before .before .before .before .word .ensures) ∙ c .before .before .before .before .if2 .left) in
+    let s : stateCountOk (stateCountOf os) ≡ true = ap stateCountOk (sym (c .before .before .before .before .before .before .before .state-count .ensures)) ∙ sym (c .before .before .before .state-count-ok .ensures) ∙ not-false _ (c .before .before .if3 .left) in
+    let t : leb (transitionCountOf os) 2048 ≡ true = ap (λ (x : ℕ). leb x 2048) (sym (c .before .before .before .before .before .before .transition-count .ensures)) ∙ le-leb _ 2048 (c .before .if4 .left) in
+    let p : eqb (padOf os) 0 ≡ true = eq-eqb (padOf os) 0 (sym (c .before .before .before .before .before .word2 .ensures) ∙ c .if5 .left) in
+    (a, v, s, t, p)
+
+-- the length that the counts give
+needed : (c : tie.Else5) → 4 + c .before .before .before .before .before .before .before .state-count .result + 5 * c .before .before .before .before .before .before .transition-count .result ≡ imageLength (stateCountOf (c .before .before .before .before .before .before .before .before .before .before .before .args .octets .now)) (transitionCountOf (c .before .before .before .before .before .before .before .before .before .before .before .args .octets .now))
+needed c = ap₂ (λ (x y : ℕ). 4 + x + 5 * y) (c .before .before .before .before .before .before .before .state-count .ensures) (c .before .before .before .before .before .before .transition-count .ensures)
+
+-- the state count is at most 512
+few : (c : tie.Else5) → c .before .before .before .before .before .before .before .state-count .result ≤ 512
+few c =
     let n = c .before .before .before .before .before .before .before .state-count .result in
     let s : stateCountOk n ≡ true = sym (c .before .before .before .state-count-ok .ensures) ∙ not-false _ (c .before .before .if3 .left) in
-    omega (arith, leb-true n 512 (and-true (leb 1 n) (leb n 512) s .1))
+    leb-true n 512 (and-true (leb 1 n) (leb n 512) s .1)
+
+add-needed : tie.Need-add-needed
+add-needed c = omega (arith, few c)
 
 mul-needed : tie.Need-mul-needed
-mul-needed c =
-    let n = c .before .before .before .before .before .before .before .state-count .result in
-    let s : stateCountOk n ≡ true = sym (c .before .before .before .state-count-ok .ensures) ∙ not-false _ (c .before .before .if3 .left) in
-    omega (arith, leb-true n 512 (and-true (leb 1 n) (leb n 512) s .1))
+mul-needed c = omega (arith, few c)
 
 add-needed-2 : tie.Need-add-needed-2
-add-needed-2 c =
-    let n = c .before .before .before .before .before .before .before .state-count .result in
-    let s : stateCountOk n ≡ true = sym (c .before .before .before .state-count-ok .ensures) ∙ not-false _ (c .before .before .if3 .left) in
-    omega (arith, leb-true n 512 (and-true (leb 1 n) (leb n 512) s .1))
+add-needed-2 c = omega (arith, few c)
 
 returns-6 : tie.Need-returns-6
 unfolding headerRule
 returns-6 c =
     let os = c .before .before .before .before .before .before .before .before .before .before .before .before .args .octets .now in
-    let a : ltb (length os) 4 ≡ false = le-ltb (length os) 4 (c .before .before .before .before .before .before .before .before .before .before .if1 .left) in
-    let v : eqb (versionOf os) 1 ≡ true = eq-eqb (versionOf os) 1 (sym (c .before .before .before .before .before .before .before .before .before .word .ensures) ∙ c .before .before .before .before .before .if2 .left) in
-    let s : stateCountOk (stateCountOf os) ≡ true = ap stateCountOk (sym (c .before .before .before .before .before .before .before .before .state-count .ensures)) ∙ sym (c .before .before .before .before .state-count-ok .ensures) ∙ not-false _ (c .before .before .before .if3 .left) in
-    let t : leb (transitionCountOf os) 2048 ≡ true = ap (λ (x : ℕ). leb x 2048) (sym (c .before .before .before .before .before .before .before .transition-count .ensures)) ∙ le-leb _ 2048 (c .before .before .if4 .left) in
-    let p : eqb (padOf os) 0 ≡ true = eq-eqb (padOf os) 0 (sym (c .before .before .before .before .before .before .word2 .ensures) ∙ c .before .if5 .left) in
-    let e : 4 + c .before .before .before .before .before .before .before .before .state-count .result + 5 * c .before .before .before .before .before .before .before .transition-count .result ≡ imageLength (stateCountOf os) (transitionCountOf os) = ap₂ (λ (x y : ℕ). 4 + x + 5 * y) (c .before .before .before .before .before .before .before .before .state-count .ensures) (c .before .before .before .before .before .before .before .transition-count .ensures) in
-    let l : ltb (length os) (imageLength (stateCountOf os) (transitionCountOf os)) ≡ true = ap (λ (x : ℕ). ltb (length os) x) (sym e) ∙ lt-ltb _ _ (c .if6 .taken) in
-    rw (a, v, s, t, p, l)
+    let N = imageLength (stateCountOf os) (transitionCountOf os) in
+    let k = known (c .before) in
+    let e = needed (c .before) in
+    let l : ltb (length os) N ≡ true = ap (λ (x : ℕ). ltb (length os) x) (sym e) ∙ lt-ltb _ _ (c .if6 .taken) in
+    rw (k .0, k .1, k .2, k .3, k .4, l)
 
 returns-7 : tie.Need-returns-7
 unfolding headerRule
 returns-7 c =
     let os = c .before .before .before .before .before .before .before .before .before .before .before .before .before .args .octets .now in
-    let a : ltb (length os) 4 ≡ false = le-ltb (length os) 4 (c .before .before .before .before .before .before .before .before .before .before .before .if1 .left) in
-    let v : eqb (versionOf os) 1 ≡ true = eq-eqb (versionOf os) 1 (sym (c .before .before .before .before .before .before .before .before .before .before .word .ensures) ∙ c .before .before .before .before .before .before .if2 .left) in
-    let s : stateCountOk (stateCountOf os) ≡ true = ap stateCountOk (sym (c .before .before .before .before .before .before .before .before .before .state-count .ensures)) ∙ sym (c .before .before .before .before .before .state-count-ok .ensures) ∙ not-false _ (c .before .before .before .before .if3 .left) in
-    let t : leb (transitionCountOf os) 2048 ≡ true = ap (λ (x : ℕ). leb x 2048) (sym (c .before .before .before .before .before .before .before .before .transition-count .ensures)) ∙ le-leb _ 2048 (c .before .before .before .if4 .left) in
-    let p : eqb (padOf os) 0 ≡ true = eq-eqb (padOf os) 0 (sym (c .before .before .before .before .before .before .before .word2 .ensures) ∙ c .before .before .if5 .left) in
-    let e : 4 + c .before .before .before .before .before .before .before .before .before .state-count .result + 5 * c .before .before .before .before .before .before .before .before .transition-count .result ≡ imageLength (stateCountOf os) (transitionCountOf os) = ap₂ (λ (x y : ℕ). 4 + x + 5 * y) (c .before .before .before .before .before .before .before .before .before .state-count .ensures) (c .before .before .before .before .before .before .before .before .transition-count .ensures) in
-    let l : ltb (length os) (imageLength (stateCountOf os) (transitionCountOf os)) ≡ false = ap (λ (x : ℕ). ltb (length os) x) (sym e) ∙ le-ltb _ _ (c .before .if6 .left) in
-    let g : ltb (imageLength (stateCountOf os) (transitionCountOf os)) (length os) ≡ true = ap (λ (x : ℕ). ltb x (length os)) (sym e) ∙ lt-ltb _ _ (c .if7 .taken) in
-    rw (a, v, s, t, p, l, g)
+    let N = imageLength (stateCountOf os) (transitionCountOf os) in
+    let k = known (c .before .before) in
+    let e = needed (c .before .before) in
+    let l : ltb (length os) N ≡ false = ap (λ (x : ℕ). ltb (length os) x) (sym e) ∙ le-ltb _ _ (c .before .if6 .left) in
+    let g : ltb N (length os) ≡ true = ap (λ (x : ℕ). ltb x (length os)) (sym e) ∙ lt-ltb _ _ (c .if7 .taken) in
+    rw (k .0, k .1, k .2, k .3, k .4, l, g)
 
 returns-8 : tie.Need-returns-8
 unfolding headerRule
 returns-8 c =
     let os = c .before .before .before .before .before .before .before .before .before .before .before .before .before .args .octets .now in
-    let a : ltb (length os) 4 ≡ false = le-ltb (length os) 4 (c .before .before .before .before .before .before .before .before .before .before .before .if1 .left) in
-    let v : eqb (versionOf os) 1 ≡ true = eq-eqb (versionOf os) 1 (sym (c .before .before .before .before .before .before .before .before .before .before .word .ensures) ∙ c .before .before .before .before .before .before .if2 .left) in
-    let s : stateCountOk (stateCountOf os) ≡ true = ap stateCountOk (sym (c .before .before .before .before .before .before .before .before .before .state-count .ensures)) ∙ sym (c .before .before .before .before .before .state-count-ok .ensures) ∙ not-false _ (c .before .before .before .before .if3 .left) in
-    let t : leb (transitionCountOf os) 2048 ≡ true = ap (λ (x : ℕ). leb x 2048) (sym (c .before .before .before .before .before .before .before .before .transition-count .ensures)) ∙ le-leb _ 2048 (c .before .before .before .if4 .left) in
-    let p : eqb (padOf os) 0 ≡ true = eq-eqb (padOf os) 0 (sym (c .before .before .before .before .before .before .before .word2 .ensures) ∙ c .before .before .if5 .left) in
-    let e : 4 + c .before .before .before .before .before .before .before .before .before .state-count .result + 5 * c .before .before .before .before .before .before .before .before .transition-count .result ≡ imageLength (stateCountOf os) (transitionCountOf os) = ap₂ (λ (x y : ℕ). 4 + x + 5 * y) (c .before .before .before .before .before .before .before .before .before .state-count .ensures) (c .before .before .before .before .before .before .before .before .transition-count .ensures) in
-    let l : ltb (length os) (imageLength (stateCountOf os) (transitionCountOf os)) ≡ false = ap (λ (x : ℕ). ltb (length os) x) (sym e) ∙ le-ltb _ _ (c .before .if6 .left) in
-    let g : ltb (imageLength (stateCountOf os) (transitionCountOf os)) (length os) ≡ false = ap (λ (x : ℕ). ltb x (length os)) (sym e) ∙ le-ltb _ _ (c .if7 .left) in
-    rw (a, v, s, t, p, l, g)
+    let N = imageLength (stateCountOf os) (transitionCountOf os) in
+    let k = known (c .before .before) in
+    let e = needed (c .before .before) in
+    let l : ltb (length os) N ≡ false = ap (λ (x : ℕ). ltb (length os) x) (sym e) ∙ le-ltb _ _ (c .before .if6 .left) in
+    let g : ltb N (length os) ≡ false = ap (λ (x : ℕ). ltb x (length os)) (sym e) ∙ le-ltb _ _ (c .if7 .left) in
+    rw (k .0, k .1, k .2, k .3, k .4, l, g)
 
 pub header-spec : {M : Type 1} → statement M
 header-spec =

@@ -31,45 +31,28 @@ add-take-2 c = search needs
 take-requires-3 : tie.Need-take-requires-3
 take-requires-3 c κs = within-part (c .before .before .before .args .octets .now) (c .before .before .before .args .at) 8 2 1 (c .before .before .before .pre) (omega arith) (omega arith)
 
-mul-result : tie.Need-mul-result
-mul-result c =
+-- each field of one bit is below 2
+bits : (c : tie.After-take3) → (c .before .before .take .result < 2) × (c .before .take2 .result < 2) × (c .take3 .result < 2)
+bits c =
     let a = c .before .before .before .before .args in
-    let h0 : c .before .before .take .result < 2 = rw (c .before .before .take .ensures) (field-lt (a .octets .now) (a .at) 1) in
-    let h1 : c .before .take2 .result < 2 = rw (c .before .take2 .ensures) (field-lt (a .octets .now) (a .at + 1) 1) in
-    let h2 : c .take3 .result < 2 = rw (c .take3 .ensures) (field-lt (a .octets .now) (a .at + 2) 1) in
-    omega arith
+    ( rw (c .before .before .take .ensures) (field-lt (a .octets .now) (a .at) 1)
+    , rw (c .before .take2 .ensures) (field-lt (a .octets .now) (a .at + 1) 1)
+    , rw (c .take3 .ensures) (field-lt (a .octets .now) (a .at + 2) 1))
+
+mul-result : tie.Need-mul-result
+mul-result c = omega (arith, bits c)
 
 mul-result-2 : tie.Need-mul-result-2
-mul-result-2 c =
-    let a = c .before .before .before .before .args in
-    let h0 : c .before .before .take .result < 2 = rw (c .before .before .take .ensures) (field-lt (a .octets .now) (a .at) 1) in
-    let h1 : c .before .take2 .result < 2 = rw (c .before .take2 .ensures) (field-lt (a .octets .now) (a .at + 1) 1) in
-    let h2 : c .take3 .result < 2 = rw (c .take3 .ensures) (field-lt (a .octets .now) (a .at + 2) 1) in
-    omega arith
+mul-result-2 c = omega (arith, bits c)
 
 add-result : tie.Need-add-result
-add-result c =
-    let a = c .before .before .before .before .args in
-    let h0 : c .before .before .take .result < 2 = rw (c .before .before .take .ensures) (field-lt (a .octets .now) (a .at) 1) in
-    let h1 : c .before .take2 .result < 2 = rw (c .before .take2 .ensures) (field-lt (a .octets .now) (a .at + 1) 1) in
-    let h2 : c .take3 .result < 2 = rw (c .take3 .ensures) (field-lt (a .octets .now) (a .at + 2) 1) in
-    omega arith
+add-result c = omega (arith, bits c)
 
 add-result-2 : tie.Need-add-result-2
-add-result-2 c =
-    let a = c .before .before .before .before .args in
-    let h0 : c .before .before .take .result < 2 = rw (c .before .before .take .ensures) (field-lt (a .octets .now) (a .at) 1) in
-    let h1 : c .before .take2 .result < 2 = rw (c .before .take2 .ensures) (field-lt (a .octets .now) (a .at + 1) 1) in
-    let h2 : c .take3 .result < 2 = rw (c .take3 .ensures) (field-lt (a .octets .now) (a .at + 2) 1) in
-    omega arith
+add-result-2 c = omega (arith, bits c)
 
 cast-result : tie.Need-cast-result
-cast-result c =
-    let a = c .before .before .before .before .args in
-    let h0 : c .before .before .take .result < 2 = rw (c .before .before .take .ensures) (field-lt (a .octets .now) (a .at) 1) in
-    let h1 : c .before .take2 .result < 2 = rw (c .before .take2 .ensures) (field-lt (a .octets .now) (a .at + 1) 1) in
-    let h2 : c .take3 .result < 2 = rw (c .take3 .ensures) (field-lt (a .octets .now) (a .at + 2) 1) in
-    omega arith
+cast-result c = omega (arith, bits c)
 
 returns : tie.Need-returns
 returns c = rw (c .before .before .take .ensures, c .before .take2 .ensures, c .take3 .ensures)
