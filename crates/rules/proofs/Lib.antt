@@ -4,4 +4,5 @@ pub mod ReadWrite
 pub mod Kept
 pub mod Order
 pub mod Grounds
+pub mod Figures
 pub mod Vectors

@@ -2,9 +2,10 @@
 use mathlib.Core.Bool.{Bool, true, false, not, _&&_}
 use mathlib.Core.List.{List, [], _∷_, _++_}
 use mathlib.Core.Path.{_≡_, refl, sym, ap, _∙_}
-use Prim.Native.Nat.{ℕ, zero, suc, _+_}
+use Prim.Native.Nat.{ℕ, zero, suc, _+_, _<_}
+use native.Mathlib.Nat.{not-suc-le-zero, le-of-suc-le-suc}
 use native.Mathlib.Omega.{arith}
-use lib.ListN.{length, take, drop, set, replicate}
+use lib.ListN.{length, getD, take, drop, set, replicate}
 use Rattle.rules.specs.declared.Refusal.{Refusal}
 use Rattle.rules.specs.Refusal.{number, Result, accepted, refused, _>>=_, _>>_, refuseIf, collect, answerOf}
 use Rattle.rules.specs.Limits.{all}
@@ -87,3 +88,10 @@ module _ {A : Type 0} (test : A → Bool) where
   unfolding all
   all-replicate zero v q = refl
   all-replicate (suc k) v q = both-true (test v) (all test (replicate k v)) q (all-replicate k v q)
+
+-- a test that holds of all elements holds of each
+pub all-getD : {A : Type 0} (test : A → Bool) (xs : List A) (i : ℕ) (d : A) → all test xs ≡ true → i < length xs → test (getD xs i d) ≡ true
+unfolding all
+all-getD test [] i d h l = absurd (not-suc-le-zero l)
+all-getD test (x ∷ xs) zero d h l = and-true (test x) (all test xs) h .0
+all-getD test (x ∷ xs) (suc i) d h l = all-getD test xs i d (and-true (test x) (all test xs) h .1) (le-of-suc-le-suc l)
