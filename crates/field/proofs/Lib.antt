@@ -1,3 +1,4 @@
+pub mod Basic
 pub mod Number
 pub mod Bits
 pub mod Laws

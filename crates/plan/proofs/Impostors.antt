@@ -17,7 +17,8 @@ use Rattle.rules.specs.Limits.{within, all}
 use Rattle.rules.specs.Refusal.{Result, accepted, refused, number, answerOf, said}
 use Rattle.rules.specs.Rules.{freshGraph, markRule, readRule, writeRule, written, next}
 use Rattle.rules.proofs.Results.{never}
-use Rattle.rules.proofs.Vectors.{plan, octets, image-of-plan, plan-in-octets}
+use Rattle.rules.proofs.Basic.{plan, octets, image-of-plan}
+use Rattle.rules.proofs.Vectors.{plan-in-octets}
 use Rattle.plan.specs.declared.Edited.{Edited}
 use Rattle.plan.specs.declared.Plan.{Plan}
 use Rattle.plan.specs.declared.Written.{Written}

@@ -1,8 +1,8 @@
+pub mod Basic
 pub mod Results
 pub mod Fields
 pub mod ReadWrite
 pub mod Kept
-pub mod Order
 pub mod Grounds
 pub mod Figures
 pub mod Vectors

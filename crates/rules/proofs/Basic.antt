@@ -1,18 +1,37 @@
--- The order of the grounds: in each call, each number answers where its ground holds and those before it do not, whatever holds of those after it,
+-- Facts that the definitions give at once; proof files are checked in the order of their names, so a wrong definition is refused here first.
+-- The known octets are the image of their plan. And the order of the grounds: in each call, each number answers where its ground holds and those before it do not, whatever holds of those after it,
 -- and the call is accepted where none holds. Document 01: "0 comes before the rest in every call", "In mark: 7, 12", "In join: 7, 8, 9", and
 -- read's order.
 -- Assumes nothing.
 use mathlib.Core.Bool.{Bool, true, false, not, _&&_}
-use mathlib.Core.List.{List}
+use mathlib.Core.List.{List, [], _∷_}
 use mathlib.Core.Path.{_≡_, refl}
 use Prim.Native.Nat.{ℕ}
 use lib.Dec.{leb, ltb, eqb}
 use lib.ListN.{length}
+use Rattle.field.specs.Field.{pack, octetsOf, bitsOf, bitsOfAll, widthOfAll, number}
 use Rattle.graph.specs.Graph.{Graph, Transition, states, count}
-use Rattle.rules.specs.Image.{headerRule, statesIn, transitionsIn, readImage, imageLength, versionOf, stateCountOf, transitionCountOf, padOf, stateAt, checked}
+use Rattle.rules.specs.Image.{image, imageFields, fieldsOfEach, headerRule, statesIn, transitionsIn, readImage, imageLength, versionOf, stateCountOf, transitionCountOf, padOf, stateAt, checked}
 use Rattle.rules.specs.Limits.{within, stateCountOk, transitionCountOk, marksOk, endsOk, durationsOk}
 use Rattle.rules.specs.Refusal.{Result, accepted, refused}
 use Rattle.rules.specs.Rules.{freshRule, markRule, joinRule, unjoinRule, readRule, writeRule, freshGraph, withMark, withTransition, without}
+
+-- ---- the plan and the 28 octets of "Plans with known figures"
+
+abbrev step : ℕ → ℕ → ℕ → ℕ → Transition
+step f t l h = record { from = f; to = t; low = l; high = h }
+
+unfoldable pub plan : Graph
+plan = record { marks = 4 ∷ 1 ∷ 1 ∷ 2 ∷ []; transitions = step 0 1 5 20 ∷ step 1 2 3 15 ∷ step 1 3 2 30 ∷ step 2 3 4 25 ∷ [] }
+
+unfoldable pub octets : List ℕ
+octets =
+    0x10 ∷ 0x10 ∷ 0x01 ∷ 0x00 ∷ 0x80 ∷ 0x20 ∷ 0x20 ∷ 0x40 ∷ 0x00 ∷ 0x00 ∷ 0x40 ∷ 0x28 ∷ 0x14 ∷ 0x00 ∷ 0x80 ∷ 0x80 ∷ 0x18 ∷ 0x0F ∷ 0x00 ∷ 0x80
+    ∷ 0xC0 ∷ 0x10 ∷ 0x1E ∷ 0x01 ∷ 0x00 ∷ 0xC0 ∷ 0x20 ∷ 0x19 ∷ []
+
+pub image-of-plan : image plan ≡ octets
+unfolding plan octets image imageFields fieldsOfEach pack octetsOf bitsOf bitsOfAll widthOfAll number
+image-of-plan = refl
 
 -- ---- fresh, mark, join, unjoin
 
