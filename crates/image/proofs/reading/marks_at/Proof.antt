@@ -34,10 +34,11 @@ take-requires-3 c κs = within-part (c .before .before .before .args .octets .no
 -- each field of one bit is below 2
 bits : (c : tie.After-take3) → (c .before .before .take .result < 2) × (c .before .take2 .result < 2) × (c .take3 .result < 2)
 bits c =
-    let a = c .before .before .before .before .args in
-    ( rw (c .before .before .take .ensures) (field-lt (a .octets .now) (a .at) 1)
-    , rw (c .before .take2 .ensures) (field-lt (a .octets .now) (a .at + 1) 1)
-    , rw (c .take3 .ensures) (field-lt (a .octets .now) (a .at + 2) 1))
+    let a = c .before .before .before .before .args in (
+      rw (c .before .before .take .ensures) (field-lt (a .octets .now) (a .at) 1),
+      rw (c .before .take2 .ensures) (field-lt (a .octets .now) (a .at + 1) 1),
+      rw (c .take3 .ensures) (field-lt (a .octets .now) (a .at + 2) 1),
+    )
 
 mul-result : tie.Need-mul-result
 mul-result c = omega (arith, bits c)
