@@ -11,7 +11,7 @@ pub fn without(places: [u16; 2048], number: usize, m: usize) -> [u16; 2048]
 {
     let mut next = places;
     let mut i = number;
-    while i < m - 1 {
+    while i + 1 < m {
         next[i] = next[i + 1];
         i += 1;
     }

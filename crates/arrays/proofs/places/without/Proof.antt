@@ -30,8 +30,8 @@ loop-holds c =
           ∙ ap (λ (k : ℕ). paste (a .places) (a .number) (drop (suc (a .number)) (a .places)) k) e,
     )
 
-sub-loop : tie.Need-sub-loop Inv-loop μ-loop
-sub-loop c = omega arith
+add-loop : tie.Need-add-loop Inv-loop μ-loop
+add-loop c = omega arith
 
 add-next : tie.Need-add-next Inv-loop μ-loop
 add-next c = omega arith
@@ -79,7 +79,7 @@ without-spec =
     Inv-loop
     μ-loop
     loop-holds
-    sub-loop
+    add-loop
     add-next
     mul-next
     array-read-next
