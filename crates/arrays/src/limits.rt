@@ -78,7 +78,8 @@ pub fn transitions_within(
     m: usize,
 ) -> bool
     requires { ⌜ m ≤ 2048 ⌝ }
-    ensures { λ r. ⌜ r ≡ all (transitionOk n) (transitionsOf m (now (from .entry)) (now (to .entry)) (now (low .entry)) (now (high .entry))) ⌝ }
+    ensures { λ r. ⌜ r ≡ all (transitionOk n)
+        (transitionsOf m (now (from .entry)) (now (to .entry)) (now (low .entry)) (now (high .entry))) ⌝ }
 {
     let mut i = 0;
     while i < m {

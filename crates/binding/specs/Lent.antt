@@ -6,19 +6,18 @@ use Prim.Native.Nat.{ℕ, _+_, _≤_}
 use lib.Dec.{leb}
 use lib.ListN.{length, getD, take, drop}
 use Rattle.graph.specs.Graph.{Graph}
-use Rattle.rules.specs.declared.Refusal.{Refusal}
 use Rattle.rules.specs.declared.Answer.{Answer}
 use Rattle.rules.specs.declared.Answer.the-variants.{Accepted, Refused}
 use Rattle.rules.specs.Refusal.{Result, accepted, refused, number}
 use Rattle.rules.specs.Rules.{next, writeRule, written}
 use Rattle.plan.specs.declared.Plan.{Plan}
-use Rattle.plan.specs.declared.Edited.{Edited}
 use Rattle.plan.specs.View.{view}
 
 -- the three slices have the places of a plan
 abbrev pub roomy : ℕ → ℕ → ℕ → Bool
 roomy counts marks fields = leb 2 counts && (leb 512 marks && leb 8192 fields)
 
+-- the same, of the slices' contents
 pub record Roomy (counts marks fields : List ℕ) : Type 0 where
   pub two : 2 ≤ length counts
   pub states : 512 ≤ length marks
@@ -48,6 +47,7 @@ pub record Slices : Type 0 where
   pub marks : List ℕ
   pub fields : List ℕ
 
+-- the slices by what they hold
 abbrev pub slices : List ℕ → List ℕ → List ℕ → Slices
 slices counts marks fields = record { counts = counts; marks = marks; fields = fields }
 

@@ -3,7 +3,6 @@
 // lent slice is too short for a plan; write answers 256 plus the image's length.
 ghost use mathlib.Core.Path.{_≡_};
 ghost use Prim.Native.Nat.{_+_, _≤_};
-ghost use mathlib.Core.List.{List};
 ghost use lib.ListN.{length, take, drop};
 ghost use lib.Seq.{paste};
 ghost use Rattle.arrays.specs.Tables.{transition};
@@ -97,7 +96,9 @@ fn load(counts: &[usize], marks: &[u8], fields: &[u16]) -> Plan
 // Stores a plan value in three lent slices.
 fn store(plan: Plan, counts: &mut [usize], marks: &mut [u8], fields: &mut [u16])
     requires { ⌜ Roomy (now counts) (now marks) (now fields) ⌝ }
-    ensures { λ r. ⌜ (planIn (slices (now (counts .exit)) (now (marks .exit)) (now (fields .exit))) ≡ plan) × Later (slices (now (counts .entry)) (now (marks .entry)) (now (fields .entry))) (slices (now (counts .exit)) (now (marks .exit)) (now (fields .exit))) ⌝ }
+    ensures { λ r. ⌜ (planIn (slices (now (counts .exit)) (now (marks .exit)) (now (fields .exit))) ≡ plan)
+        × Later (slices (now (counts .entry)) (now (marks .entry)) (now (fields .entry)))
+        (slices (now (counts .exit)) (now (marks .exit)) (now (fields .exit))) ⌝ }
 {
     counts[0] = plan.states;
     counts[1] = plan.transitions;
@@ -116,7 +117,9 @@ fn store(plan: Plan, counts: &mut [usize], marks: &mut [u8], fields: &mut [u16])
 // Stores the plan of an accepted call, and gives the number of its answer.
 fn finish(edited: Edited, counts: &mut [usize], marks: &mut [u8], fields: &mut [u16]) -> u32
     requires { ⌜ Roomy (now counts) (now marks) (now fields) ⌝ }
-    ensures { λ r. ⌜ Finished (edited .answer) (edited .plan) (slices (now (counts .entry)) (now (marks .entry)) (now (fields .entry))) (slices (now (counts .exit)) (now (marks .exit)) (now (fields .exit))) r ⌝ }
+    ensures { λ r. ⌜ Finished (edited .answer) (edited .plan)
+        (slices (now (counts .entry)) (now (marks .entry)) (now (fields .entry)))
+        (slices (now (counts .exit)) (now (marks .exit)) (now (fields .exit))) r ⌝ }
 {
     let answer = edited.answer;
     match answer {
@@ -137,7 +140,10 @@ pub extern "C" fn callplan_fresh(
     marks: &mut [u8],
     fields: &mut [u16],
 ) -> u32
-    ensures { λ r. ⌜ LentEdit (slices (now (counts .entry)) (now (marks .entry)) (now (fields .entry))) (slices (now (counts .exit)) (now (marks .exit)) (now (fields .exit))) (freshRule n) r ⌝ }
+    ensures { λ r. ⌜ LentEdit
+        (slices (now (counts .entry)) (now (marks .entry)) (now (fields .entry)))
+        (slices (now (counts .exit)) (now (marks .exit)) (now (fields .exit)))
+        (freshRule n) r ⌝ }
 {
     if !has_room(counts.len(), marks.len(), fields.len()) {
         return 255;
@@ -154,7 +160,11 @@ pub extern "C" fn callplan_mark(
     state: usize,
     value: u32,
 ) -> u32
-    ensures { λ r. ⌜ LentEdit (slices (now (counts .entry)) (now (marks .entry)) (now (fields .entry))) (slices (now (counts .exit)) (now (marks .exit)) (now (fields .exit))) (markRule (view (lentPlan (now (counts .entry)) (now (marks .entry)) (now (fields .entry)))) state value) r ⌝ }
+    ensures { λ r. ⌜ LentEdit
+        (slices (now (counts .entry)) (now (marks .entry)) (now (fields .entry)))
+        (slices (now (counts .exit)) (now (marks .exit)) (now (fields .exit)))
+        (markRule (view (lentPlan (now (counts .entry)) (now (marks .entry)) (now (fields .entry))))
+        state value) r ⌝ }
 {
     if !has_room(counts.len(), marks.len(), fields.len()) {
         return 255;
@@ -178,7 +188,11 @@ pub extern "C" fn callplan_join(
     low: u32,
     high: u32,
 ) -> u32
-    ensures { λ r. ⌜ LentEdit (slices (now (counts .entry)) (now (marks .entry)) (now (fields .entry))) (slices (now (counts .exit)) (now (marks .exit)) (now (fields .exit))) (joinRule (view (lentPlan (now (counts .entry)) (now (marks .entry)) (now (fields .entry)))) (transition from to low high)) r ⌝ }
+    ensures { λ r. ⌜ LentEdit
+        (slices (now (counts .entry)) (now (marks .entry)) (now (fields .entry)))
+        (slices (now (counts .exit)) (now (marks .exit)) (now (fields .exit)))
+        (joinRule (view (lentPlan (now (counts .entry)) (now (marks .entry)) (now (fields .entry))))
+        (transition from to low high)) r ⌝ }
 {
     if !has_room(counts.len(), marks.len(), fields.len()) {
         return 255;
@@ -205,7 +219,11 @@ pub extern "C" fn callplan_unjoin(
     fields: &mut [u16],
     number: usize,
 ) -> u32
-    ensures { λ r. ⌜ LentEdit (slices (now (counts .entry)) (now (marks .entry)) (now (fields .entry))) (slices (now (counts .exit)) (now (marks .exit)) (now (fields .exit))) (unjoinRule (view (lentPlan (now (counts .entry)) (now (marks .entry)) (now (fields .entry)))) number) r ⌝ }
+    ensures { λ r. ⌜ LentEdit
+        (slices (now (counts .entry)) (now (marks .entry)) (now (fields .entry)))
+        (slices (now (counts .exit)) (now (marks .exit)) (now (fields .exit)))
+        (unjoinRule (view (lentPlan (now (counts .entry)) (now (marks .entry)) (now (fields .entry))))
+        number) r ⌝ }
 {
     if !has_room(counts.len(), marks.len(), fields.len()) {
         return 255;
@@ -226,7 +244,11 @@ pub extern "C" fn callplan_read(
     fields: &mut [u16],
     octets: &[u8],
 ) -> u32
-    ensures { λ r. ⌜ LentEdit (slices (now (counts .entry)) (now (marks .entry)) (now (fields .entry))) (slices (now (counts .exit)) (now (marks .exit)) (now (fields .exit))) (readRule (view (lentPlan (now (counts .entry)) (now (marks .entry)) (now (fields .entry)))) (now (octets .entry))) r ⌝ }
+    ensures { λ r. ⌜ LentEdit
+        (slices (now (counts .entry)) (now (marks .entry)) (now (fields .entry)))
+        (slices (now (counts .exit)) (now (marks .exit)) (now (fields .exit)))
+        (readRule (view (lentPlan (now (counts .entry)) (now (marks .entry)) (now (fields .entry))))
+        (now (octets .entry))) r ⌝ }
 {
     if !has_room(counts.len(), marks.len(), fields.len()) {
         return 255;
@@ -247,7 +269,9 @@ pub extern "C" fn callplan_write(
     fields: &[u16],
     buffer: &mut [u8],
 ) -> u32
-    ensures { λ r. ⌜ LentWrite (slices (now (counts .entry)) (now (marks .entry)) (now (fields .entry))) (now (buffer .entry)) (now (buffer .exit)) r ⌝ }
+    ensures { λ r. ⌜ LentWrite
+        (slices (now (counts .entry)) (now (marks .entry)) (now (fields .entry)))
+        (now (buffer .entry)) (now (buffer .exit)) r ⌝ }
 {
     if !has_room(counts.len(), marks.len(), fields.len()) {
         return 255;

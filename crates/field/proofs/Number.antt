@@ -18,7 +18,7 @@ use Rattle.field.specs.Field.{bit, number, bitsOf}
 pub length-bitsOf : (w v : ℕ) → length (bitsOf w v) ≡ w
 unfolding bitsOf
 length-bitsOf zero v = refl
-length-bitsOf (suc w) v = ap suc (length-bitsOf w v)
+length-bitsOf (suc w) v = ap suc (length-bitsOf w _)
 
 pub number-lt : (bs : List Bool) → number bs < 2 ^ length bs
 unfolding number

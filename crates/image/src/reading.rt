@@ -72,7 +72,8 @@ pub fn header(octets: &[u8]) -> Answer
 // The marks value of the state at a bit position.
 fn marks_at(octets: &[u8], at: usize) -> u8
     requires { ⌜ Within (now octets) at 8 ⌝ }
-    ensures { λ r. ⌜ r ≡ 4 * fieldAt (now (octets .entry)) at 1 + 2 * fieldAt (now (octets .entry)) (at + 1) 1 + fieldAt (now (octets .entry)) (at + 2) 1 ⌝ }
+    ensures { λ r. ⌜ r ≡ 4 * fieldAt (now (octets .entry)) at 1 + 2 * fieldAt (now (octets .entry)) (at + 1) 1
+        + fieldAt (now (octets .entry)) (at + 2) 1 ⌝ }
 {
     let start = field::take(octets, at, 1);
     let last = field::take(octets, at + 1, 1);
@@ -122,7 +123,8 @@ pub fn transitions(
 ) -> Answer
     requires { ⌜ (n ≤ 512) × (m ≤ 2048) × (4 + n + 5 * m ≤ length (now octets)) ⌝ }
     requires { ⌜ (m ≤ length (now from)) × (m ≤ length (now to)) × (m ≤ length (now low)) × (m ≤ length (now high)) ⌝ }
-    ensures { λ r. ⌜ outcome r (transitionsOf m (now (from .exit)) (now (to .exit)) (now (low .exit)) (now (high .exit))) ≡ transitionsIn (now (octets .entry)) n m ⌝ }
+    ensures { λ r. ⌜ outcome r (transitionsOf m (now (from .exit)) (now (to .exit)) (now (low .exit)) (now (high .exit)))
+        ≡ transitionsIn (now (octets .entry)) n m ⌝ }
 {
     let mut i = 0;
     while i < m {

@@ -42,7 +42,8 @@ fn transition(
 )
     requires { ⌜ (at + 40 ≤ 8 * length (now buffer)) × (at + 40 < 2 ^ 32) × (i < 2048) ⌝ }
     requires { ⌜ AllFit (transitionFields (transitionOf (now from) (now to) (now low) (now high) i)) ⌝ }
-    ensures { λ r. ⌜ now (buffer .exit) ≡ putAll (now (buffer .entry)) at (transitionFields (transitionOf (now (from .entry)) (now (to .entry)) (now (low .entry)) (now (high .entry)) i)) ⌝ }
+    ensures { λ r. ⌜ now (buffer .exit) ≡ putAll (now (buffer .entry)) at
+        (transitionFields (transitionOf (now (from .entry)) (now (to .entry)) (now (low .entry)) (now (high .entry)) i)) ⌝ }
 {
     field::put(buffer, at, 9, from[i] as u32);
     field::put(buffer, at + 9, 9, to[i] as u32);
@@ -74,7 +75,8 @@ pub fn transitions(
 )
     requires { ⌜ (n ≤ 512) × (m ≤ 2048) × (4 + n + 5 * m ≤ length (now buffer)) ⌝ }
     requires { ⌜ all (transitionOk n) (transitionsOf m (now from) (now to) (now low) (now high)) ≡ true ⌝ }
-    ensures { λ r. ⌜ now (buffer .exit) ≡ putAll (now (buffer .entry)) (32 + 8 * n) (fieldsOfEach transitionFields (transitionsOf m (now (from .entry)) (now (to .entry)) (now (low .entry)) (now (high .entry)))) ⌝ }
+    ensures { λ r. ⌜ now (buffer .exit) ≡ putAll (now (buffer .entry)) (32 + 8 * n)
+        (fieldsOfEach transitionFields (transitionsOf m (now (from .entry)) (now (to .entry)) (now (low .entry)) (now (high .entry)))) ⌝ }
 {
     let mut i = 0;
     while i < m {

@@ -18,11 +18,12 @@ use Rattle.rules.specs.declared.Answer.{Answer}
 use Rattle.rules.specs.declared.Answer.the-variants.{Accepted, Refused}
 use Rattle.rules.specs.declared.Refusal.{Refusal}
 use Rattle.rules.specs.declared.Refusal.the-variants.{PlanLimits, BufferLength}
-use Rattle.rules.specs.Calls.{Call, mark, join, unjoin, read, step, Run, run}
+use Rattle.rules.specs.Calls.{Call, mark, join, unjoin, read, step, run, runFresh}
 use Rattle.rules.specs.Image.{image, imageLength, readImage}
-use Rattle.rules.specs.Limits.{within}
+use Rattle.rules.specs.Limits.{within, stateCountOk}
 use Rattle.rules.specs.Refusal.{Result, accepted, refused, _>>_, refuseIf, number, answerOf, said}
-use Rattle.rules.specs.Rules.{givenPlan, markRule, joinRule, unjoinRule, readRule, writeRule, written, next}
+use Rattle.rules.specs.Rules.{givenPlan, freshGraph, freshRule, markRule, joinRule, unjoinRule, readRule, writeRule, written, next}
+use Rattle.rules.proofs.Basic.{fresh-done}
 use Rattle.rules.proofs.Results.{never, then-accepted, holds, accepted-as}
 use Rattle.rules.proofs.ReadWrite.{length-image, read-image, image-read, read-within}
 use Rattle.plan.specs.declared.Edited.{Edited}
@@ -45,12 +46,25 @@ obeyed-run (more {p} {q} {call} {calls} {answers} e x rest) =
       r .1 ∙ ap (λ (g : Graph). run g calls .last) (x .plan),
     )
 
--- ---- the image, both ways
-
 -- an answer that says what it should is the one that it should be
 accepted-answer : (a : Answer) → said a ≡ accepted tt → a ≡ Accepted
 accepted-answer Accepted e = refl
 accepted-answer (Refused r) e = absurd (never tt (number r) e)
+
+-- "They start from the plan of a fresh with any n from 1 to 512": fresh is accepted, and the list is the run from its plan
+pub fresh-run : (n : ℕ) {q : Plan} {calls : List Call} {answers : List Answer} (e : Edited) → stateCountOk n ≡ true → Edit noPlan (freshRule n) e
+    → Obeyed (e .plan) calls answers q
+    → (e .answer ≡ Accepted) × (map said answers ≡ runFresh n calls .answers) × (view q ≡ runFresh n calls .last)
+fresh-run n {q} {calls} {answers} e h x o =
+    let r : freshRule n ≡ accepted (freshGraph n) = fresh-done n h in
+    let v : view (e .plan) ≡ freshGraph n = x .plan ∙ ap (next (view noPlan)) r in
+    let l = obeyed-run o in (
+      accepted-answer (e .answer) (x .answer ∙ ap answerOf r),
+      l .0 ∙ ap (λ (g : Graph). run g calls .answers) v,
+      l .1 ∙ ap (λ (g : Graph). run g calls .last) v,
+    )
+
+-- ---- the image, both ways
 
 length-answer : (w : Written) (n : ℕ) → wrote w ≡ accepted n → w ≡ Length n
 length-answer (Length m) n e = let s : m ≡ n = cc in rw s

@@ -42,5 +42,5 @@ pub record Write (g : Graph) (before after : List ℕ) (r : Written) : Type 0 wh
 -- a list of calls, each handed the plan value that the one before it returned: what the promises say of its answers and of the last plan value
 pub data Obeyed : Plan → List Call → List Answer → Plan → Type 0 where
   none : {p : Plan} → Obeyed p [] [] p
-  more : {p q : Plan} {call : Call} {calls : List Call} {answers : List Answer} (e : Edited) → Edit p (step (view p) call) e → Obeyed (e .plan) calls answers q
-      → Obeyed p (call ∷ calls) (e .answer ∷ answers) q
+  more : {p q : Plan} {call : Call} {calls : List Call} {answers : List Answer} (e : Edited)
+      → Edit p (step (view p) call) e → Obeyed (e .plan) calls answers q → Obeyed p (call ∷ calls) (e .answer ∷ answers) q

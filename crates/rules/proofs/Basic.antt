@@ -1,6 +1,6 @@
 -- Facts that the definitions give at once; proof files are checked in the order of their names, so a wrong definition is refused here first.
--- The known octets are the image of their plan. And the order of the grounds: in each call, each number answers where its ground holds and those before it do not, whatever holds of those after it,
--- and the call is accepted where none holds. Document 01: "0 comes before the rest in every call", "In mark: 7, 12", "In join: 7, 8, 9", and
+-- The known octets are the image of their plan. And the order of the grounds: in each call, each number answers where its ground holds and
+-- those before it do not, whatever holds of those after it, and the call is accepted where none holds. Document 01: "0 comes before the rest in every call", "In mark: 7, 12", "In join: 7, 8, 9", and
 -- read's order.
 -- Assumes nothing.
 use mathlib.Core.Bool.{Bool, true, false, not, _&&_}
@@ -114,6 +114,11 @@ module _ (g : Graph) (os : List ℕ) where
   unfolding readRule
   read-0 w = rw w
 
+  -- over a plan within the limits, the octets alone decide
+  pub read-given : within g ≡ true → readRule g os ≡ readImage os
+  unfolding readRule
+  read-given w = rw w
+
 module _ (os : List ℕ) where
   pub read-1 : ltb (length os) 4 ≡ true → readImage os ≡ refused 1
   unfolding readImage headerRule
@@ -146,6 +151,11 @@ module _ (os : List ℕ) where
       unfolding readImage headerRule
       read-2 f h = rw (a, b, c, d, e, f, h)
 
+      pub header-done : ltb (length os) (imageLength (stateCountOf os) (transitionCountOf os)) ≡ false
+          → ltb (imageLength (stateCountOf os) (transitionCountOf os)) (length os) ≡ false → headerRule os ≡ accepted tt
+      unfolding headerRule
+      header-done f h = rw (a, b, c, d, e, f, h)
+
   -- then the states, before the transitions
   pub read-states : headerRule os ≡ accepted tt → (k : ℕ) → statesIn os (stateCountOf os) ≡ refused k → readImage os ≡ refused k
   unfolding readImage
@@ -156,9 +166,18 @@ module _ (os : List ℕ) where
   unfolding readImage
   read-transitions h k ms s t = rw (h, s, t)
 
+  pub read-done : headerRule os ≡ accepted tt → (ms : List ℕ) → statesIn os (stateCountOf os) ≡ accepted ms
+      → (ts : List Transition) → transitionsIn os (stateCountOf os) (transitionCountOf os) ≡ accepted ts
+      → readImage os ≡ accepted (record { marks = ms; transitions = ts })
+  unfolding readImage
+  read-done h ms s ts t = rw (h, s, t)
+
 -- of one transition, "7 before 8"
 pub checked-7 : (n : ℕ) (t : Transition) → endsOk n t ≡ false → checked n t ≡ refused 7
 checked-7 n t e = rw e
 
 pub checked-8 : (n : ℕ) (t : Transition) → endsOk n t ≡ true → durationsOk t ≡ false → checked n t ≡ refused 8
 checked-8 n t e d = rw (e, d)
+
+pub checked-done : (n : ℕ) (t : Transition) → endsOk n t ≡ true → durationsOk t ≡ true → checked n t ≡ accepted t
+checked-done n t e d = rw (e, d)

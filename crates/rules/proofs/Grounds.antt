@@ -155,12 +155,12 @@ pub read-grounds : (g : Graph) (os : List ℕ) → Only readNumbers (readRule g 
 unfolding readRule
 read-grounds g os = first readNumbers (not (within g)) PlanLimits (readImage os) refl (image-grounds os)
 
--- every list of octets is the image of a plan within the limits, or is refused by a number that the order gives
+-- every list of octets is the image of a plan within the limits, or is refused by a number of read's rows
 pub read-decided : (os : List ℕ) → Octets os
-    → ((g : Graph) × (readImage os ≡ accepted g) × (within g ≡ true) × (image g ≡ os)) ⊎ ((k : ℕ) × (readImage os ≡ refused k))
+    → ((g : Graph) × (readImage os ≡ accepted g) × (within g ≡ true) × (image g ≡ os)) ⊎ ((k : ℕ) × (readImage os ≡ refused k) × (oneOf k readNumbers ≡ true))
 read-decided os ho = go (readImage os) refl
   where
     go : (r : Result Graph) → readImage os ≡ r
-        → ((g : Graph) × (readImage os ≡ accepted g) × (within g ≡ true) × (image g ≡ os)) ⊎ ((k : ℕ) × (readImage os ≡ refused k))
+        → ((g : Graph) × (readImage os ≡ accepted g) × (within g ≡ true) × (image g ≡ os)) ⊎ ((k : ℕ) × (readImage os ≡ refused k) × (oneOf k readNumbers ≡ true))
     go (accepted g) e = inl (g, e, read-within os g e, image-read os g e ho)
-    go (refused k) e = inr (k, e)
+    go (refused k) e = inr (k, e, image-grounds os k e)

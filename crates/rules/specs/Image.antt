@@ -1,17 +1,19 @@
 -- The image of a plan, and the plan that octets hold. Document 01, "The image", and the order of read's refusals. Assumes nothing.
-use mathlib.Core.Bool.{Bool, true, false, not}
+use mathlib.Core.Bool.{not}
 use mathlib.Core.List.{List, [], _∷_, _++_}
-use Prim.Native.Nat.{ℕ, zero, suc, _+_, _*_, _/_, _%_}
-use lib.Dec.{leb, ltb, eqb}
+use Prim.Native.Nat.{ℕ, _+_, _*_, _/_, _%_}
+use lib.Dec.{ltb, eqb}
 use lib.ListN.{length}
 use Rattle.graph.specs.Graph.{Graph, Transition, states, count}
 use Rattle.field.specs.Field.{Field, fieldAt, pack}
-use Rattle.rules.specs.declared.Refusal.the-variants.{ImageShort, ImageLong, Version, StateCount, TransitionCount, SpareBits, StateNumber, Duration}
-use Rattle.rules.specs.Refusal.{Result, accepted, refused, _>>=_, _>>_, refuseIf, collect}
+use Rattle.rules.specs.declared.Refusal.the-variants.{ImageShort, ImageLong, Version, StateCount, TransitionCount}
+use Rattle.rules.specs.declared.Refusal.the-variants.{SpareBits, StateNumber, Duration}
+use Rattle.rules.specs.Refusal.{Result, accepted, _>>=_, _>>_, refuseIf, collect}
 use Rattle.rules.specs.Limits.{stateCountOk, transitionCountOk, endsOk, durationsOk}
 
 -- ---- the layout
 
+-- a field by its width and its value
 abbrev pub field : ℕ → ℕ → Field
 field w v = record { width = w; value = v }
 
@@ -47,7 +49,7 @@ imageLength n m = 4 + n + 5 * m
 
 -- ---- reading
 
--- the header's fields, from the front of the image
+-- the header's fields: version at bit position 0, state count at 4, transition count at 14, pad at 26
 abbrev pub versionOf : List ℕ → ℕ
 versionOf os = fieldAt os 0 4
 
@@ -84,7 +86,7 @@ statePlace i = 32 + 8 * i
 abbrev pub transitionPlace : ℕ → ℕ → ℕ
 transitionPlace n i = 32 + 8 * n + 40 * i
 
--- the counts' own grounds: "1 for under 4 octets, 3, 4, 5, 6 for pad, 1, 2"
+-- the grounds of the header and of the length: "1 for under 4 octets, 3, 4, 5, 6 for pad, 1, 2"
 unfoldable pub headerRule : List ℕ → Result (Unit {0})
 headerRule os = do
   refuseIf (ltb (length os) 4) ImageShort

@@ -1,5 +1,5 @@
 -- The limits of a plan. Document 01, "The plan and its edits". Assumes nothing.
-use mathlib.Core.Bool.{Bool, true, false, _&&_}
+use mathlib.Core.Bool.{Bool, true, _&&_}
 use mathlib.Core.List.{List, [], _∷_}
 use Prim.Native.Nat.{ℕ}
 use lib.Dec.{leb, ltb}
@@ -30,10 +30,11 @@ endsOk n t = ltb (t .from) n && ltb (t .to) n
 abbrev pub durationsOk : Transition → Bool
 durationsOk t = leb (t .low) (t .high) && leb (t .high) 2047
 
+-- the limits of a transition of a plan with n states
 abbrev pub transitionOk : ℕ → Transition → Bool
 transitionOk n t = endsOk n t && durationsOk t
 
--- the limits of a plan
+-- "a limit of a plan": the plan breaks none
 unfoldable pub within : Graph → Bool
 within g =
     stateCountOk (states g) && transitionCountOk (count g) && all marksOk (g .marks) && all (transitionOk (states g)) (g .transitions)

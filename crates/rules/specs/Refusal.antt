@@ -6,7 +6,9 @@ use Prim.Native.Nat.{ℕ, zero, suc}
 use Rattle.rules.specs.declared.Answer.{Answer}
 use Rattle.rules.specs.declared.Answer.the-variants.{Accepted, Refused}
 use Rattle.rules.specs.declared.Refusal.{Refusal}
-use Rattle.rules.specs.declared.Refusal.the-variants.{PlanLimits, ImageShort, ImageLong, Version, StateCount, TransitionCount, SpareBits, StateNumber, Duration, ListFull, TransitionNumber, BufferLength, MarksValue, FigureSize}
+use Rattle.rules.specs.declared.Refusal.the-variants.{PlanLimits, ImageShort, ImageLong, Version, StateCount, TransitionCount}
+use Rattle.rules.specs.declared.Refusal.the-variants.{SpareBits, StateNumber, Duration, ListFull, TransitionNumber, BufferLength}
+use Rattle.rules.specs.declared.Refusal.the-variants.{MarksValue, FigureSize}
 
 -- the column "returned" of the table
 abbrev pub number : Refusal → ℕ

@@ -1,12 +1,13 @@
 -- The rules of each call on a plan: its grounds in their order, and what it does. Document 01, "Each event on the plan", the table of refused
 -- calls and the order under it: "0 comes before the rest in every call". Assumes nothing.
-use mathlib.Core.Bool.{Bool, true, false, not}
+use mathlib.Core.Bool.{not}
 use mathlib.Core.List.{List, [], _∷_, _++_}
-use Prim.Native.Nat.{ℕ, zero, suc, _+_}
+use Prim.Native.Nat.{ℕ, suc}
 use lib.Dec.{leb, ltb}
 use lib.ListN.{length, take, drop, set, replicate}
 use Rattle.graph.specs.Graph.{Graph, Transition, states, count}
-use Rattle.rules.specs.declared.Refusal.the-variants.{PlanLimits, StateCount, StateNumber, ListFull, TransitionNumber, BufferLength, MarksValue}
+use Rattle.rules.specs.declared.Refusal.the-variants.{PlanLimits, StateCount, StateNumber, ListFull}
+use Rattle.rules.specs.declared.Refusal.the-variants.{TransitionNumber, BufferLength, MarksValue}
 use Rattle.rules.specs.Refusal.{Result, accepted, refused, _>>=_, _>>_, refuseIf}
 use Rattle.rules.specs.Limits.{within, stateCountOk, marksOk}
 use Rattle.rules.specs.Image.{checked, readImage, image, imageLength}
@@ -35,6 +36,7 @@ without g number = record { marks = g .marks; transitions = take number (g .tran
 
 -- ---- the calls
 
+-- "fresh, given n": 4. It is given no plan
 unfoldable pub freshRule : ℕ → Result Graph
 freshRule n = do
   refuseIf (not (stateCountOk n)) StateCount
@@ -56,18 +58,20 @@ joinRule g t = do
   refuseIf (leb 2048 (count g)) ListFull
   accepted (withTransition g t)
 
+-- "unjoin, given a number": 10
 unfoldable pub unjoinRule : Graph → ℕ → Result Graph
 unjoinRule g number = do
   givenPlan g
   refuseIf (leb (count g) number) TransitionNumber
   accepted (without g number)
 
+-- "read, given octets": 0 ("the old one"), then the order of the image's own grounds
 unfoldable pub readRule : Graph → List ℕ → Result Graph
 readRule g octets = do
   givenPlan g
   readImage octets
 
--- "Write puts the image at the front of the lent buffer and returns its length"
+-- "Write puts the image at the front of the lent buffer and returns its length": 11
 unfoldable pub writeRule : Graph → List ℕ → Result ℕ
 writeRule g buffer = do
   givenPlan g
