@@ -50,7 +50,7 @@ fn run_list(rng: &mut Rng, tally: &mut Tally) {
     for _ in 0..rng.between(1, 50) {
         step(rng, &mut pair, tally);
         match rng.below(60) {
-            0 => pair.litter(rng),
+            0 => pair.fill_past_counts(rng),
             1..=2 => {
                 // A plan altered by hand is handed in for some calls, then the one before again.
                 let kept = pair.clone();

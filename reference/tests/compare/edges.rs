@@ -24,7 +24,7 @@ fn join(from: usize, to: usize, low: u32, high: u32) -> Call {
 fn p1(rng: &mut Rng) -> Pair {
     let mut pair = Pair::fresh(rng, 9);
     assert_eq!(pair.run(&Call::Read(P1.to_vec())), ACCEPTED);
-    pair.litter(rng);
+    pair.fill_past_counts(rng);
     pair
 }
 
@@ -33,7 +33,7 @@ fn random(rng: &mut Rng, n: usize, m: usize) -> Pair {
     let mut pair = Pair::fresh(rng, 1);
     let octets = encode(&generate::plan(rng, n, m));
     assert_eq!(pair.run(&Call::Read(octets)), ACCEPTED);
-    pair.litter(rng);
+    pair.fill_past_counts(rng);
     pair
 }
 

@@ -54,7 +54,7 @@ impl Pair {
     pub fn fresh(rng: &mut Rng, n: usize) -> Pair {
         let mut pair = Pair::noise(rng);
         assert_eq!(pair.run(&Call::Fresh(n)), ACCEPTED);
-        pair.litter(rng);
+        pair.fill_past_counts(rng);
         pair
     }
 
@@ -73,7 +73,7 @@ impl Pair {
     }
 
     /// Fills the places of the plan past the counts with noise, which is no part of the plan.
-    pub fn litter(&mut self, rng: &mut Rng) {
+    pub fn fill_past_counts(&mut self, rng: &mut Rng) {
         let n = self.plan.marks.len();
         let m = self.plan.transitions.len();
         for mark in self.lent.marks.iter_mut().skip(n) {
