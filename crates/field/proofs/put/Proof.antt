@@ -81,7 +81,9 @@ shl-low c = search needs
 sub-low : tie.Need-sub-low
 sub-low c =
     let a = c .before .before .before .args in
-    rw (shifted-one (8 * endOf (a .at) (a .width) - (a .at + a .width)) (omega arith)) (pow-pos _)
+    let h : 8 * endOf (a .at) (a .width) - (a .at + a .width) < 64 = omega arith in
+    let k : a .width < 64 = omega arith in
+    rw shifted-one (pow-pos _)
 
 shl-store : tie.Need-shl-store
 shl-store c = search needs

@@ -1,14 +1,13 @@
 -- `field::take` meets its contract: the octets from at / 8 up to end hold the field, so it is a part of their number.
 -- Assumes nothing.
 use borrow.Author.Needs.{needs}
-use Prim.Native.Nat.{ℕ, _+_, _-_, _*_, _/_, _%_, _^_}
+use Prim.Native.Nat.{ℕ, _+_, _-_, _*_, _/_, _%_, _^_, _<_}
 use mathlib.Core.Path.{_≡_, sym, ap, _∙_}
-use native.Mathlib.Nat.{lt-of-lt-of-le}
+use native.Mathlib.Nat.{lt-of-lt-of-le, mod-lt}
 use native.Mathlib.Omega.{arith}
 use lib.Bits.{bitAnd}
 use lib.Pow.{pow-pos, pow-mono}
 use Rattle.field.specs.Field.{fieldAt}
-use Rattle.field.proofs.Laws.{field-lt}
 use Rattle.field.proofs.Windows.{field-in-window, shifted-one, masked}
 use Rattle.field.proofs.take.Statement.{statement}
 use Rattle.field.proofs.take.Tie as tie
@@ -55,8 +54,9 @@ taken c =
 
 cast-result : tie.Need-cast-result
 cast-result c =
-    let a = c .before .before .args in
-    record { fits = rw (taken c) (lt-of-lt-of-le (field-lt (a .octets .now) (a .at) (a .width)) (pow-mono {i = a .width} {j = 32} (omega arith))) }
+    let w = c .before .before .args .width in
+    let h : w < 64 = omega arith in
+    record { fits = rw masked (lt-of-lt-of-le (mod-lt _ (pow-pos w)) (pow-mono {i = w} {j = 32} (omega arith))) }
 
 returns : tie.Need-returns
 returns c = taken c
