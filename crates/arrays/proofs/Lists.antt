@@ -100,24 +100,20 @@ module _ {A : Type 0} (test : A → Bool) (n : ℕ) (f : ℕ → A) where
       go false e = sym (not-all-tabulate test n f i l e) ∙ h
 
 -- an element set, one put at the end, and one taken out
-pub tabulate-set : (n : ℕ) (l : List ℕ) (k v : ℕ) → k < length l → tabulate n (λ (i : ℕ). getD (set l k v) i 0) ≡ set (tabulate n (λ (i : ℕ). getD l i 0)) k v
-tabulate-set n l k v h = tabulate-of 0 (set (tabulate n f) k v) n (λ (i : ℕ). getD (set l k v) i 0) (length-set (tabulate n f) k v ∙ length-tabulate n f) each
-  where
-    f : ℕ → ℕ
-    f i = getD l i 0
-
-    go : (i : ℕ) → i < n → (k ≡ i) ⊎ (k ≢ i) → getD (set (tabulate n f) k v) i 0 ≡ getD (set l k v) i 0
-    go i hi (inl e) =
-        ap (λ (j : ℕ). getD (set (tabulate n f) k v) j 0) (sym e) ∙ getD-set-same (tabulate n f) k v 0 (rw (length-tabulate n f, e) hi)
-        ∙ sym (getD-set-same l k v 0 h) ∙ ap (λ (j : ℕ). getD (set l k v) j 0) e
-    go i hi (inr d) =
-        let d′ : i ≢ k = λ e. d (sym e) in
-        getD-set-other (tabulate n f) k i v 0 d′ ∙ getD-tabulate n f i 0 hi ∙ sym (getD-set-other l k i v 0 d′)
-
-    each : (i : ℕ) → i < n → getD (set (tabulate n f) k v) i 0 ≡ getD (set l k v) i 0
-    each i hi = go i hi (same-or-not k i)
-
 module _ {A : Type 0} where
+  pub tabulate-set : (n k : ℕ) (f g : ℕ → A) → ((i : ℕ) → i ≢ k → g i ≡ f i) → tabulate n g ≡ set (tabulate n f) k (g k)
+  tabulate-set n k f g others = tabulate-of (g k) (set (tabulate n f) k (g k)) n g (length-set (tabulate n f) k (g k) ∙ length-tabulate n f) each
+    where
+      go : (i : ℕ) → i < n → (k ≡ i) ⊎ (k ≢ i) → getD (set (tabulate n f) k (g k)) i (g k) ≡ g i
+      go i hi (inl e) =
+          ap (λ (j : ℕ). getD (set (tabulate n f) k (g k)) j (g k)) (sym e) ∙ getD-set-same (tabulate n f) k (g k) (g k) (rw (length-tabulate n f, e) hi) ∙ ap g e
+      go i hi (inr d) =
+          let d′ : i ≢ k = λ e. d (sym e) in
+          getD-set-other (tabulate n f) k i (g k) (g k) d′ ∙ getD-tabulate n f i (g k) hi ∙ sym (others i d′)
+
+      each : (i : ℕ) → i < n → getD (set (tabulate n f) k (g k)) i (g k) ≡ g i
+      each i hi = go i hi (same-or-not k i)
+
   pub tabulate-more : (n : ℕ) (f g : ℕ → A) (a : A) → ((i : ℕ) → i < n → g i ≡ f i) → g n ≡ a → tabulate (n + 1) g ≡ tabulate n f ++ (a ∷ [])
   unfolding tabulate
   tabulate-more n f g a h e =

@@ -1,17 +1,21 @@
--- The lists that arrays hold: a plan's marks values, and its transitions by their four fields. Assumes nothing.
+-- The lists that arrays hold: a plan's states by their marks values, and its transitions by their four fields. Assumes nothing.
 use mathlib.Core.List.{List, [], _∷_, _++_}
 use Prim.Native.Nat.{ℕ, zero, suc}
 use lib.ListN.{getD}
-use Rattle.graph.specs.Graph.{Transition}
+use Rattle.graph.specs.Graph.{State, Transition, marked}
 
 -- the list of f 0 up to f (n - 1)
 unfoldable pub tabulate : {A : Type 0} → ℕ → (ℕ → A) → List A
 tabulate zero f = []
 tabulate (suc n) f = tabulate n f ++ (f n ∷ [])
 
--- the first n marks values of an array
-abbrev pub marksOf : ℕ → List ℕ → List ℕ
-marksOf n marks = tabulate n (λ (i : ℕ). getD marks i 0)
+-- the state at place i of an array of marks values
+abbrev pub stateOf : List ℕ → ℕ → State
+stateOf marks i = marked (getD marks i 0)
+
+-- the first n states of an array
+abbrev pub statesOf : ℕ → List ℕ → List State
+statesOf n marks = tabulate n (stateOf marks)
 
 -- the transition at place i of four arrays
 abbrev pub transitionOf : List ℕ → List ℕ → List ℕ → List ℕ → ℕ → Transition

@@ -3,8 +3,8 @@ ghost use mathlib.Core.Path.{_≡_};
 ghost use mathlib.Core.Bool.{_&&_};
 ghost use Prim.Native.Nat.{_≤_, _<_};
 ghost use lib.Dec.{leb, ltb};
-ghost use Rattle.arrays.specs.Tables.{marksOf, transitionOf, transitionsOf};
-ghost use Rattle.rules.specs.Limits.{all, stateCountOk, marksOk, transitionOk};
+ghost use Rattle.arrays.specs.Tables.{statesOf, transitionOf, transitionsOf};
+ghost use Rattle.rules.specs.Limits.{all, stateCountOk, stateOk, transitionOk};
 
 // Whether a plan may have n states.
 pub fn state_count_ok(n: usize) -> bool
@@ -37,7 +37,7 @@ pub fn wide(x: u16) -> usize
 // Whether the first n marks values are at most 7.
 pub fn marks_within(marks: &[u8; 512], n: usize) -> bool
     requires { ⌜ n ≤ 512 ⌝ }
-    ensures { λ r. ⌜ r ≡ all marksOk (marksOf n (now (marks .entry))) ⌝ }
+    ensures { λ r. ⌜ r ≡ all stateOk (statesOf n (now (marks .entry))) ⌝ }
 {
     let mut i = 0;
     while i < n {

@@ -17,7 +17,7 @@ use Rattle.graph.specs.Figure.{number, NONE, STRANDED, ENDLESS, NoStart,
 use Rattle.graph.specs.Figure.{leastDelayCost}
 use Rattle.graph.specs.Figure.{greatestDelayCost, countCost}
 use Rattle.graph.specs.Known.{join, P1, P3, P4, P6, P7, P8, P9, unreached-dead-end, reached-dead-end}
-use Rattle.graph.specs.Known.{counted-ends}
+use Rattle.graph.specs.Known.{plan, counted-ends}
 
 -- transition t, a numeral, departs from s
 departs : (g : Graph) (s t : ℕ) → T (ltb t (count g)) → from g t ≡ s → Departs g s t
@@ -70,7 +70,7 @@ no-answer-there (b, w) = false≢true (w .2)
 
 -- 0→0 and 0→1, state 0 a start: P4 and P9 are such plans
 abbrev loop : ℕ → ℕ → Graph
-loop m d = record { marks = 4 ∷ m ∷ []; transitions = join 0 0 d d ∷ join 0 1 1 1 ∷ [] }
+loop m d = plan (4 ∷ m ∷ []) (join 0 0 d d ∷ join 0 1 1 1 ∷ [])
 
 -- 0→0, over and over: how long it lasts makes no difference
 pub loop-endless : (m d : ℕ) → GoesOnForever (loop m d)
@@ -88,7 +88,7 @@ pub zero-loop-endless : GoesOnForever (P4 .plan)
 zero-loop-endless = loop-endless 2 0
 
 -- of the marks 4, 2, 0 only the first is a start
-only-0 : (ts : List Transition) (s : ℕ) → Begins (record { marks = 4 ∷ 2 ∷ 0 ∷ []; transitions = ts }) s → s ≡ 0
+only-0 : (ts : List Transition) (s : ℕ) → Begins (plan (4 ∷ 2 ∷ 0 ∷ []) ts) s → s ≡ 0
 unfolding start
 only-0 ts zero b = refl
 only-0 ts (suc zero) b = absurd (false≢true b)

@@ -11,7 +11,7 @@ use native.Mathlib.Decide.{decLt}
 use native.Mathlib.Omega.{arith}
 use lib.Dec.{eqb}
 use lib.ListN.{length, take, List·getD-eq-default}
-use Rattle.graph.specs.Graph.{Graph, states, marksOf, start, to, Departs, Closed}
+use Rattle.graph.specs.Graph.{Graph, State, marked, states, marksOf, start, to, Departs, Closed}
 use Rattle.graph.specs.Walk.{Begins, WalkTo, WalkFrom, visits, arrival}
 use Rattle.graph.proofs.Repeat.{nth}
 
@@ -22,7 +22,7 @@ start-below g s b = go (decLt s (states g))
   where
     go : Dec (s < states g) → s < states g
     go (yes h) = h
-    go (no h) = absurd (false≢true (sym (ap (λ (m : ℕ). eqb (m / 4 % 2) 1) (List·getD-eq-default (g .marks) 0 (omega arith))) ∙ b))
+    go (no h) = absurd (false≢true (sym (ap (λ (x : State). eqb (x .marks / 4 % 2) 1) (List·getD-eq-default (g .stateList) (marked 0) (omega arith))) ∙ b))
 
 module _ (g : Graph) where
   -- a walk of k transitions has k + 1 states

@@ -1,5 +1,5 @@
--- The state graph of a call plan, as the lists that a plan value stands for: its states and their marks, its
--- transitions by number. Document 01, "The plan and its edits" and the first paragraph of "Routes and figures". Assumes
+-- The state graph of a call plan, as the lists that a plan value stands for: its states by number, its transitions by
+-- number. Document 01, "The plan and its edits" and the first paragraph of "Routes and figures". Assumes
 -- nothing.
 use Prim.Native.Nat.{ℕ, _/_, _%_, _<_}
 use mathlib.Core.Path.{_≡_}
@@ -15,22 +15,34 @@ pub record Transition : Type 0 where
   pub low : ℕ
   pub high : ℕ
 
--- "a marks value for each state, and a list of 0 to 2,048 transitions": states and transitions are numbered from 0 by place
+-- "a marks value for each state": what a plan keeps of a state (E4 adds a team)
+pub record State : Type 0 where
+  pub marks : ℕ
+
+-- the state with this marks value, and nothing else
+abbrev pub marked : ℕ → State
+marked value = record { marks = value }
+
+-- a plan: a state for each number below n, "and a list of 0 to 2,048 transitions". Both are numbered from 0 by place
 pub record Graph : Type 0 where
-  pub marks : List ℕ
+  pub stateList : List State
   pub transitions : List Transition
 
 -- n, "a number of states"
 abbrev pub states : Graph → ℕ
-states g = length (g .marks)
+states g = length (g .stateList)
 
 -- m, "the transition count"
 abbrev pub count : Graph → ℕ
 count g = length (g .transitions)
 
--- the marks value of state s; 0, no mark, for a number that is no state's
+-- the state numbered s; one without marks for a number that is no state's
+abbrev pub state : Graph → ℕ → State
+state g s = getD (g .stateList) s (marked 0)
+
+-- its marks value
 unfoldable pub marksOf : Graph → ℕ → ℕ
-marksOf g s = getD (g .marks) s 0
+marksOf g s = (state g s) .marks
 
 -- "4 for start"
 unfoldable pub start : Graph → ℕ → Bool

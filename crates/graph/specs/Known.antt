@@ -1,14 +1,18 @@
 -- The plans with known figures, P1 to P9, and the plans that mislead: document 01, "Plans with known figures" and "What
 -- misleads people here". proofs/Known.antt proves `Holds` of every row. Assumes nothing.
 use Prim.Native.Nat.{ℕ}
-use mathlib.Core.List.{List, [], _∷_}
-use Rattle.graph.specs.Graph.{Graph, Transition}
+use mathlib.Core.List.{List, [], _∷_, map}
+use Rattle.graph.specs.Graph.{Graph, Transition, marked}
 use Rattle.graph.specs.Figure.{Figure, number, NONE, STRANDED, ENDLESS, IsLeast, IsGreatest, leastDelayCost}
 use Rattle.graph.specs.Figure.{greatestDelayCost, countCost}
 
 -- "a→b 1..9 is a transition with its durations"
 abbrev pub join : ℕ → ℕ → ℕ → ℕ → Transition
 join a b l h = record { from = a; to = b; low = l; high = h }
+
+-- a plan by the marks values of its states, and its transitions
+abbrev pub plan : List ℕ → List Transition → Graph
+plan ms ts = record { stateList = map marked ms; transitions = ts }
 
 -- a plan, and its "figures in record order"
 pub record Row : Type 0 where
@@ -20,7 +24,7 @@ pub record Row : Type 0 where
 
 abbrev pub row : List ℕ → List Transition → Figure → Figure → Figure → Figure → Row
 row ms ts ld gd lc gc = record {
-  plan = record { marks = ms; transitions = ts };
+  plan = plan ms ts;
   least-delay = ld;
   greatest-delay = gd;
   least-count = lc;

@@ -5,7 +5,7 @@ ghost use lib.ListN.{length};
 ghost use Rattle.field.specs.Field.{Within, fieldAt};
 ghost use Rattle.rules.specs.Refusal.{said, outcome};
 ghost use Rattle.rules.specs.Image.{headerRule, stateCountOf, transitionCountOf, transitionAt, statesIn, transitionsIn};
-ghost use Rattle.arrays.specs.Tables.{marksOf, transitionsOf};
+ghost use Rattle.arrays.specs.Tables.{statesOf, transitionsOf};
 ghost use Rattle.image.specs.Values.{meant};
 use crate::Transition;
 use arrays::limits;
@@ -84,7 +84,7 @@ fn marks_at(octets: &[u8], at: usize) -> u8
 // Reads the marks values of n states, by number.
 pub fn states(octets: &[u8], n: usize, marks: &mut [u8; 512]) -> Answer
     requires { ⌜ (n ≤ 512) × (n ≤ length (now marks)) × (4 + n ≤ length (now octets)) ⌝ }
-    ensures { λ r. ⌜ outcome r (marksOf n (now (marks .exit))) ≡ statesIn (now (octets .entry)) n ⌝ }
+    ensures { λ r. ⌜ outcome r (statesOf n (now (marks .exit))) ≡ statesIn (now (octets .entry)) n ⌝ }
 {
     let mut i = 0;
     while i < n {

@@ -3,10 +3,11 @@ ghost use mathlib.Core.Path.{_≡_};
 ghost use Prim.Native.Nat.{_+_, _*_, _≤_, _<_, _^_};
 ghost use lib.ListN.{length};
 ghost use Rattle.field.specs.Field.{Within, AllFit, putAll};
+ghost use Rattle.graph.specs.Graph.{marked};
 ghost use Rattle.rules.specs.Image.{headerFields, stateFields, transitionFields, fieldsOfEach};
 ghost use Rattle.rules.specs.Limits.{all, transitionOk};
 ghost use mathlib.Core.Bool.{true};
-ghost use Rattle.arrays.specs.Tables.{marksOf, transitionOf, transitionsOf};
+ghost use Rattle.arrays.specs.Tables.{statesOf, transitionOf, transitionsOf};
 
 // Puts the fields of the header at the front.
 pub fn header(buffer: &mut [u8], n: usize, m: usize)
@@ -22,7 +23,7 @@ pub fn header(buffer: &mut [u8], n: usize, m: usize)
 // Puts the fields of a state at a bit position.
 fn state(buffer: &mut [u8], at: usize, value: u8)
     requires { ⌜ Within (now buffer) at 8 ⌝ }
-    ensures { λ r. ⌜ now (buffer .exit) ≡ putAll (now (buffer .entry)) at (stateFields value) ⌝ }
+    ensures { λ r. ⌜ now (buffer .exit) ≡ putAll (now (buffer .entry)) at (stateFields (marked value)) ⌝ }
 {
     field::put(buffer, at, 1, (value / 4 % 2) as u32);
     field::put(buffer, at + 1, 1, (value / 2 % 2) as u32);
@@ -54,7 +55,7 @@ fn transition(
 // Puts the fields of the first n states, by number.
 pub fn states(buffer: &mut [u8], marks: &[u8; 512], n: usize)
     requires { ⌜ (n ≤ 512) × (4 + n ≤ length (now buffer)) ⌝ }
-    ensures { λ r. ⌜ now (buffer .exit) ≡ putAll (now (buffer .entry)) 32 (fieldsOfEach stateFields (marksOf n (now (marks .entry)))) ⌝ }
+    ensures { λ r. ⌜ now (buffer .exit) ≡ putAll (now (buffer .entry)) 32 (fieldsOfEach stateFields (statesOf n (now (marks .entry)))) ⌝ }
 {
     let mut i = 0;
     while i < n {

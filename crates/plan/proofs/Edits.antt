@@ -7,8 +7,8 @@ use mathlib.Core.Path.{_≡_, refl, sym, ap, ap₂, _∙_}
 use Prim.Native.Nat.{ℕ, zero, suc, _+_, _-_, _≤_, _<_}
 use native.Mathlib.Omega.{arith}
 use lib.ListN.{length, getD, take, drop, set, replicate, length-replicate, getD-replicate, length-append, length-drop, List·getD-append}
-use lib.Seq.{paste, getD-take, getD-drop, getD-append-add, length-take-le}
-use Rattle.graph.specs.Graph.{Graph, Transition, states, count}
+use lib.Seq.{paste, getD-set-same, getD-set-other, getD-take, getD-drop, getD-append-add, length-take-le}
+use Rattle.graph.specs.Graph.{Graph, State, Transition, states, count, marked as state}
 use Rattle.rules.specs.declared.Answer.the-variants.{Accepted, Refused}
 use Rattle.rules.specs.declared.Refusal.{Refusal}
 use Rattle.rules.specs.Refusal.{number, Result, accepted, refused, answerOf, said}
@@ -16,7 +16,7 @@ use Rattle.rules.specs.Rules.{freshGraph, withMark, withTransition, without, ne
 use Rattle.rules.proofs.Results.{never}
 use Rattle.plan.specs.declared.Plan.{Plan}
 use Rattle.plan.specs.declared.Edited.{Edited}
-use Rattle.arrays.specs.Tables.{tabulate, transitionOf, transition}
+use Rattle.arrays.specs.Tables.{tabulate, stateOf, statesOf, transitionOf, transition}
 use Rattle.plan.specs.View.{view, blankPlan}
 use Rattle.plan.specs.Promise.{Edit}
 use Rattle.arrays.proofs.Lists.{tabulate-of, tabulate-set, tabulate-more, tabulate-without, same-transition, transition-other, transition-here}
@@ -34,9 +34,9 @@ acceptance p q o g e v = record { answer = rw e; plan = rw e v; kept = λ k f. a
 pub view-blank : (n : ℕ) → n ≤ 512 → view (blankPlan n) ≡ freshGraph n
 unfolding view tabulate
 view-blank n h =
-    ap {B = Graph} (λ (l : List ℕ). record { marks = l; transitions = [] })
-    (tabulate-of 0 (replicate n 0) n (λ (i : ℕ). getD (replicate 512 0) i 0) (length-replicate n 0)
-    (λ i k. getD-replicate n i 0 0 k ∙ sym (getD-replicate 512 i 0 0 (omega arith))))
+    ap {B = Graph} (λ (l : List State). record { stateList = l; transitions = [] })
+    (tabulate-of (state 0) (replicate n (state 0)) n (stateOf (replicate 512 0)) (length-replicate n (state 0))
+    (λ i k. getD-replicate n i (state 0) (state 0) k ∙ ap state (sym (getD-replicate 512 i 0 0 (omega arith)))))
 
 module _ (p : Plan) where
   -- the plan value with a marks value set
@@ -44,11 +44,12 @@ module _ (p : Plan) where
   marked state value =
       record { states = p .states; transitions = p .transitions; marks = set (p .marks) state value; from = p .from; to = p .to; low = p .low; high = p .high }
 
-  pub view-marked : (state value : ℕ) → state < length (p .marks) → view (marked state value) ≡ withMark (view p) state value
+  pub view-marked : (k value : ℕ) → k < length (p .marks) → view (marked k value) ≡ withMark (view p) k value
   unfolding view
-  view-marked state value h =
-      ap {B = Graph} (λ (l : List ℕ). record { marks = l; transitions = tabulate (p .transitions) (transitionOf (p .from) (p .to) (p .low) (p .high)) })
-      (tabulate-set (p .states) (p .marks) state value h)
+  view-marked k value h =
+      ap {B = Graph} (λ (l : List State). record { stateList = l; transitions = tabulate (p .transitions) (transitionOf (p .from) (p .to) (p .low) (p .high)) })
+      (tabulate-set (p .states) k (stateOf (p .marks)) (stateOf (set (p .marks) k value)) (λ i d. ap state (getD-set-other (p .marks) k i value 0 d))
+      ∙ ap (λ (v : ℕ). set (statesOf (p .states) (p .marks)) k (state v)) (getD-set-same (p .marks) k value 0 h))
 
   -- the plan value with a transition at the end
   abbrev pub joined : ℕ → ℕ → ℕ → ℕ → Plan
@@ -61,7 +62,7 @@ module _ (p : Plan) where
   unfolding view
   view-joined f t l h hf ht hl hh =
       let m : ℕ = p .transitions in
-      ap {B = Graph} (λ (ts : List Transition). record { marks = tabulate (p .states) (λ (i : ℕ). getD (p .marks) i 0); transitions = ts })
+      ap {B = Graph} (λ (ts : List Transition). record { stateList = statesOf (p .states) (p .marks); transitions = ts })
       (tabulate-more m (transitionOf (p .from) (p .to) (p .low) (p .high)) (transitionOf (set (p .from) m f) (set (p .to) m t) (set (p .low) m l) (set (p .high) m h)) (transition f t l h)
       (λ i k. transition-other (p .from) (p .to) (p .low) (p .high) m f t l h i (omega arith))
       (transition-here (p .from) (p .to) (p .low) (p .high) m f t l h hf ht hl hh))
@@ -99,7 +100,7 @@ module _ (p : Plan) where
       → view (unjoined k) ≡ without (view p) k
   unfolding view
   view-unjoined k h hf ht hl hh =
-      ap {B = Graph} (λ (ts : List Transition). record { marks = tabulate (p .states) (λ (i : ℕ). getD (p .marks) i 0); transitions = ts })
+      ap {B = Graph} (λ (ts : List Transition). record { stateList = statesOf (p .states) (p .marks); transitions = ts })
       (tabulate-without (transition 0 0 0 0) (p .transitions) k (transitionOf (p .from) (p .to) (p .low) (p .high))
       (transitionOf (moved (p .from) k) (moved (p .to) k) (moved (p .low) k) (moved (p .high) k)) h
       (λ i l. same-transition (moved-before (p .from) k i h hf l) (moved-before (p .to) k i h ht l) (moved-before (p .low) k i h hl l) (moved-before (p .high) k i h hh l))

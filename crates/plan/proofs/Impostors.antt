@@ -7,7 +7,8 @@ use mathlib.Core.Path.{_≡_, refl, sym, ap, _∙_}
 use Prim.Native.Nat.{ℕ}
 use native.Mathlib.Omega.{arith}
 use lib.ListN.{getD, replicate}
-use Rattle.graph.specs.Graph.{Graph}
+use Rattle.graph.specs.Graph.{Graph, state}
+use Rattle.graph.specs.Known.{plan, P1}
 use Rattle.rules.specs.declared.Answer.{Answer}
 use Rattle.rules.specs.declared.Answer.the-variants.{Accepted, Refused}
 use Rattle.rules.specs.declared.Refusal.{Refusal}
@@ -17,7 +18,7 @@ use Rattle.rules.specs.Limits.{within, all}
 use Rattle.rules.specs.Refusal.{Result, accepted, refused, number, answerOf, said}
 use Rattle.rules.specs.Rules.{freshGraph, markRule, readRule, writeRule, written, next}
 use Rattle.rules.proofs.Results.{never}
-use Rattle.rules.proofs.Basic.{plan, octets, image-of-plan}
+use Rattle.rules.proofs.Basic.{octets, image-of-plan}
 use Rattle.rules.proofs.Vectors.{plan-in-octets}
 use Rattle.plan.specs.declared.Edited.{Edited}
 use Rattle.plan.specs.declared.Plan.{Plan}
@@ -27,31 +28,30 @@ use Rattle.plan.specs.View.{view}
 use Rattle.plan.proofs.Promises.{obeyed-run}
 
 -- "one that obeys the first edit and merely acknowledges the rest": it marks state 0 with 4, says that it marked it with 2, and holds 4
-pub acknowledges-the-rest : (p q : Plan) → view p ≡ freshGraph 1 → view q ≡ record { marks = 4 ∷ []; transitions = [] }
+pub acknowledges-the-rest : (p q : Plan) → view p ≡ freshGraph 1 → view q ≡ plan (4 ∷ []) []
     → Obeyed p (mark 0 4 ∷ mark 0 2 ∷ []) (Accepted ∷ Accepted ∷ []) q → ⊥
 unfolding run markRule within all
 acknowledges-the-rest p q ep eq o =
-    let e : _≡_ {A = Graph} (record { marks = 4 ∷ []; transitions = [] }) (record { marks = 2 ∷ []; transitions = [] }) =
+    let e : plan (4 ∷ []) [] ≡ plan (2 ∷ []) [] =
     sym eq ∙ obeyed-run o .1 ∙ ap (λ (g : Graph). run g (mark 0 4 ∷ mark 0 2 ∷ []) .last) ep in
-    let n : _≡_ {A = ℕ} 4 2 = ap (λ (g : Graph). getD (g .marks) 0 0) e in
+    let n : _≡_ {A = ℕ} 4 2 = ap (λ (g : Graph). (state g 0) .marks) e in
     omega arith
 
 -- what read gives of the known octets, over a plan of one state
-known-read : (p : Plan) → view p ≡ freshGraph 1 → readRule (view p) octets ≡ accepted plan
+known-read : (p : Plan) → view p ≡ freshGraph 1 → readRule (view p) octets ≡ accepted (P1 .plan)
 unfolding readRule within all
 known-read p e = ap (λ (g : Graph). readRule g octets) e ∙ plan-in-octets
 
 -- "one that leaves the plan alone": it says that it read the octets, and holds the plan of one state
 pub leaves-the-plan : (p : Plan) (e : Edited) → view p ≡ freshGraph 1 → view (e .plan) ≡ freshGraph 1 → Edit p (readRule (view p) octets) e → ⊥
-unfolding plan
 leaves-the-plan p e ep ee x =
-    let s : freshGraph 1 ≡ plan = sym ee ∙ x .plan ∙ ap (next (view p)) (known-read p ep) in
-    let n : _≡_ {A = ℕ} 0 4 = ap (λ (g : Graph). getD (g .marks) 0 0) s in
+    let s : freshGraph 1 ≡ P1 .plan = sym ee ∙ x .plan ∙ ap (next (view p)) (known-read p ep) in
+    let n : _≡_ {A = ℕ} 0 4 = ap (λ (g : Graph). (state g 0) .marks) s in
     omega arith
 
 -- "and the buffer empty": it answers a write of the known plan, and the buffer stays as it was
-pub leaves-the-buffer : (w : Written) → Write plan (replicate 28 0) (replicate 28 0) w → ⊥
-unfolding plan writeRule within all octets
+pub leaves-the-buffer : (w : Written) → Write (P1 .plan) (replicate 28 0) (replicate 28 0) w → ⊥
+unfolding writeRule within all octets
 leaves-the-buffer w x =
     let b : _≡_ {A = List ℕ} (replicate 28 0) (octets ++ []) = x .buffer ∙ ap {B = List ℕ} (λ (l : List ℕ). l ++ []) image-of-plan in
     let n : _≡_ {A = ℕ} 0 16 = ap (λ (l : List ℕ). getD l 0 0) b in

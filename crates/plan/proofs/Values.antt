@@ -10,15 +10,15 @@ use Rattle.field.specs.Field.{Field, Octets, putAll}
 use Rattle.graph.specs.Graph.{Graph, Transition, states, count}
 use Rattle.rules.specs.Image.{image, imageLength, headerFields, stateFields, transitionFields, fieldsOfEach}
 use Rattle.rules.proofs.ReadWrite.{put-image}
-use Rattle.rules.specs.Limits.{all, within, stateCountOk, transitionCountOk, marksOk, transitionOk}
+use Rattle.rules.specs.Limits.{all, within, stateCountOk, transitionCountOk, stateOk, transitionOk}
 use Rattle.plan.specs.declared.Plan.{Plan}
-use Rattle.arrays.specs.Tables.{marksOf, transitionOf, transitionsOf}
+use Rattle.arrays.specs.Tables.{stateOf, statesOf, transitionOf, transitionsOf}
 use Rattle.plan.specs.View.{view}
 use Rattle.arrays.proofs.Lists.{length-tabulate}
 
 pub states-view : (p : Plan) → states (view p) ≡ p .states
 unfolding view
-states-view p = length-tabulate (p .states) (λ (i : ℕ). getD (p .marks) i 0)
+states-view p = length-tabulate (p .states) (stateOf (p .marks))
 
 pub count-view : (p : Plan) → count (view p) ≡ p .transitions
 unfolding view
@@ -26,7 +26,7 @@ count-view p = length-tabulate (p .transitions) (transitionOf (p .from) (p .to) 
 
 -- the limits, over the counts and the arrays
 pub within-view : (p : Plan) → within (view p)
-    ≡ (stateCountOk (p .states) && transitionCountOk (p .transitions) && all marksOk (marksOf (p .states) (p .marks))
+    ≡ (stateCountOk (p .states) && transitionCountOk (p .transitions) && all stateOk (statesOf (p .states) (p .marks))
     && all (transitionOk (p .states)) (transitionsOf (p .transitions) (p .from) (p .to) (p .low) (p .high)))
 unfolding view within
 within-view p = rw (states-view p, count-view p)
@@ -39,22 +39,22 @@ module _ (p : Plan) where
   pub count-out : stateCountOk (p .states) ≡ true → transitionCountOk (p .transitions) ≡ false → false ≡ within (view p)
   count-out s t = sym (within-view p ∙ rw (s, t))
 
-  pub marks-out : stateCountOk (p .states) ≡ true → transitionCountOk (p .transitions) ≡ true → all marksOk (marksOf (p .states) (p .marks)) ≡ false → false ≡ within (view p)
+  pub marks-out : stateCountOk (p .states) ≡ true → transitionCountOk (p .transitions) ≡ true → all stateOk (statesOf (p .states) (p .marks)) ≡ false → false ≡ within (view p)
   marks-out s t m = sym (within-view p ∙ rw (s, t, m))
 
-  pub transitions-left : stateCountOk (p .states) ≡ true → transitionCountOk (p .transitions) ≡ true → all marksOk (marksOf (p .states) (p .marks)) ≡ true
+  pub transitions-left : stateCountOk (p .states) ≡ true → transitionCountOk (p .transitions) ≡ true → all stateOk (statesOf (p .states) (p .marks)) ≡ true
       → all (transitionOk (p .states)) (transitionsOf (p .transitions) (p .from) (p .to) (p .low) (p .high)) ≡ within (view p)
   transitions-left s t m = sym (within-view p ∙ rw (s, t, m))
 
 -- the fields of the counts and the arrays, put one after another at the front of a buffer, leave the image there, and the rest
 pub put-view : (p : Plan) (b : List ℕ) → Octets b → imageLength (p .states) (p .transitions) ≤ length b
     → putAll
-    (putAll (putAll b 0 (headerFields (p .states) (p .transitions))) 32 (fieldsOfEach stateFields (marksOf (p .states) (p .marks))))
+    (putAll (putAll b 0 (headerFields (p .states) (p .transitions))) 32 (fieldsOfEach stateFields (statesOf (p .states) (p .marks))))
     (32 + 8 * p .states) (fieldsOfEach transitionFields (transitionsOf (p .transitions) (p .from) (p .to) (p .low) (p .high)))
     ≡ image (view p) ++ drop (imageLength (p .states) (p .transitions)) b
 unfolding view
 put-view p b ho h =
-    let S : List Field = fieldsOfEach stateFields (marksOf (p .states) (p .marks)) in
+    let S : List Field = fieldsOfEach stateFields (statesOf (p .states) (p .marks)) in
     let T : List Field = fieldsOfEach transitionFields (transitionsOf (p .transitions) (p .from) (p .to) (p .low) (p .high)) in
     ap₂ (λ (n m : ℕ). putAll (putAll (putAll b 0 (headerFields n m)) 32 S) (32 + 8 * n) T) (sym (states-view p)) (sym (count-view p))
     ∙ put-image (view p) b ho (omega (arith, states-view p, count-view p))

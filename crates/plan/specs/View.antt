@@ -3,12 +3,12 @@
 use Prim.Native.Nat.{ℕ}
 use lib.ListN.{replicate}
 use Rattle.graph.specs.Graph.{Graph}
-use Rattle.arrays.specs.Tables.{marksOf, transitionsOf}
+use Rattle.arrays.specs.Tables.{statesOf, transitionsOf}
 use Rattle.plan.specs.declared.Plan.{Plan}
 
 -- the plan that a plan value stands for, whatever the value is
 unfoldable pub view : Plan → Graph
-view p = record { marks = marksOf (p .states) (p .marks); transitions = transitionsOf (p .transitions) (p .from) (p .to) (p .low) (p .high) }
+view p = record { stateList = statesOf (p .states) (p .marks); transitions = transitionsOf (p .transitions) (p .from) (p .to) (p .low) (p .high) }
 
 -- the plan value with n states and all else zero
 abbrev pub blankPlan : ℕ → Plan

@@ -15,7 +15,7 @@ use lib.Dec.{lit<}
 use Rattle.graph.specs.Graph.{Graph, Transition, marksOf, start, final, counted, transition, from, to, Departs, DeadEnd}
 use Rattle.graph.specs.Compute.{any, nonempty}
 use Rattle.graph.specs.Figure.{number, NONE, STRANDED, IsLeast, IsGreatest, leastDelayCost, greatestDelayCost}
-use Rattle.graph.specs.Known.{join, P1, P2, P3, P5, reached-dead-end}
+use Rattle.graph.specs.Known.{plan, join, P1, P2, P3, P5, reached-dead-end}
 use Rattle.graph.proofs.Walks.{start-below}
 use Rattle.graph.proofs.Known.{known-hold}
 use Rattle.report.specs.Procedure.{Loop, ends, turns, Procedure, Returns}
@@ -27,9 +27,6 @@ use Rattle.report.specs.Counts.{those, at, Nₐ, Tₐ, updated, Vars, mi
 -- a→b with durations of 1
 abbrev pub step : ℕ → ℕ → Transition
 step a b = join a b 1 1
-
-abbrev pub plan : List ℕ → List Transition → Graph
-plan ms ts = record { marks = ms; transitions = ts }
 
 -- what lower and upper return
 pub record Bounds (g : Graph) (least greatest : Bound) : Type 0 where

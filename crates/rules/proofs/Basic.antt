@@ -10,27 +10,22 @@ use Prim.Native.Nat.{ℕ}
 use lib.Dec.{leb, ltb, eqb}
 use lib.ListN.{length}
 use Rattle.field.specs.Field.{pack, octetsOf, bitsOf, bitsOfAll, widthOfAll, number}
-use Rattle.graph.specs.Graph.{Graph, Transition, states, count}
+use Rattle.graph.specs.Known.{P1}
+use Rattle.graph.specs.Graph.{Graph, State, Transition, states, count}
 use Rattle.rules.specs.Image.{image, imageFields, fieldsOfEach, headerRule, statesIn, transitionsIn, readImage, imageLength, versionOf, stateCountOf, transitionCountOf, padOf, stateAt, checked}
 use Rattle.rules.specs.Limits.{within, stateCountOk, transitionCountOk, marksOk, endsOk, durationsOk}
 use Rattle.rules.specs.Refusal.{Result, accepted, refused}
 use Rattle.rules.specs.Rules.{freshRule, markRule, joinRule, unjoinRule, readRule, writeRule, freshGraph, withMark, withTransition, without}
 
--- ---- the plan and the 28 octets of "Plans with known figures"
-
-abbrev step : ℕ → ℕ → ℕ → ℕ → Transition
-step f t l h = record { from = f; to = t; low = l; high = h }
-
-unfoldable pub plan : Graph
-plan = record { marks = 4 ∷ 1 ∷ 1 ∷ 2 ∷ []; transitions = step 0 1 5 20 ∷ step 1 2 3 15 ∷ step 1 3 2 30 ∷ step 2 3 4 25 ∷ [] }
+-- ---- P1 and the 28 octets of "Plans with known figures"
 
 unfoldable pub octets : List ℕ
 octets =
     0x10 ∷ 0x10 ∷ 0x01 ∷ 0x00 ∷ 0x80 ∷ 0x20 ∷ 0x20 ∷ 0x40 ∷ 0x00 ∷ 0x00 ∷ 0x40 ∷ 0x28 ∷ 0x14 ∷ 0x00 ∷ 0x80 ∷ 0x80 ∷ 0x18 ∷ 0x0F ∷ 0x00 ∷ 0x80
     ∷ 0xC0 ∷ 0x10 ∷ 0x1E ∷ 0x01 ∷ 0x00 ∷ 0xC0 ∷ 0x20 ∷ 0x19 ∷ []
 
-pub image-of-plan : image plan ≡ octets
-unfolding plan octets image imageFields fieldsOfEach pack octetsOf bitsOf bitsOfAll widthOfAll number
+pub image-of-plan : image (P1 .plan) ≡ octets
+unfolding octets image imageFields fieldsOfEach pack octetsOf bitsOf bitsOfAll widthOfAll number
 image-of-plan = refl
 
 -- ---- fresh, mark, join, unjoin
@@ -161,16 +156,16 @@ module _ (os : List ℕ) where
   unfolding readImage
   read-states h k s = rw (h, s)
 
-  pub read-transitions : headerRule os ≡ accepted tt → (k : ℕ) (ms : List ℕ) → statesIn os (stateCountOf os) ≡ accepted ms
+  pub read-transitions : headerRule os ≡ accepted tt → (k : ℕ) (ss : List State) → statesIn os (stateCountOf os) ≡ accepted ss
       → transitionsIn os (stateCountOf os) (transitionCountOf os) ≡ refused k → readImage os ≡ refused k
   unfolding readImage
-  read-transitions h k ms s t = rw (h, s, t)
+  read-transitions h k ss s t = rw (h, s, t)
 
-  pub read-done : headerRule os ≡ accepted tt → (ms : List ℕ) → statesIn os (stateCountOf os) ≡ accepted ms
+  pub read-done : headerRule os ≡ accepted tt → (ss : List State) → statesIn os (stateCountOf os) ≡ accepted ss
       → (ts : List Transition) → transitionsIn os (stateCountOf os) (transitionCountOf os) ≡ accepted ts
-      → readImage os ≡ accepted (record { marks = ms; transitions = ts })
+      → readImage os ≡ accepted (record { stateList = ss; transitions = ts })
   unfolding readImage
-  read-done h ms s ts t = rw (h, s, t)
+  read-done h ss s ts t = rw (h, s, t)
 
 -- of one transition, "7 before 8"
 pub checked-7 : (n : ℕ) (t : Transition) → endsOk n t ≡ false → checked n t ≡ refused 7

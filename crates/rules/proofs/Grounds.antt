@@ -9,7 +9,7 @@ use Prim.Native.Nat.{ℕ, zero, suc, _+_, _*_}
 use native.Mathlib.Omega.{arith}
 use lib.Dec.{leb, ltb, eqb}
 use lib.ListN.{length}
-use Rattle.graph.specs.Graph.{Graph, Transition, states, count}
+use Rattle.graph.specs.Graph.{Graph, State, Transition, marked, states, count}
 use Rattle.field.specs.Field.{Octets, fieldAt}
 use Rattle.rules.specs.declared.Refusal.{Refusal}
 use Rattle.rules.specs.declared.Refusal.the-variants.{PlanLimits, ImageShort, ImageLong, Version, StateCount, TransitionCount, SpareBits, StateNumber, Duration, ListFull, TransitionNumber, BufferLength, MarksValue}
@@ -135,7 +135,7 @@ header-grounds os =
 
 state-grounds : (os : List ℕ) (at : ℕ) → Only readNumbers (stateAt os at)
 state-grounds os at =
-    let v : ℕ = 4 * fieldAt os at 1 + 2 * fieldAt os (at + 1) 1 + fieldAt os (at + 2) 1 in
+    let v : State = marked (4 * fieldAt os at 1 + 2 * fieldAt os (at + 1) 1 + fieldAt os (at + 2) 1) in
     first readNumbers (not (eqb (fieldAt os (at + 3) 5) 0)) SpareBits (accepted v) refl (accept readNumbers v)
 
 pub image-grounds : (os : List ℕ) → Only readNumbers (readImage os)
@@ -143,13 +143,13 @@ unfolding readImage statesIn transitionsIn
 image-grounds os =
     let n : ℕ = stateCountOf os in
     let m : ℕ = transitionCountOf os in
-    let last : List ℕ → List Transition → Result Graph = λ ms ts. accepted (record { marks = ms; transitions = ts }) in
-    both readNumbers (headerRule os) (statesIn os n >>= λ ms. transitionsIn os n m >>= λ ts. last ms ts) (header-grounds os)
-    (bind readNumbers (statesIn os n) (λ ms. transitionsIn os n m >>= λ ts. last ms ts)
+    let last : List State → List Transition → Result Graph = λ ss ts. accepted (record { stateList = ss; transitions = ts }) in
+    both readNumbers (headerRule os) (statesIn os n >>= λ ss. transitionsIn os n m >>= λ ts. last ss ts) (header-grounds os)
+    (bind readNumbers (statesIn os n) (λ ss. transitionsIn os n m >>= λ ts. last ss ts)
     (each readNumbers (λ (i : ℕ). stateAt os (statePlace i)) (λ i. state-grounds os (statePlace i)) n 0)
-    (λ ms. bind readNumbers (transitionsIn os n m) (λ ts. last ms ts)
+    (λ ss. bind readNumbers (transitionsIn os n m) (λ ts. last ss ts)
     (each readNumbers (λ (i : ℕ). checked n (transitionAt os (transitionPlace n i))) (λ i. checked-grounds readNumbers refl refl n (transitionAt os (transitionPlace n i))) m 0)
-    (λ ts. accept readNumbers (record { marks = ms; transitions = ts }))))
+    (λ ts. accept readNumbers (record { stateList = ss; transitions = ts }))))
 
 pub read-grounds : (g : Graph) (os : List ℕ) → Only readNumbers (readRule g os)
 unfolding readRule

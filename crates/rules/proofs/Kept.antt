@@ -10,11 +10,11 @@ use native.Mathlib.Omega.{arith}
 use lib.Dec.{leb, ltb}
 use lib.ListN.{length, take, drop, set, replicate, length-append, length-take, length-drop, length-set, length-replicate}
 use borrow.Author.Tests.{leb-true, leb-false}
-use Rattle.graph.specs.Graph.{Graph, Transition, states, count}
+use Rattle.graph.specs.Graph.{Graph, Transition, marked, states, count}
 use Rattle.field.specs.Field.{Octets}
 use Rattle.rules.specs.declared.Refusal.the-variants.{PlanLimits, StateCount, StateNumber, ListFull, TransitionNumber, MarksValue}
 use Rattle.rules.specs.Refusal.{Result, accepted, refused, _>>=_, _>>_, refuseIf}
-use Rattle.rules.specs.Limits.{all, within, stateCountOk, marksOk, transitionOk}
+use Rattle.rules.specs.Limits.{all, within, stateCountOk, marksOk, stateOk, transitionOk}
 use Rattle.rules.specs.Image.{checked, readImage}
 use Rattle.rules.specs.Rules.{givenPlan, freshGraph, withMark, withTransition, without, freshRule, markRule, joinRule, unjoinRule, readRule, next}
 use Rattle.rules.specs.Calls.{Call, mark, join, unjoin, read, step, Run, run}
@@ -27,13 +27,13 @@ pub fresh-within : (n : ℕ) → stateCountOk n ≡ true → within (freshGraph 
 unfolding all
 fresh-within n h =
     let s = and-true (leb 1 n) (leb n 512) h in
-    let l : length (replicate {A = ℕ} n 0) ≡ n = length-replicate n 0 in
+    let l : length (replicate n (marked 0)) ≡ n = length-replicate n (marked 0) in
     within-limits (freshGraph n)
     (record {
       least = omega (arith, leb-true 1 n (s .0));
       most = omega (arith, leb-true n 512 (s .1));
       transitions = omega arith;
-      each-state = all-replicate marksOk n 0 refl;
+      each-state = all-replicate stateOk n (marked 0) refl;
       each-transition = refl;
     })
 
@@ -47,14 +47,14 @@ mark-within g g′ state value e =
     let c = then-accepted r3 (accepted (withMark g state value)) g′ (b .1) in
     let same : withMark g state value ≡ g′ = cc in
     let l = limited g (holds (within g) PlanLimits (a .0)) in
-    let k : length (set (g .marks) state value) ≡ states g = length-set (g .marks) state value in
+    let k : length (set (g .stateList) state (marked value)) ≡ states g = length-set (g .stateList) state (marked value) in
     rw (← same)
     (within-limits (withMark g state value)
     (record {
       least = omega arith;
       most = omega arith;
       transitions = l .transitions;
-      each-state = all-set marksOk (g .marks) state value (l .each-state) (holds (marksOk value) MarksValue (c .0));
+      each-state = all-set stateOk (g .stateList) state (marked value) (l .each-state) (holds (marksOk value) MarksValue (c .0));
       each-transition = ap (λ (n : ℕ). all (transitionOk n) (g .transitions)) k ∙ l .each-transition;
     }))
 

@@ -13,23 +13,23 @@ use lib.Dec.{leb, ltb, eqb}
 use lib.ListN.{length, getD, take, drop, length-append, take-append-drop, length-drop}
 use lib.Seq.{take-length, take-all, drop-drop, drop-at, take-add}
 use borrow.Author.Tests.{leb-true, ltb-true, ltb-false, eqb-true, le-leb, lt-ltb, le-ltb, eq-eqb}
-use Rattle.graph.specs.Graph.{Graph, Transition, states, count}
+use Rattle.graph.specs.Graph.{Graph, State, Transition, marked, states, count}
 use Rattle.field.specs.Field.{Field, AllFit, Octets, fieldAt, bits, bitsOfAll, widthOfAll, unpack, pack, putAll, widths}
 use Rattle.field.proofs.Bits.{length-bits}
 use Rattle.field.proofs.Laws.{field-lt}
 use Rattle.field.proofs.Pack.{unpack-of-bits, bits-of-unpack, bitsOfAll-append, widthOfAll-append, length-bitsOfAll, length-pack, bits-pack, pack-octets, pack-of-bits, putAll-append, putAll-pack}
 use Rattle.rules.specs.declared.Refusal.the-variants.{ImageShort, ImageLong, Version, StateCount, TransitionCount, SpareBits, StateNumber, Duration}
 use Rattle.rules.specs.Refusal.{Result, accepted, refused, _>>=_, _>>_, refuseIf, collect}
-use Rattle.rules.specs.Limits.{all, within, stateCountOk, transitionCountOk, marksOk, endsOk, durationsOk, transitionOk}
+use Rattle.rules.specs.Limits.{all, within, stateCountOk, transitionCountOk, stateOk, endsOk, durationsOk, transitionOk}
 use Rattle.rules.specs.Image.{field, headerFields, stateFields, transitionFields, fieldsOfEach, imageFields, image, imageLength, versionOf, stateCountOf, transitionCountOf, padOf, stateAt, transitionAt, checked, statePlace, transitionPlace, headerRule, statesIn, transitionsIn, readImage}
 use Rattle.rules.proofs.Results.{and-true, both-true, bind-accepted, then-accepted, ground-false, holds}
 use Rattle.rules.proofs.Fields.{width-each, collect-of-bits, bits-of-collect}
 
 -- ---- the length
 
-pub state-width : (v : ℕ) → widthOfAll (stateFields v) ≡ 8
+pub state-width : (x : State) → widthOfAll (stateFields x) ≡ 8
 unfolding widthOfAll
-state-width v = refl
+state-width x = refl
 
 pub transition-width : (t : Transition) → widthOfAll (transitionFields t) ≡ 40
 unfolding widthOfAll
@@ -44,11 +44,11 @@ unfolding imageFields
 image-width g =
     let n : ℕ = states g in
     let m : ℕ = count g in
-    let s : List Field = fieldsOfEach stateFields (g .marks) in
+    let s : List Field = fieldsOfEach stateFields (g .stateList) in
     let t : List Field = fieldsOfEach transitionFields (g .transitions) in
     widthOfAll-append (headerFields n m ++ s) t
     ∙ ap₂ _+_
-    (widthOfAll-append (headerFields n m) s ∙ ap₂ _+_ (header-width n m) (width-each stateFields 8 state-width (g .marks)))
+    (widthOfAll-append (headerFields n m) s ∙ ap₂ _+_ (header-width n m) (width-each stateFields 8 state-width (g .stateList)))
     (width-each transitionFields 40 transition-width (g .transitions))
     ∙ omega arith
 
@@ -68,7 +68,7 @@ bits-image g = bits-pack (imageFields g) (imageLength (states g) (count g)) (ima
 -- the header's, the states' and the transitions' fields put one after another at the front of a buffer leave the image there, and the rest
 pub put-image : (g : Graph) (os : List ℕ) → Octets os → imageLength (states g) (count g) ≤ length os
     → putAll
-    (putAll (putAll os 0 (headerFields (states g) (count g))) 32 (fieldsOfEach stateFields (g .marks)))
+    (putAll (putAll os 0 (headerFields (states g) (count g))) 32 (fieldsOfEach stateFields (g .stateList)))
     (32 + 8 * states g) (fieldsOfEach transitionFields (g .transitions))
     ≡ image g ++ drop (imageLength (states g) (count g)) os
 unfolding image imageFields
@@ -76,10 +76,10 @@ put-image g os ho h =
     let n : ℕ = states g in
     let m : ℕ = count g in
     let H : List Field = headerFields n m in
-    let S : List Field = fieldsOfEach stateFields (g .marks) in
+    let S : List Field = fieldsOfEach stateFields (g .stateList) in
     let T : List Field = fieldsOfEach transitionFields (g .transitions) in
     let w : 0 + widthOfAll (H ++ S) ≡ 32 + 8 * n =
-    zero-add (widthOfAll (H ++ S)) ∙ widthOfAll-append H S ∙ ap₂ _+_ (header-width n m) (width-each stateFields 8 state-width (g .marks)) in
+    zero-add (widthOfAll (H ++ S)) ∙ widthOfAll-append H S ∙ ap₂ _+_ (header-width n m) (width-each stateFields 8 state-width (g .stateList)) in
     let v : 0 + widthOfAll H ≡ 32 = zero-add (widthOfAll H) ∙ header-width n m in
     ap₂ (λ (b : List ℕ) (k : ℕ). putAll b k T) (ap (λ (k : ℕ). putAll (putAll os 0 H) k S) (sym v) ∙ sym (putAll-append H S os 0)) (sym w)
     ∙ sym (putAll-append (H ++ S) T os 0)
@@ -114,10 +114,11 @@ marks-bits v h =
     let m : v / 4 % 2 ≡ v / 4 = mod-eq-of-lt l in
     omega (arith, div-add-mod' v 2, div-add-mod' (v / 2) 2)
 
-state-of-bits : (os : List ℕ) (at v : ℕ) (rest : List Bool) → marksOk v ≡ true → drop at (bits os) ≡ bitsOfAll (stateFields v) ++ rest → stateAt os at ≡ accepted v
+state-of-bits : (os : List ℕ) (at : ℕ) (x : State) (rest : List Bool) → stateOk x ≡ true → drop at (bits os) ≡ bitsOfAll (stateFields x) ++ rest → stateAt os at ≡ accepted x
 unfolding AllFit valueAt
-state-of-bits os at v rest h e =
-    let u = sym (four os at 1 1 1 5) ∙ unpack-of-bits os (stateFields v) at rest (digit (v / 4), (digit (v / 2), (digit v, (omega arith, tt)))) e in
+state-of-bits os at x rest h e =
+    let v = x .marks in
+    let u = sym (four os at 1 1 1 5) ∙ unpack-of-bits os (stateFields x) at rest (digit (v / 4), (digit (v / 2), (digit v, (omega arith, tt)))) e in
     let a : fieldAt os at 1 ≡ v / 4 % 2 = ap (valueAt 0) u in
     let b : fieldAt os (at + 1) 1 ≡ v / 2 % 2 = ap (valueAt 1) u in
     let c : fieldAt os (at + 2) 1 ≡ v % 2 = ap (valueAt 2) u in
@@ -125,11 +126,12 @@ state-of-bits os at v rest h e =
     let s : 4 * (v / 4 % 2) + 2 * (v / 2 % 2) + v % 2 ≡ v = marks-bits v (leb-true v 7 h) in
     rw (d, a, b, c, s) refl
 
-bits-of-state : (os : List ℕ) (at v : ℕ) → at + 8 ≤ length (bits os) → stateAt os at ≡ accepted v
-    → (take 8 (drop at (bits os)) ≡ bitsOfAll (stateFields v)) × (marksOk v ≡ true)
+bits-of-state : (os : List ℕ) (at : ℕ) (x : State) → at + 8 ≤ length (bits os) → stateAt os at ≡ accepted x
+    → (take 8 (drop at (bits os)) ≡ bitsOfAll (stateFields x)) × (stateOk x ≡ true)
 unfolding widthOfAll
-bits-of-state os at v h e =
-    let r = then-accepted (refuseIf (not (eqb (fieldAt os (at + 3) 5) 0)) SpareBits) (accepted (4 * fieldAt os at 1 + 2 * fieldAt os (at + 1) 1 + fieldAt os (at + 2) 1)) v e in
+bits-of-state os at x h e =
+    let v = x .marks in
+    let r = then-accepted (refuseIf (not (eqb (fieldAt os (at + 3) 5) 0)) SpareBits) (accepted (marked (4 * fieldAt os at 1 + 2 * fieldAt os (at + 1) 1 + fieldAt os (at + 2) 1))) x e in
     let d : fieldAt os (at + 3) 5 ≡ 0 = eqb-true (fieldAt os (at + 3) 5) 0 (holds (eqb (fieldAt os (at + 3) 5) 0) SpareBits (r .0)) in
     let s : 4 * fieldAt os at 1 + 2 * fieldAt os (at + 1) 1 + fieldAt os (at + 2) 1 ≡ v = cc in
     let ha : fieldAt os at 1 < 2 = field-lt os at 1 in
@@ -138,7 +140,7 @@ bits-of-state os at v h e =
     let a : fieldAt os at 1 ≡ v / 4 % 2 = omega arith in
     let b : fieldAt os (at + 1) 1 ≡ v / 2 % 2 = omega arith in
     let c : fieldAt os (at + 2) 1 ≡ v % 2 = omega arith in
-    let u : unpack os at (1 ∷ 1 ∷ 1 ∷ 5 ∷ []) ≡ stateFields v = four os at 1 1 1 5 ∙ rw (d, a, b, c) refl in
+    let u : unpack os at (1 ∷ 1 ∷ 1 ∷ 5 ∷ []) ≡ stateFields x = four os at 1 1 1 5 ∙ rw (d, a, b, c) refl in
     let w : widthOfAll (unpack os at (1 ∷ 1 ∷ 1 ∷ 5 ∷ [])) ≡ 8 = ap widthOfAll u in (
       ap (λ (k : ℕ). take k (drop at (bits os))) (sym w)
           ∙ sym (bits-of-unpack os (1 ∷ 1 ∷ 1 ∷ 5 ∷ []) at (rw w (omega (arith, length-bits os)))) ∙ ap bitsOfAll u,
@@ -220,15 +222,15 @@ pub record Limited (g : Graph) : Type 0 where
   pub least : 1 ≤ states g
   pub most : states g ≤ 512
   pub transitions : count g ≤ 2048
-  pub each-state : all marksOk (g .marks) ≡ true
+  pub each-state : all stateOk (g .stateList) ≡ true
   pub each-transition : all (transitionOk (states g)) (g .transitions) ≡ true
 
 pub limited : (g : Graph) → within g ≡ true → Limited g
 unfolding within
 limited g h =
     let n : ℕ = states g in
-    let p = and-true (stateCountOk n && transitionCountOk (count g) && all marksOk (g .marks)) (all (transitionOk n) (g .transitions)) h in
-    let q = and-true (stateCountOk n && transitionCountOk (count g)) (all marksOk (g .marks)) (p .0) in
+    let p = and-true (stateCountOk n && transitionCountOk (count g) && all stateOk (g .stateList)) (all (transitionOk n) (g .transitions)) h in
+    let q = and-true (stateCountOk n && transitionCountOk (count g)) (all stateOk (g .stateList)) (p .0) in
     let r = and-true (stateCountOk n) (transitionCountOk (count g)) (q .0) in
     let s = and-true (leb 1 n) (leb n 512) (r .0) in
     record {
@@ -256,7 +258,7 @@ module _ (g : Graph) (l : Limited g) where
   os = image g
 
   S : List Bool
-  S = bitsOfAll (fieldsOfEach stateFields (g .marks))
+  S = bitsOfAll (fieldsOfEach stateFields (g .stateList))
 
   T : List Bool
   T = bitsOfAll (fieldsOfEach transitionFields (g .transitions))
@@ -267,9 +269,9 @@ module _ (g : Graph) (l : Limited g) where
   image-bits : bits os ≡ H ++ (S ++ T)
   unfolding os S T H imageFields n m
   image-bits =
-      bits-image g ∙ bitsOfAll-append (headerFields n m ++ fieldsOfEach stateFields (g .marks)) (fieldsOfEach transitionFields (g .transitions))
-      ∙ ap {B = List Bool} (λ (x : List Bool). x ++ bitsOfAll (fieldsOfEach transitionFields (g .transitions))) (bitsOfAll-append (headerFields n m) (fieldsOfEach stateFields (g .marks)))
-      ∙ append-assoc (bitsOfAll (headerFields n m)) (bitsOfAll (fieldsOfEach stateFields (g .marks))) (bitsOfAll (fieldsOfEach transitionFields (g .transitions)))
+      bits-image g ∙ bitsOfAll-append (headerFields n m ++ fieldsOfEach stateFields (g .stateList)) (fieldsOfEach transitionFields (g .transitions))
+      ∙ ap {B = List Bool} (λ (x : List Bool). x ++ bitsOfAll (fieldsOfEach transitionFields (g .transitions))) (bitsOfAll-append (headerFields n m) (fieldsOfEach stateFields (g .stateList)))
+      ∙ append-assoc (bitsOfAll (headerFields n m)) (bitsOfAll (fieldsOfEach stateFields (g .stateList))) (bitsOfAll (fieldsOfEach transitionFields (g .transitions)))
 
   at-states : drop 32 (bits os) ≡ S ++ T
   unfolding H
@@ -279,7 +281,7 @@ module _ (g : Graph) (l : Limited g) where
   unfolding S n
   at-transitions =
       sym (drop-drop (8 * n) 32 (bits os)) ∙ ap (λ (x : List Bool). drop (8 * n) x) at-states
-      ∙ drop-at S T (8 * n) (length-bitsOfAll (fieldsOfEach stateFields (g .marks)) ∙ width-each stateFields 8 state-width (g .marks))
+      ∙ drop-at S T (8 * n) (length-bitsOfAll (fieldsOfEach stateFields (g .stateList)) ∙ width-each stateFields 8 state-width (g .stateList))
 
   header : (versionOf os ≡ 1) × (stateCountOf os ≡ n) × (transitionCountOf os ≡ m) × (padOf os ≡ 0)
   unfolding AllFit valueAt H n m
@@ -306,12 +308,12 @@ module _ (g : Graph) (l : Limited g) where
         le-ltb (4 + states g + 5 * count g) (4 + states g + 5 * count g) (omega arith),
       ) refl
 
-  states-accepted : statesIn os n ≡ accepted (g .marks)
+  states-accepted : statesIn os n ≡ accepted (g .stateList)
   unfolding statesIn S n
   states-accepted =
-      collect-of-bits stateFields 8 state-width (bits os) (stateAt os) marksOk 32
+      collect-of-bits stateFields 8 state-width (bits os) (stateAt os) stateOk 32
       (λ p v rest h e. state-of-bits os p v rest h e)
-      (g .marks) 0 T (l .each-state) at-states
+      (g .stateList) 0 T (l .each-state) at-states
 
   transitions-accepted : transitionsIn os n m ≡ accepted (g .transitions)
   unfolding transitionsIn T n m
@@ -376,7 +378,7 @@ accepted-header os e =
 module _ (os : List ℕ) (g : Graph) (e : readImage os ≡ accepted g) where
   record Read : Type 0 where
     head : Header os
-    marks : statesIn os (stateCountOf os) ≡ accepted (g .marks)
+    states-read : statesIn os (stateCountOf os) ≡ accepted (g .stateList)
     transitions : transitionsIn os (stateCountOf os) (transitionCountOf os) ≡ accepted (g .transitions)
 
   parts : Read
@@ -384,28 +386,28 @@ module _ (os : List ℕ) (g : Graph) (e : readImage os ≡ accepted g) where
   parts =
       let n : ℕ = stateCountOf os in
       let m : ℕ = transitionCountOf os in
-      let last : List ℕ → List Transition → Result Graph = λ ms ts. accepted (record { marks = ms; transitions = ts }) in
-      let h = then-accepted (headerRule os) (statesIn os n >>= λ ms. transitionsIn os n m >>= λ ts. last ms ts) g e in
-      let s = bind-accepted (statesIn os n) (λ ms. transitionsIn os n m >>= λ ts. last ms ts) g (h .1) in
+      let last : List State → List Transition → Result Graph = λ ss ts. accepted (record { stateList = ss; transitions = ts }) in
+      let h = then-accepted (headerRule os) (statesIn os n >>= λ ss. transitionsIn os n m >>= λ ts. last ss ts) g e in
+      let s = bind-accepted (statesIn os n) (λ ss. transitionsIn os n m >>= λ ts. last ss ts) g (h .1) in
       let t = bind-accepted (transitionsIn os n m) (λ ts. last (s .0) ts) g (s .2) in
-      let f : _≡_ {A = Result Graph} (accepted (record { marks = s .0; transitions = t .0 })) (accepted g) = t .2 in
-      let same : record { marks = s .0; transitions = t .0 } ≡ g = cc in
+      let f : _≡_ {A = Result Graph} (accepted (record { stateList = s .0; transitions = t .0 })) (accepted g) = t .2 in
+      let same : record { stateList = s .0; transitions = t .0 } ≡ g = cc in
       record {
         head = accepted-header os (h .0);
-        marks = s .1 ∙ ap {B = Result (List ℕ)} (λ (x : Graph). accepted (x .marks)) same;
+        states-read = s .1 ∙ ap {B = Result (List State)} (λ (x : Graph). accepted (x .stateList)) same;
         transitions = t .1 ∙ ap {B = Result (List Transition)} (λ (x : Graph). accepted (x .transitions)) same;
       }
 
 -- every image read writes back as those octets, and holds a plan within the limits
 module _ (os : List ℕ) (g : Graph) (e : readImage os ≡ accepted g) where
-  read-states : (take (8 * stateCountOf os) (drop 32 (bits os)) ≡ bitsOfAll (fieldsOfEach stateFields (g .marks))) × (length (g .marks) ≡ stateCountOf os) × (all marksOk (g .marks) ≡ true)
+  read-states : (take (8 * stateCountOf os) (drop 32 (bits os)) ≡ bitsOfAll (fieldsOfEach stateFields (g .stateList))) × (length (g .stateList) ≡ stateCountOf os) × (all stateOk (g .stateList) ≡ true)
   unfolding statesIn
   read-states =
       let p = parts os g e in
       let h = p .head in
-      bits-of-collect stateFields 8 state-width (bits os) (stateAt os) marksOk 32
+      bits-of-collect stateFields 8 state-width (bits os) (stateAt os) stateOk 32
       (λ at v room f. bits-of-state os at v room f)
-      (stateCountOf os) 0 (g .marks) (omega (arith, length-bits os, h .long)) (p .marks)
+      (stateCountOf os) 0 (g .stateList) (omega (arith, length-bits os, h .long)) (p .states-read)
 
   read-transitions : (take (40 * transitionCountOf os) (drop (32 + 8 * stateCountOf os) (bits os)) ≡ bitsOfAll (fieldsOfEach transitionFields (g .transitions)))
       × (length (g .transitions) ≡ transitionCountOf os) × (all (transitionOk (stateCountOf os)) (g .transitions) ≡ true)
@@ -434,7 +436,7 @@ module _ (os : List ℕ) (g : Graph) (e : readImage os ≡ accepted g) where
       let n : ℕ = stateCountOf os in
       let m : ℕ = transitionCountOf os in
       let h = parts os g e .head in
-      let s : List Field = fieldsOfEach stateFields (g .marks) in
+      let s : List Field = fieldsOfEach stateFields (g .stateList) in
       let t : List Field = fieldsOfEach transitionFields (g .transitions) in
       let end : take (40 * m) (drop (32 + 8 * n) (bits os)) ≡ drop (32 + 8 * n) (bits os) =
       take-all (40 * m) (drop (32 + 8 * n) (bits os)) (omega (arith, length-drop (32 + 8 * n) (bits os), length-bits os, h .long)) in

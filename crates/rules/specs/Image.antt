@@ -4,7 +4,7 @@ use mathlib.Core.List.{List, [], _∷_, _++_}
 use Prim.Native.Nat.{ℕ, _+_, _*_, _/_, _%_}
 use lib.Dec.{ltb, eqb}
 use lib.ListN.{length}
-use Rattle.graph.specs.Graph.{Graph, Transition, states, count}
+use Rattle.graph.specs.Graph.{Graph, State, Transition, marked, states, count}
 use Rattle.field.specs.Field.{Field, fieldAt, pack}
 use Rattle.rules.specs.declared.Refusal.the-variants.{ImageShort, ImageLong, Version, StateCount, TransitionCount}
 use Rattle.rules.specs.declared.Refusal.the-variants.{SpareBits, StateNumber, Duration}
@@ -22,8 +22,8 @@ abbrev pub headerFields : ℕ → ℕ → List Field
 headerFields n m = field 4 1 ∷ field 10 n ∷ field 12 m ∷ field 6 0 ∷ []
 
 -- "for each state, one octet: start, final, counted, one bit each; then 5 spare bits, zero" ("4 for start, 2 for final, 1 for counted")
-abbrev pub stateFields : ℕ → List Field
-stateFields v = field 1 (v / 4 % 2) ∷ field 1 (v / 2 % 2) ∷ field 1 (v % 2) ∷ field 5 0 ∷ []
+abbrev pub stateFields : State → List Field
+stateFields s = field 1 (s .marks / 4 % 2) ∷ field 1 (s .marks / 2 % 2) ∷ field 1 (s .marks % 2) ∷ field 5 0 ∷ []
 
 -- "for each transition, 40 bits: from, 9; to, 9; low, 11; high, 11"
 abbrev pub transitionFields : Transition → List Field
@@ -37,7 +37,7 @@ fieldsOfEach fields (x ∷ xs) = fields x ++ fieldsOfEach fields xs
 -- "in this order"
 unfoldable pub imageFields : Graph → List Field
 imageFields g =
-    headerFields (states g) (count g) ++ fieldsOfEach stateFields (g .marks) ++ fieldsOfEach transitionFields (g .transitions)
+    headerFields (states g) (count g) ++ fieldsOfEach stateFields (g .stateList) ++ fieldsOfEach transitionFields (g .transitions)
 
 -- the octets of a plan's image
 unfoldable pub image : Graph → List ℕ
@@ -62,11 +62,11 @@ transitionCountOf os = fieldAt os 14 12
 abbrev pub padOf : List ℕ → ℕ
 padOf os = fieldAt os 26 6
 
--- the state at a bit position: its marks value, unless a spare bit is set
-abbrev pub stateAt : List ℕ → ℕ → Result ℕ
+-- the state at a bit position, unless a spare bit is set
+abbrev pub stateAt : List ℕ → ℕ → Result State
 stateAt os at = do
   refuseIf (not (eqb (fieldAt os (at + 3) 5) 0)) SpareBits
-  accepted (4 * fieldAt os at 1 + 2 * fieldAt os (at + 1) 1 + fieldAt os (at + 2) 1)
+  accepted (marked (4 * fieldAt os at 1 + 2 * fieldAt os (at + 1) 1 + fieldAt os (at + 2) 1))
 
 -- the fields of the transition at a bit position
 abbrev pub transitionAt : List ℕ → ℕ → Transition
@@ -98,7 +98,7 @@ headerRule os = do
   refuseIf (ltb (imageLength (stateCountOf os) (transitionCountOf os)) (length os)) ImageLong
 
 -- "then states by number, 6"
-unfoldable pub statesIn : List ℕ → ℕ → Result (List ℕ)
+unfoldable pub statesIn : List ℕ → ℕ → Result (List State)
 statesIn os n = collect (λ (i : ℕ). stateAt os (statePlace i)) 0 n
 
 -- "then transitions by number, 7 before 8"
@@ -109,6 +109,6 @@ transitionsIn os n m = collect (λ (i : ℕ). checked n (transitionAt os (transi
 unfoldable pub readImage : List ℕ → Result Graph
 readImage os = do
   headerRule os
-  marks ← statesIn os (stateCountOf os)
+  stateList ← statesIn os (stateCountOf os)
   transitions ← transitionsIn os (stateCountOf os) (transitionCountOf os)
-  accepted (record { marks = marks; transitions = transitions })
+  accepted (record { stateList = stateList; transitions = transitions })

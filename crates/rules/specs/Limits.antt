@@ -3,7 +3,7 @@ use mathlib.Core.Bool.{Bool, true, _&&_}
 use mathlib.Core.List.{List, [], _∷_}
 use Prim.Native.Nat.{ℕ}
 use lib.Dec.{leb, ltb}
-use Rattle.graph.specs.Graph.{Graph, Transition, states, count}
+use Rattle.graph.specs.Graph.{Graph, State, Transition, states, count}
 
 -- a test holds of every element
 unfoldable pub all : {A : Type 0} → (A → Bool) → List A → Bool
@@ -22,6 +22,10 @@ transitionCountOk m = leb m 2048
 abbrev pub marksOk : ℕ → Bool
 marksOk v = leb v 7
 
+-- the limits of a state
+abbrev pub stateOk : State → Bool
+stateOk s = marksOk (s .marks)
+
 -- "a from state, a to state": both are states of a plan with n of them
 abbrev pub endsOk : ℕ → Transition → Bool
 endsOk n t = ltb (t .from) n && ltb (t .to) n
@@ -37,4 +41,4 @@ transitionOk n t = endsOk n t && durationsOk t
 -- "a limit of a plan": the plan breaks none
 unfoldable pub within : Graph → Bool
 within g =
-    stateCountOk (states g) && transitionCountOk (count g) && all marksOk (g .marks) && all (transitionOk (states g)) (g .transitions)
+    stateCountOk (states g) && transitionCountOk (count g) && all stateOk (g .stateList) && all (transitionOk (states g)) (g .transitions)

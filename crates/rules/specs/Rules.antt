@@ -5,7 +5,7 @@ use mathlib.Core.List.{List, [], _∷_, _++_}
 use Prim.Native.Nat.{ℕ, suc}
 use lib.Dec.{leb, ltb}
 use lib.ListN.{length, take, drop, set, replicate}
-use Rattle.graph.specs.Graph.{Graph, Transition, states, count}
+use Rattle.graph.specs.Graph.{Graph, Transition, marked, states, count}
 use Rattle.rules.specs.declared.Refusal.the-variants.{PlanLimits, StateCount, StateNumber, ListFull}
 use Rattle.rules.specs.declared.Refusal.the-variants.{TransitionNumber, BufferLength, MarksValue}
 use Rattle.rules.specs.Refusal.{Result, accepted, refused, _>>=_, _>>_, refuseIf}
@@ -20,19 +20,19 @@ givenPlan g = refuseIf (not (within g)) PlanLimits
 
 -- "n states, all marks 0, no transitions"
 abbrev pub freshGraph : ℕ → Graph
-freshGraph n = record { marks = replicate n 0; transitions = [] }
+freshGraph n = record { stateList = replicate n (marked 0); transitions = [] }
 
 -- "that state's value becomes it"
 abbrev pub withMark : Graph → ℕ → ℕ → Graph
-withMark g state value = record { marks = set (g .marks) state value; transitions = g .transitions }
+withMark g state value = record { stateList = set (g .stateList) state (marked value); transitions = g .transitions }
 
 -- "the transition goes to the end of the list"
 abbrev pub withTransition : Graph → Transition → Graph
-withTransition g t = record { marks = g .marks; transitions = g .transitions ++ (t ∷ []) }
+withTransition g t = record { stateList = g .stateList; transitions = g .transitions ++ (t ∷ []) }
 
 -- "that transition goes, and later ones move down by one"
 abbrev pub without : Graph → ℕ → Graph
-without g number = record { marks = g .marks; transitions = take number (g .transitions) ++ drop (suc number) (g .transitions) }
+without g number = record { stateList = g .stateList; transitions = take number (g .transitions) ++ drop (suc number) (g .transitions) }
 
 -- ---- the calls
 

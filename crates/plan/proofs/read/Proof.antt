@@ -3,7 +3,7 @@
 -- Assumes nothing.
 use mathlib.Core.List.{List}
 use Rattle.graph.specs.Graph.{Graph, Transition}
-use Rattle.arrays.specs.Tables.{marksOf, transitionsOf}
+use Rattle.arrays.specs.Tables.{statesOf, transitionsOf}
 use Rattle.rules.proofs.ReadWrite.{Header, accepted-header}
 use Prim.Native.Nat.{ℕ, _+_, _-_, _≤_, _<_}
 use mathlib.Core.Bool.{Bool, true, false, not, _&&_}
@@ -107,7 +107,7 @@ returns-3 c =
     let en : stateCountOf os ≡ n = sym (c .before .before .before .before .before .before .before .state-count .ensures) in
     let em : transitionCountOf os ≡ m = sym (c .before .before .before .before .before .before .transition-count .ensures) in
     let r = c .before .before .marked .given .0 .0 in
-    let s : statesIn os n ≡ refused (number r) = sym (c .before .before .before .before .states .ensures) ∙ ap (λ (x : Answer). outcome x (marksOf n (c .before .before .before .before .states .last .1 .1 .0))) (c .before .before .marked .given .1) in
+    let s : statesIn os n ≡ refused (number r) = sym (c .before .before .before .before .states .ensures) ∙ ap (λ (x : Answer). outcome x (statesOf n (c .before .before .before .before .states .last .1 .1 .0))) (c .before .before .marked .given .1) in
     rw (c .refuse3 .ensures)
     (refusal p (readRule (view p) os) r (rw (w, h, en, s)))
 
@@ -134,7 +134,7 @@ returns-4 c =
     let h : headerRule os ≡ accepted tt = head (c .before .before .before .before .before .before .before .before .before .before .before .before .before .before .before) .0 in
     let en : stateCountOf os ≡ n = sym (c .before .before .before .before .before .before .before .before .before .before .before .before .before .before .state-count .ensures) in
     let em : transitionCountOf os ≡ m = sym (c .before .before .before .before .before .before .before .before .before .before .before .before .before .transition-count .ensures) in
-    let ms = marksOf n (c .before .before .before .before .before .before .before .before .before .before .before .states .last .1 .1 .0) in
+    let ms = statesOf n (c .before .before .before .before .before .before .before .before .before .before .before .states .last .1 .1 .0) in
     let s : statesIn os n ≡ accepted ms = sym (c .before .before .before .before .before .before .before .before .before .before .before .states .ensures) ∙ ap (λ (x : Answer). outcome x ms) (c .before .before .before .before .before .before .before .before .before .enum-told2 .given .1) in
     let r = c .before .before .listed .given .0 .0 in
     let t : transitionsIn os n m ≡ refused (number r) = sym (c .before .before .before .before .transitions .ensures) ∙ ap (λ (x : Answer). outcome x (transitionsOf m (c .before .before .before .before .transitions .last .1 .1 .1 .0) (c .before .before .before .before .transitions .last .1 .1 .1 .1 .0) (c .before .before .before .before .transitions .last .1 .1 .1 .1 .1 .0) (c .before .before .before .before .transitions .last .1 .1 .1 .1 .1 .1 .0))) (c .before .before .listed .given .1) in
@@ -158,12 +158,12 @@ returns-5 c =
     let h : headerRule os ≡ accepted tt = head (c .before .before .before .before .before .before .before .before .before .before .before .before .before .before) .0 in
     let en : stateCountOf os ≡ n = sym (c .before .before .before .before .before .before .before .before .before .before .before .before .before .state-count .ensures) in
     let em : transitionCountOf os ≡ m = sym (c .before .before .before .before .before .before .before .before .before .before .before .before .transition-count .ensures) in
-    let ms = marksOf n (c .before .before .before .before .before .before .before .before .before .before .states .last .1 .1 .0) in
+    let ms = statesOf n (c .before .before .before .before .before .before .before .before .before .before .states .last .1 .1 .0) in
     let s : statesIn os n ≡ accepted ms = sym (c .before .before .before .before .before .before .before .before .before .before .states .ensures) ∙ ap (λ (x : Answer). outcome x ms) (c .before .before .before .before .before .before .before .before .enum-told2 .given .1) in
     let ts = transitionsOf m (c .before .before .before .transitions .last .1 .1 .1 .0) (c .before .before .before .transitions .last .1 .1 .1 .1 .0) (c .before .before .before .transitions .last .1 .1 .1 .1 .1 .0) (c .before .before .before .transitions .last .1 .1 .1 .1 .1 .1 .0) in
     let t : transitionsIn os n m ≡ accepted ts = sym (c .before .before .before .transitions .ensures) ∙ ap (λ (x : Answer). outcome x ts) (c .before .enum-told3 .given .1) in
     rw (c .accept .ensures)
-    (acceptance p _ (readRule (view p) os) (record { marks = ms; transitions = ts }) (rw (w, h, en, em, s, t)) refl)
+    (acceptance p _ (readRule (view p) os) (record { stateList = ms; transitions = ts }) (rw (w, h, en, em, s, t)) refl)
 
 pub read-spec : {M : Type 1} → statement M
 read-spec =

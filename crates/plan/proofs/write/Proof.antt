@@ -17,7 +17,7 @@ use Rattle.rules.specs.Image.{image, imageLength, headerFields, stateFields, tr
 use Rattle.rules.specs.Refusal.{Result, accepted, refused}
 use Rattle.rules.specs.Rules.{writeRule}
 use Rattle.rules.proofs.ReadWrite.{limited}
-use Rattle.arrays.specs.Tables.{marksOf, transitionsOf}
+use Rattle.arrays.specs.Tables.{statesOf, transitionsOf}
 use Rattle.plan.specs.View.{view}
 use Rattle.plan.proofs.Values.{states-view, count-view, put-view}
 use Rattle.plan.proofs.write.Statement.{statement}
@@ -100,7 +100,7 @@ returns-3 c =
     let m = p .transitions in
     let w : within (view p) ≡ true = sym (c .before .before .before .before .before .before .before .before .before .before .before .before .before .before .before .before .before .before .before .before .before .before .before .before .within .ensures) ∙ not-false _ (c .before .before .before .before .before .before .before .before .before .before .before .before .before .before .before .before .before .before .before .before .before .before .before .if1 .left) in
     let k : ltb (length b) (4 + n + 5 * m) ≡ false = le-ltb (length b) (4 + n + 5 * m) (c .before .before .before .before .before .before .before .before .before .before .before .before .before .before .before .before .before .before .before .before .before .before .if2 .left) in
-    let S = fieldsOfEach stateFields (marksOf n (p .marks)) in
+    let S = fieldsOfEach stateFields (statesOf n (p .marks)) in
     let T = fieldsOfEach transitionFields (transitionsOf m (p .from) (p .to) (p .low) (p .high)) in
     let e : c .before .before .transitions .last .0 ≡ putAll (putAll (putAll b 0 (headerFields n m)) 32 S) (32 + 8 * n) T =
     c .before .before .transitions .ensures

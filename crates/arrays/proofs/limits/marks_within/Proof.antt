@@ -8,7 +8,8 @@ use borrow.Author.Count.{below-none, below-more}
 use borrow.Author.Needs.{needs}
 use borrow.Author.Tests.{le-leb, lt-leb}
 use lib.ListN.{getD}
-use Rattle.rules.specs.Limits.{all, marksOk}
+use Rattle.rules.specs.Limits.{all, marksOk, stateOk}
+use Rattle.arrays.specs.Tables.{stateOf}
 use Rattle.arrays.proofs.Lists.{all-tabulate, not-all-tabulate}
 use Rattle.arrays.proofs.limits.marks_within.Statement.{statement}
 use Rattle.arrays.proofs.limits.marks_within.Tie as tie
@@ -28,7 +29,7 @@ element-copy-out-if1 : tie.Need-element-copy-out-if1 Inv-loop μ-loop
 element-copy-out-if1 c = search needs
 
 returns : tie.Need-returns Inv-loop μ-loop
-returns c = sym (not-all-tabulate marksOk (c .before .before .before .before .args .n) (λ k. getD (c .before .before .before .before .args .marks .now) k 0) (c .before .before .before .loop .i) (omega arith) (lt-leb _ _ (c .if1 .taken)))
+returns c = sym (not-all-tabulate stateOk (c .before .before .before .before .args .n) (stateOf (c .before .before .before .before .args .marks .now)) (c .before .before .before .loop .i) (omega arith) (lt-leb _ _ (c .if1 .taken)))
 
 add-i : tie.Need-add-i Inv-loop μ-loop
 add-i c = search needs
@@ -43,7 +44,7 @@ returns-2 : tie.Need-returns-2 Inv-loop μ-loop
 returns-2 c =
     let a = c .before .before .args in
     let l = c .before .loop in
-    sym (all-tabulate marksOk (a .n) (λ k. getD (a .marks .now) k 0) (λ k h. l .inv .1 k (omega arith)))
+    sym (all-tabulate stateOk (a .n) (stateOf (a .marks .now)) (λ k h. l .inv .1 k (omega arith)))
 
 pub marks-within-spec : {M : Type 1} → statement M
 marks-within-spec =

@@ -13,6 +13,8 @@ use borrow.Author.Tests.{lt-ltb, le-ltb, le-leb, lt-leb, leb-true, eq-eqb, ne-eq
 use lib.Dec.{leb, ltb, eqb}
 use lib.ListN.{length, getD, set}
 use Rattle.field.specs.Field.{fieldAt}
+use Rattle.graph.specs.Graph.{State, marked}
+use Rattle.arrays.specs.Tables.{stateOf}
 use Rattle.rules.specs.Refusal.{Result, accepted, refused, outcome}
 use Rattle.rules.specs.Image.{stateAt, statePlace, statesIn}
 use lib.Seq.{getD-set-same, getD-set-other}
@@ -26,7 +28,7 @@ use Rattle.image.proofs.reading.marks_at.Reads as marks-at-reads
 use Rattle.image.proofs.reading.word.Reads as word-reads
 
 abbrev Inv-loop : tie.InvT-loop
-Inv-loop octets n marks₀ i₀ marks i = (i ≤ n) × (length marks ≡ length marks₀) × ((k : ℕ) → k < i → stateAt octets (statePlace k) ≡ accepted (getD marks k 0))
+Inv-loop octets n marks₀ i₀ marks i = (i ≤ n) × (length marks ≡ length marks₀) × ((k : ℕ) → k < i → stateAt octets (statePlace k) ≡ accepted (stateOf marks k))
 
 abbrev μ-loop : tie.MeasureT-loop
 μ-loop octets n marks₀ i₀ marks i = n - i
@@ -52,7 +54,7 @@ returns c =
     let os = c .before .before .before .before .before .args .octets .now in
     let l = c .before .before .before .loop in
     let s : eqb (fieldAt os (statePlace (l .i) + 3) 5) 0 ≡ false = ne-eqb _ 0 (λ e. c .if1 .taken (c .before .word .ensures ∙ e)) in
-    sym (collect-refused (λ (k : ℕ). stateAt os (statePlace k)) (c .before .before .before .before .before .args .n) (l .i) 6 (λ (k : ℕ). getD (l .marks) k 0) (omega arith) (l .inv .2) (rw s))
+    sym (collect-refused (λ (k : ℕ). stateAt os (statePlace k)) (c .before .before .before .before .before .args .n) (l .i) 6 (stateOf (l .marks)) (omega arith) (l .inv .2) (rw s))
 
 marks-at-requires : tie.Need-marks-at-requires Inv-loop μ-loop
 marks-at-requires c κs = record { some = omega arith; most = omega arith; inside = omega arith; near = omega arith }
@@ -77,7 +79,7 @@ loop-again c =
       omega arith,
       length-set (l .marks) (l .i) v ∙ l .inv .1,
       below-more _ _
-          (λ k h. l .inv .2 k h ∙ ap {B = Result ℕ} (λ (x : ℕ). accepted x) (sym (getD-set-other (l .marks) (l .i) k v 0 (omega arith))))
+          (λ k h. l .inv .2 k h ∙ ap {B = Result State} (λ (x : ℕ). accepted (marked x)) (sym (getD-set-other (l .marks) (l .i) k v 0 (omega arith))))
           (rw (s, here, c .marks-at .ensures)),
     )
 
@@ -86,7 +88,7 @@ unfolding statesIn
 returns-2 c =
     let os = c .before .before .before .args .octets .now in
     let l = c .before .loop in
-    sym (collect-accepted (λ (k : ℕ). stateAt os (statePlace k)) (c .before .before .before .args .n) (λ (k : ℕ). getD (l .marks) k 0) (λ k h. l .inv .2 k (omega arith)))
+    sym (collect-accepted (λ (k : ℕ). stateAt os (statePlace k)) (c .before .before .before .args .n) (stateOf (l .marks)) (λ k h. l .inv .2 k (omega arith)))
 
 pub states-spec : {M : Type 1} → statement M
 states-spec =

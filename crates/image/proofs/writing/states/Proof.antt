@@ -11,7 +11,7 @@ use Rattle.field.proofs.Pack.{length-putAll}
 use Rattle.rules.specs.Image.{stateFields, transitionFields, fieldsOfEach}
 use Rattle.rules.proofs.ReadWrite.{state-width, transition-width, transition-fits}
 use Rattle.rules.specs.Limits.{transitionOk}
-use Rattle.arrays.specs.Tables.{marksOf, transitionOf, transitionsOf}
+use Rattle.arrays.specs.Tables.{stateOf, statesOf, transitionOf, transitionsOf}
 use Rattle.arrays.proofs.Lists.{all-at}
 use Rattle.image.proofs.Puts.{put-none, put-more}
 use Rattle.image.proofs.writing.states.Statement.{statement}
@@ -21,13 +21,13 @@ use Rattle.image.proofs.writing.states.Lts as lts
 use Rattle.image.proofs.writing.state.Reads as state-reads
 
 abbrev Inv-loop : tie.InvT-loop
-Inv-loop buffer₀ marks n i₀ buffer i = (i ≤ n) × (length buffer ≡ length buffer₀) × (buffer ≡ putAll buffer₀ 32 (fieldsOfEach stateFields (marksOf i marks)))
+Inv-loop buffer₀ marks n i₀ buffer i = (i ≤ n) × (length buffer ≡ length buffer₀) × (buffer ≡ putAll buffer₀ 32 (fieldsOfEach stateFields (statesOf i marks)))
 
 abbrev μ-loop : tie.MeasureT-loop
 μ-loop buffer₀ marks n i₀ buffer i = n - i
 
 loop-holds : tie.Need-loop-holds Inv-loop μ-loop
-loop-holds c = (omega arith, search needs, put-none stateFields 8 state-width (c .before .args .buffer .now) 32 (λ (k : ℕ). getD (c .before .args .marks .now) k 0))
+loop-holds c = (omega arith, search needs, put-none stateFields 8 state-width (c .before .args .buffer .now) 32 (stateOf (c .before .args .marks .now)))
 
 mul-state : tie.Need-mul-state Inv-loop μ-loop
 mul-state c = omega arith
@@ -51,11 +51,11 @@ loop-again : tie.Need-loop-again Inv-loop μ-loop
 loop-again c =
     let a = c .before .before .before .before .before .before .before .before .args in
     let l = c .before .before .before .before .before .before .loop in
-    let v = getD (a .marks .now) (l .i) 0 in (
+    let v = stateOf (a .marks .now) (l .i) in (
       omega arith,
       ap length (c .before .before .state .ensures) ∙ length-putAll (stateFields v) (l .buffer) (32 + 8 * l .i) ∙ l .inv .1,
       c .before .before .state .ensures ∙ ap (λ (b : List ℕ). putAll b (32 + 8 * l .i) (stateFields v)) (l .inv .2)
-          ∙ put-more stateFields 8 state-width (a .buffer .now) 32 (l .i) (λ (k : ℕ). getD (a .marks .now) k 0),
+          ∙ put-more stateFields 8 state-width (a .buffer .now) 32 (l .i) (stateOf (a .marks .now)),
     )
 
 same-length : tie.Need-same-length Inv-loop μ-loop
@@ -66,7 +66,7 @@ returns c =
     let a = c .before .before .before .args in
     let l = c .before .loop in
     let e : l .i ≡ a .n = omega arith in
-    l .inv .2 ∙ ap (λ (k : ℕ). putAll (a .buffer .now) 32 (fieldsOfEach stateFields (marksOf k (a .marks .now)))) e
+    l .inv .2 ∙ ap (λ (k : ℕ). putAll (a .buffer .now) 32 (fieldsOfEach stateFields (statesOf k (a .marks .now)))) e
 
 pub states-spec : {M : Type 1} → statement M
 states-spec =

@@ -11,7 +11,7 @@ use Rattle.field.proofs.Pack.{length-putAll}
 use Rattle.rules.specs.Image.{stateFields, transitionFields, fieldsOfEach}
 use Rattle.rules.proofs.ReadWrite.{state-width, transition-width, transition-fits}
 use Rattle.rules.specs.Limits.{transitionOk}
-use Rattle.arrays.specs.Tables.{marksOf, transitionOf, transitionsOf}
+use Rattle.arrays.specs.Tables.{transitionOf, transitionsOf}
 use Rattle.arrays.proofs.Lists.{all-at}
 use Rattle.image.proofs.Puts.{put-none, put-more}
 use Rattle.image.proofs.writing.transitions.Statement.{statement}
