@@ -6,14 +6,15 @@
 use Prim.Native.Nat.{ℕ, zero, suc, _<_}
 use mathlib.Core.Path.{_≡_, refl, sym, _∙_, ap}
 use mathlib.Core.Bool.{true≢false, false≢true}
+use mathlib.Core.Logic.{_⊎_, inl, inr}
 use mathlib.Core.List.{List, [], _∷_}
 use native.Mathlib.Nat.{not-suc-le-zero, le-of-suc-le-suc}
 use native.Mathlib.Omega.{arith}
 use lib.Dec.{T, ltb, lit<}
-use Rattle.graph.specs.Graph.{Graph, Transition, count, start, final, counted, from, to, low, high, Departs}
-use Rattle.graph.specs.Walk.{Begins, Walk, Different}
+use Rattle.graph.specs.Graph.{Graph, Transition, count, start, final, counted, from, to, low, high, Departs, Unfinished}
+use Rattle.graph.specs.Walk.{Begins, Walk, Different, reached}
 use Rattle.graph.specs.Route.{Route, GoesOnForever, StrandedFrom, EndsUnanswered, Cost, total}
-use Rattle.graph.specs.Figure.{number, NONE, STRANDED, ENDLESS, NoStart, IsLeast, IsGreatest, Shown}
+use Rattle.graph.specs.Figure.{Figure, number, NONE, STRANDED, ENDLESS, NoStart, IsLeast, IsGreatest, Shown}
 use Rattle.graph.specs.Figure.{leastDelayCost}
 use Rattle.graph.specs.Figure.{greatestDelayCost, countCost}
 use Rattle.graph.specs.Known.{join, P1, P3, P4, P6, P7, P8, P9, unreached-dead-end, reached-dead-end}
@@ -75,14 +76,11 @@ loop m d = plan (4 ∷ m ∷ []) (join 0 0 d d ∷ join 0 1 1 1 ∷ [])
 -- 0→0, over and over: how long it lasts makes no difference
 pub loop-endless : (m d : ℕ) → GoesOnForever (loop m d)
 unfolding start final from to high
-loop-endless m d = record {
-  state = λ i. 0;
-  taken = λ i. 0;
-  begins = refl;
-  departs = λ i. departs (loop m d) 0 0 tt refl;
-  arrives = λ i. refl;
-  unfinished = λ i. refl;
-}
+loop-endless m d = (0, λ i. 0, (refl, record { departs = λ i. rw (stays i) (departs (loop m d) 0 0 tt refl); unfinished = λ i. rw (stays i) refl }))
+  where
+    stays : (i : ℕ) → reached (loop m d) 0 (λ i. 0) i ≡ 0
+    stays zero = refl
+    stays (suc i) = refl
 
 pub zero-loop-endless : GoesOnForever (P4 .plan)
 zero-loop-endless = loop-endless 2 0
@@ -98,15 +96,12 @@ only-0 ts (suc (suc (suc s))) b = absurd (false≢true b)
 -- 2→2, which no start reaches: from 0 there is only 0→1, and 1 is final
 pub unreached-not-endless : GoesOnForever (P7 .plan) → ⊥
 unfolding final from to
-unreached-not-endless e = first (e .taken 0) (e .departs 0) (e .arrives 0)
+unreached-not-endless (s, taken, (b, e)) = first s (taken 0) (only-0 (P7 .plan .transitions) s b) (e .departs 0) (e .unfinished 1)
   where
-    at-0 : e .state 0 ≡ 0
-    at-0 = only-0 (P7 .plan .transitions) (e .state 0) (e .begins)
-
-    first : (t : ℕ) → Departs (P7 .plan) (e .state 0) t → to (P7 .plan) t ≡ e .state 1 → ⊥
-    first zero d q = true≢false (ap (final (P7 .plan)) q ∙ e .unfinished 1)
-    first (suc zero) d q = omega (arith, d .source, at-0)
-    first (suc (suc t)) d q = not-suc-le-zero (le-of-suc-le-suc (le-of-suc-le-suc (d .listed)))
+    first : (s t : ℕ) → s ≡ 0 → Departs (P7 .plan) s t → Unfinished (P7 .plan) (to (P7 .plan) t) → ⊥
+    first s zero q d u = true≢false u
+    first s (suc zero) q d u = omega (arith, d .source)
+    first s (suc (suc t)) q d u = not-suc-le-zero (le-of-suc-le-suc (le-of-suc-le-suc (d .listed)))
 
 -- state 2, a dead end that nothing reaches: from 0 there is only 0→1, and 1 is final
 pub unreached-not-stranded : EndsUnanswered (unreached-dead-end .plan) → ⊥
@@ -171,17 +166,17 @@ loop-shown c = (0, (refl, (refl, departs (P4 .plan) 0 0 tt refl, refl)), lit< tt
 
 pub start-shown : (c : Cost) → Shown (P3 .plan) c STRANDED [] 0
 unfolding start final
-start-shown c = (0, (refl, record { unfinished = refl; none-departs = λ t d. not-suc-le-zero (d .listed) }), one-place)
+start-shown c = (0, (refl, record { unfinished = refl; none-departs = λ t d. not-suc-le-zero (d .listed) }), one-place, refl)
 
 -- "visits no state twice": 0→0, 0→1 is a route of 1 second
 pub not-twice : Shown (P4 .plan) (leastDelayCost (P4 .plan)) (number 1) (0 ∷ 1 ∷ []) 0 → ⊥
 unfolding from to
-not-twice (s, r, q, d) = d 0 1 (lit< tt) (lit< tt) (sym (r .1 .1 .source))
+not-twice (s, r, q, d, z) = d 0 1 (lit< tt) (lit< tt) (sym (r .1 .1 .source))
 
 -- "no state twice": 0→0, 0→1, where 1 is a dead end
 pub not-twice-stranded : (c : Cost) → Shown (P9 .plan) c STRANDED (0 ∷ 1 ∷ []) 0 → ⊥
 unfolding from to
-not-twice-stranded c (s, w, d) = d 0 1 (lit< tt) (lit< tt) (sym (w .1 .1 .source))
+not-twice-stranded c (s, w, d, z) = d 0 1 (lit< tt) (lit< tt) (sym (w .1 .1 .source))
 
 -- "a place j below k"
 pub not-at-k : (c : Cost) → Shown (P4 .plan) c ENDLESS [] 0 → ⊥
@@ -194,4 +189,11 @@ not-past-first c (s, w, l, q, d) = d 0 1 (lit< tt) (lit< tt) (sym (w .1 .1 .sour
 
 -- "For NONE: k is 0."
 pub none-empty : (c : Cost) (t : ℕ) (ts : List ℕ) → Shown (P4 .plan) c NONE (t ∷ ts) 0 → ⊥
-none-empty c t ts e = omega (arith, e)
+none-empty c t ts (e, z) = omega (arith, e)
+
+-- "Only ENDLESS has a j."
+pub only-endless : (g : Graph) (c : Cost) (f : Figure) (ts : List ℕ) (j : ℕ) → Shown g c f ts j → (f ≡ ENDLESS) ⊎ (j ≡ 0)
+only-endless g c (number k) ts j (s, r, q, d, z) = inr z
+only-endless g c STRANDED ts j (s, w, d, z) = inr z
+only-endless g c ENDLESS ts j w = inl refl
+only-endless g c NONE ts j (e, z) = inr z

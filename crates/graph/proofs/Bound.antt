@@ -25,8 +25,8 @@ use Rattle.graph.proofs.Greatest.{greatest-shown}
 module _ (g : Graph) (closed : Closed g) (c : Cost) where
   -- "n places" are enough for every walk that is shown
   pub shown-fits : (f : Figure) (ts : List ℕ) (j : ℕ) → Shown g c f ts j → length ts ≤ states g
-  shown-fits (number k) ts j (s, r, q, d) = le-of-lt (simple-length g (Unfinished g) (Final g) closed s ts r d)
-  shown-fits STRANDED ts j (s, w, d) = le-of-lt (simple-length g (Unfinished g) (DeadEnd g) closed s ts w d)
+  shown-fits (number k) ts j (s, r, q, d, z) = le-of-lt (simple-length g (Unfinished g) (Final g) closed s ts r d)
+  shown-fits STRANDED ts j (s, w, d, z) = le-of-lt (simple-length g (Unfinished g) (DeadEnd g) closed s ts w d)
   shown-fits ENDLESS ts j (s, (b, w), l, e, d) =
       let k = length ts in
       let xs = visits g s ts in
@@ -35,7 +35,7 @@ module _ (g : Graph) (closed : Closed g) (c : Cost) where
       let all = visits-below g (Unfinished g) (Unfinished g) closed s ts (start-below g s b) w in
       let first : (i : ℕ) → i < length (take k xs) → nth (take k xs) i < states g = λ i h. rw (getD-take k xs i 0 (omega arith)) (all i (omega arith)) in
       rw lk at (different-length (states g) (take k xs) d first)
-  shown-fits NONE ts j e = omega arith
+  shown-fits NONE ts j (e, z) = omega arith
 
   -- so every figure can be shown within n places
   pub least-within : (f : Figure) → IsLeast g c f → (ts : List ℕ) × (j : ℕ) × Shown g c f ts j × (length ts ≤ states g)
@@ -47,14 +47,14 @@ module _ (g : Graph) (closed : Closed g) (c : Cost) where
 
   -- a route that repeats no state, in a plan of at most 512 states
   pub transitions-le : states g ≤ 512 → (k : ℕ) (ts : List ℕ) (j : ℕ) → Shown g c (number k) ts j → length ts ≤ 511
-  transitions-le small k ts j (s, r, q, d) = omega (arith, simple-length g (Unfinished g) (Final g) closed s ts r d)
+  transitions-le small k ts j (s, r, q, d, z) = omega (arith, simple-length g (Unfinished g) (Final g) closed s ts r d)
 
 -- what it costs, where a transition costs at most a and the last state adds at most b
 module _ (g : Graph) (closed : Closed g) (c : Cost) (small : states g ≤ 512)
     (a b : ℕ) (step-le : (t : ℕ) → t < count g → c .step t ≤ a) (close-le : (s : ℕ) → c .close s ≤ b) (k : ℕ) where
   pub shown-number-le : (ts : List ℕ) (j : ℕ) → Shown g c (number k) ts j → k ≤ 511 * a + b
-  shown-number-le ts j (s, r, e, d) =
-      let h : length ts * a ≤ 511 * a = mul-le-mul-right a (transitions-le g closed c small k ts j (s, r, e, d)) in
+  shown-number-le ts j (s, r, e, d, z) =
+      let h : length ts * a ≤ 511 * a = mul-le-mul-right a (transitions-le g closed c small k ts j (s, r, e, d, z)) in
       omega (arith, total-le g c a b (Unfinished g) (Final g) step-le close-le s ts (r .1))
 
   pub least-number-le : IsLeast g c (number k) → k ≤ 511 * a + b

@@ -25,7 +25,7 @@ use native.Mathlib.Nat.{not-suc-le-zero, le-of-suc-le-suc, le-refl, le-trans, le
 use native.Mathlib.Omega.{arith}
 use lib.ListN.{length}
 use Rattle.graph.specs.Graph.{Graph, count, final, from, to, Departs, Final, Unfinished, DeadEnd, Closed}
-use Rattle.graph.specs.Walk.{Begins, visits, arrival, UnfinishedWalk, Different, EndlessWalk}
+use Rattle.graph.specs.Walk.{Begins, visits, arrival, UnfinishedWalk, Different, reached, EndlessWalk}
 use Rattle.graph.specs.Route.{RouteFrom, LeadsToAnswer, StrandedFrom, GoesOnForever, EndsUnanswered, Cost, total}
 use Rattle.graph.specs.Figure.{Figure, number, NONE, STRANDED, ENDLESS, IsLeast, IsGreatest, Shown}
 use Rattle.graph.specs.Compute.{greatest}
@@ -89,17 +89,17 @@ module _ (g : Graph) (In : ℕ → Type 0) (rank : ℕ → ℕ) where
     pub onward : (s t : ℕ) → In s → Departs g s t → Unfinished g (to g t) → In (to g t) × (rank (to g t) < rank s)
 
   module _ (r : FallingRank) where
-    in-and-falls : (e : EndlessWalk g) (i : ℕ) → In (e .state i) × (i + rank (e .state i) ≤ rank (e .state 0))
-    in-and-falls e zero = (r .begins (e .state 0) (e .begins) (e .unfinished 0), omega arith)
-    in-and-falls e (suc i) =
-        let (here, l) = in-and-falls e i in
-        let (there, falls) = r .onward (e .state i) (e .taken i) here (e .departs i) (rw (e .arrives i) (e .unfinished (suc i))) in
-        let falls′ : rank (e .state (suc i)) < rank (e .state i) = rw (e .arrives i) at falls in
-        (rw (e .arrives i) at there, omega arith)
+    in-and-falls : (s : ℕ) (taken : ℕ → ℕ) → EndlessWalk g s taken → (i : ℕ)
+        → In (reached g s taken i) × (i + rank (reached g s taken i) ≤ rank s)
+    in-and-falls s taken (b, e) zero = (r .begins s b (e .unfinished 0), omega arith)
+    in-and-falls s taken (b, e) (suc i) =
+        let (here, l) = in-and-falls s taken (b, e) i in
+        let (there, falls) = r .onward (reached g s taken i) (taken i) here (e .departs i) (e .unfinished (suc i)) in
+        (there, omega arith)
 
     -- after so many steps the rank would be below 0
     pub no-endless : GoesOnForever g → ⊥
-    no-endless e = omega (arith, in-and-falls e (suc (rank (e .state 0))) .1)
+    no-endless (s, taken, e) = omega (arith, in-and-falls s taken e (suc (rank s)) .1)
 
     -- a walk from the set to a dead end: its first state is unfinished, and its last is in the set
     stranded-unfinished : (s : ℕ) (ts : List ℕ) → StrandedFrom g s ts → Unfinished g s
@@ -212,7 +212,7 @@ module _ (g : Graph) (c : Cost) (In : ℕ → Type 0) (value rank : ℕ → ℕ)
     -- it is what 01 asks to be shown for the value
     pub follow-shown : (s : ℕ) → Begins g s → (Unfinished g s → In s)
         → (ts : List ℕ) × Shown g c (number (value s)) ts 0
-    follow-shown s b i = let f = follow s i in (f .taken, (s, (b, f .route), f .costs, f .different))
+    follow-shown s b i = let f = follow s i in (f .taken, (s, (b, f .route), f .costs, f .different, refl))
 
 -- ---- 4
 
@@ -304,7 +304,7 @@ module _ (g : Graph) (In : ℕ → Type 0) (order : ℕ → ℕ) where
         let end : DeadEnd g s = record { unfinished = p .unfinished s i; none-departs = none-departs } in
         let last : DeadEnd g (arrival g (q .first) (q .taken)) = rw (q .arrives) end in
         let w = with-last g (Unfinished g) (Unfinished g) (DeadEnd g) (q .first) (q .taken) (q .walk .1) last in
-        (q .taken, (q .first, (q .walk .0, w), q .different))
+        (q .taken, (q .first, (q .walk .0, w), q .different, refl))
 
 -- ---- 5
 
@@ -340,7 +340,10 @@ module _ (g : Graph) (c : Cost) (In : ℕ → Type 0) (value rank : ℕ → ℕ)
 
   -- a walk that is shown for ENDLESS
   pub greatest-endless : (ts : List ℕ) (j : ℕ) → Shown g c ENDLESS ts j → IsGreatest g c ENDLESS
-  greatest-endless ts j shown = (λ no-start. no-start (shown .0) (shown .1 .0), shown-endless g c ts j shown)
+  greatest-endless ts j shown = (
+    λ no-start. no-start (shown .0) (shown .1 .0),
+    let (s, taken, e, front) = shown-endless g c ts j shown in (s, taken, e),
+  )
 
   -- such a walk by its places, as on a search's stack: k transitions through unfinished states that differ, and the
   -- state after them is the one at place j

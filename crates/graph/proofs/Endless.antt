@@ -4,26 +4,26 @@
 --    forever: walk on to place k, be at place j again, and so on. The place that the endless walk is at goes up by one,
 --    and from k - 1 back to j (`next`).
 -- 2. An endless walk has a walk of every length, its first k transitions (`run-walk`); and a sequence of transitions
---    of which that is so is an endless walk (`endless-of`).
+--    of which that is so is an endless walk (`endless-of`). The one of 1 has the walk itself for its first (`run-round`).
 -- 3. So a plan of n states has an endless walk exactly when n transitions can be walked from a start through unfinished
 --    states: by 2 one way; and by 1 the other, since n + 1 states below n hold a repeat. Up to the first repeat, that
 --    walk is what 01 asks to be shown for ENDLESS (`repeat-shown`).
 -- 4. Where no endless walk exists, every walk through unfinished states visits no state twice (`simple-or-endless`).
 -- Assumes nothing.
 use Prim.Native.Nat.{ℕ, zero, suc, _+_, _≤_, _<_, zero-le}
-use mathlib.Core.Path.{_≡_, refl, sym, _∙_, ap, subst}
+use mathlib.Core.Path.{_≡_, refl, sym, _∙_, ap, ap₂, subst}
 use mathlib.Core.Bool.{Bool, true, false, cond}
 use mathlib.Core.Logic.{_⊎_, inl, inr}
 use mathlib.Core.List.{List, [], _∷_, _++_}
-use native.Mathlib.Nat.{zero-add, le-refl, le-of-lt, lt-of-lt-of-le}
+use native.Mathlib.Nat.{zero-add, add-zero, add-suc, suc-add, le-refl, le-of-lt, lt-of-lt-of-le, not-suc-le-zero, le-of-suc-le-suc}
 use native.Mathlib.Omega.{arith}
 use lib.Dec.{eqb}
 use lib.ListN.{length, take}
 use lib.Seq.{length-take-le, take-take}
-use borrow.Author.Tests.{eqb-true, eqb-false}
+use borrow.Author.Tests.{eqb-true, eqb-false, ne-eqb}
 use Rattle.graph.specs.Graph.{Graph, states, Unfinished, Closed}
 use Rattle.graph.specs.Walk.{Begins, WalkTo, visits, arrival, UnfinishedFrom, UnfinishedWalk, Different}
-use Rattle.graph.specs.Walk.{EndlessWalk}
+use Rattle.graph.specs.Walk.{reached, EndlessFrom, EndlessWalk}
 use Rattle.graph.specs.Route.{Cost}
 use Rattle.graph.specs.Figure.{ENDLESS, Shown}
 use Rattle.graph.proofs.Repeat.{nth, Repeat, first-repeat, repeat-below, different-take}
@@ -63,23 +63,38 @@ unfolding place
 place-below j k zero l = omega arith
 place-below j k (suc i) l = next-below j k (place j k i) l (place-below j k i l)
 
-module _ (g : Graph) (stop : ℕ → Type 0) (s : ℕ) (ts : List ℕ) (b : Begins g s) (w : WalkTo g (Unfinished g) stop s ts) where
+-- up to k it is the number of steps
+place-front : (j k i : ℕ) → i < k → place j k i ≡ i
+unfolding place next
+place-front j k zero h = refl
+place-front j k (suc i) h =
+    let p : place j k i ≡ i = place-front j k i (omega arith) in
+    let off : eqb (suc i) k ≡ false = ne-eqb (suc i) k (λ e. omega arith) in
+    rw (p, off)
+
+-- the transitions of ts in that order
+pub round : List ℕ → ℕ → ℕ → ℕ → ℕ
+round ts j k i = nth ts (place j k i)
+
+module _ (g : Graph) (stop : ℕ → Type 0) (s : ℕ) (ts : List ℕ) (w : WalkTo g (Unfinished g) stop s ts) where
   pub repeated-endless : (j k : ℕ) → j < k → k ≤ length ts → nth (visits g s ts) k ≡ nth (visits g s ts) j
-      → EndlessWalk g
-  unfolding place
-  repeated-endless j k l h e =
-      let at : (i : ℕ) → place j k i < length ts = λ i. lt-of-lt-of-le (place-below j k i l) h in
-      record {
-        state = λ i. nth (visits g s ts) (place j k i);
-        taken = λ i. nth ts (place j k i);
-        begins = rw (state-after g s ts 0 zero-le) b;
-        departs = λ i. departs-at g (Unfinished g) stop s ts w (place j k i) (at i);
-        arrives = λ i. arrives-at g (Unfinished g) stop s ts w (place j k i) (at i) ∙ next-same (nth (visits g s ts)) j k (place j k i) e;
-        unfinished = λ i. passed g (Unfinished g) stop s ts w (place j k i) (at i);
-      }
+      → EndlessFrom g s (round ts j k)
+  unfolding place round
+  repeated-endless j k l h e = record {
+    departs = λ i. rw (here i) (departs-at g (Unfinished g) stop s ts w (place j k i) (at i));
+    unfinished = λ i. rw (here i) (passed g (Unfinished g) stop s ts w (place j k i) (at i));
+  }
+    where
+      at : (i : ℕ) → place j k i < length ts
+      at i = lt-of-lt-of-le (place-below j k i l) h
+
+      -- the endless walk is at that place of the walk
+      here : (i : ℕ) → reached g s (round ts j k) i ≡ nth (visits g s ts) (place j k i)
+      here zero = sym (state-after g s ts 0 zero-le)
+      here (suc i) = arrives-at g (Unfinished g) stop s ts w (place j k i) (at i) ∙ next-same (nth (visits g s ts)) j k (place j k i) e
 
   -- as the first repeat that a search of its states finds
-  repeat-endless : Repeat (nth (visits g s ts)) (length (visits g s ts)) → EndlessWalk g
+  repeat-endless : (r : Repeat (nth (visits g s ts)) (length (visits g s ts))) → EndlessFrom g s (round ts (r .earlier) (r .later))
   repeat-endless r = repeated-endless (r .earlier) (r .later) (r .order) (omega (arith, length-visits g s ts)) (r .same)
 
 -- ---- 2
@@ -99,39 +114,56 @@ run-snoc taken i (suc k) =
     let later : taken (suc i + k) ≡ taken (i + suc k) = ap taken (omega arith) in
     ap (λ (ts : List ℕ). taken i ∷ ts) (run-snoc taken (suc i) k ∙ ap (λ (t : ℕ). run taken (suc i) k ++ (t ∷ [])) later)
 
-module _ (g : Graph) where
-  pub run-walk : (e : EndlessWalk g) (i k : ℕ) → UnfinishedFrom g (e .state i) (run (e .taken) i k)
+-- the first k of n
+pub take-run : (taken : ℕ → ℕ) (i k n : ℕ) → k ≤ n → take k (run taken i n) ≡ run taken i k
+take-run taken i zero n h = refl
+take-run taken i (suc k) zero h = absurd (not-suc-le-zero h)
+take-run taken i (suc k) (suc n) h = ap (λ (ts : List ℕ). taken i ∷ ts) (take-run taken (suc i) k n (le-of-suc-le-suc h))
+
+-- the first k transitions of the sequence that goes round are those of the walk
+pub run-round : (ts : List ℕ) (j : ℕ) → run (round ts j (length ts)) 0 (length ts) ≡ ts
+unfolding round
+run-round ts j = go ts (λ i. round ts j (length ts) i) 0 (λ i h. ap (nth ts) (ap (place j (length ts)) (zero-add i) ∙ place-front j (length ts) i h))
+  where
+    go : (us : List ℕ) (taken : ℕ → ℕ) (i : ℕ) → ((k : ℕ) → k < length us → taken (i + k) ≡ nth us k) → run taken i (length us) ≡ us
+    go [] taken i h = refl
+    go (u ∷ us) taken i h =
+        ap₂ (λ (x : ℕ) (xs : List ℕ). x ∷ xs) (ap taken (sym (add-zero i)) ∙ h 0 (omega arith))
+        (go us taken (suc i) (λ k l. ap taken (suc-add i k ∙ sym (add-suc i k)) ∙ h (suc k) (omega arith)))
+
+module _ (g : Graph) (s : ℕ) (taken : ℕ → ℕ) where
+  pub run-walk : EndlessFrom g s taken → (i k : ℕ) → UnfinishedFrom g (reached g s taken i) (run taken i k)
   run-walk e i zero = e .unfinished i
-  run-walk e i (suc k) = (e .unfinished i, e .departs i, rw (e .arrives i) (run-walk e (suc i) k))
+  run-walk e i (suc k) = (e .unfinished i, e .departs i, run-walk e (suc i) k)
 
   -- and a sequence whose first k transitions are such a walk, for each k, is an endless one
-  pub endless-of : (s : ℕ) (taken : ℕ → ℕ) → ((k : ℕ) → UnfinishedWalk g s (run taken 0 k)) → EndlessWalk g
-  endless-of s taken w = record {
-    state = λ i. arrival g s (run taken 0 i);
-    taken = taken;
-    begins = w 0 .0;
-    departs = λ i. last-departs g (Unfinished g) (Unfinished g) s (run taken 0 i) (taken i) (one-more i);
-    arrives = λ i. sym (ap (arrival g s) (run-to i) ∙ arrival-snoc g s (run taken 0 i) (taken i));
-    unfinished = λ i. stopped g (Unfinished g) (Unfinished g) s (run taken 0 i) (w i .1);
+  pub endless-of : ((k : ℕ) → UnfinishedFrom g s (run taken 0 k)) → EndlessFrom g s taken
+  endless-of w = record {
+    departs = λ i. rw (here i) (last-departs g (Unfinished g) (Unfinished g) s (run taken 0 i) (taken i) (one-more i));
+    unfinished = λ i. rw (here i) (stopped g (Unfinished g) (Unfinished g) s (run taken 0 i) (w i));
   }
     where
       run-to : (i : ℕ) → run taken 0 (suc i) ≡ run taken 0 i ++ (taken i ∷ [])
       run-to i = run-snoc taken 0 i ∙ ap (λ (t : ℕ). run taken 0 i ++ (taken t ∷ [])) (zero-add i)
 
       one-more : (i : ℕ) → UnfinishedFrom g s (run taken 0 i ++ (taken i ∷ []))
-      one-more i = subst (UnfinishedFrom g s) (run-to i) (w (suc i) .1)
+      one-more i = subst (UnfinishedFrom g s) (run-to i) (w (suc i))
+
+      here : (i : ℕ) → reached g s taken i ≡ arrival g s (run taken 0 i)
+      here zero = refl
+      here (suc i) = sym (ap (arrival g s) (run-to i) ∙ arrival-snoc g s (run taken 0 i) (taken i))
 
 -- ---- 3
 
-module _ (g : Graph) (stop : ℕ → Type 0) (s : ℕ) (ts : List ℕ) (b : Begins g s) (w : WalkTo g (Unfinished g) stop s ts) where
+module _ (g : Graph) (stop : ℕ → Type 0) (s : ℕ) (ts : List ℕ) (below : s < states g) (w : WalkTo g (Unfinished g) stop s ts) where
   -- a walk of n transitions has a repeat, so it goes on forever
   long-repeat : Closed g → states g ≤ length ts → Repeat (nth (visits g s ts)) (length (visits g s ts))
   long-repeat closed h =
       repeat-below (states g) (nth (visits g s ts)) (length (visits g s ts)) (omega (arith, length-visits g s ts))
-      (visits-below g (Unfinished g) stop closed s ts (start-below g s b) w)
+      (visits-below g (Unfinished g) stop closed s ts below w)
 
-  pub long-endless : Closed g → states g ≤ length ts → EndlessWalk g
-  long-endless closed h = repeat-endless g stop s ts b w (long-repeat closed h)
+  pub long-endless : Closed g → states g ≤ length ts → (taken : ℕ → ℕ) × EndlessFrom g s taken
+  long-endless closed h = let r = long-repeat closed h in (round ts (r .earlier) (r .later), repeat-endless g stop s ts w r)
 
 module _ (g : Graph) (c : Cost) (stop : ℕ → Type 0) (s : ℕ) (ts : List ℕ) (b : Begins g s) (w : WalkTo g (Unfinished g) stop s ts) where
   -- up to the first repeat, the walk is as 01 asks for ENDLESS
@@ -154,31 +186,36 @@ module _ (g : Graph) (c : Cost) (stop : ℕ → Type 0) (s : ℕ) (ts : List ℕ
         rw (lk, visits-take g s ts k hk, take-take k (suc k) xs (omega arith)) (different-take xs k (r .apart)),
       )
 
-  pub long-shown : Closed g → states g ≤ length ts → (us : List ℕ) × (j : ℕ) × Shown g c ENDLESS us j
-  long-shown closed h = let r = long-repeat g stop s ts b w closed h in (take (r .later) ts, r .earlier, repeat-shown r)
+  pub long-shown : Closed g → states g ≤ length ts → (k : ℕ) × (j : ℕ) × Shown g c ENDLESS (take k ts) j × (k ≤ length ts)
+  long-shown closed h =
+      let r = long-repeat g stop s ts (start-below g s b) w closed h in
+      (r .later, r .earlier, repeat-shown r, omega (arith, length-visits g s ts))
 
 module _ (g : Graph) (c : Cost) where
-  -- ENDLESS can always be shown ..
-  pub endless-shown : Closed g → EndlessWalk g → (us : List ℕ) × (j : ℕ) × Shown g c ENDLESS us j
-  endless-shown closed e =
-      let ts = run (e .taken) 0 (states g) in
-      let w = run-walk g e 0 (states g) in
-      long-shown g c (Unfinished g) (e .state 0) ts (e .begins) w closed (omega (arith, length-run (e .taken) 0 (states g)))
+  -- every endless walk has a front that may be shown: its first k transitions, for some k ..
+  pub endless-shown : Closed g → (s : ℕ) (taken : ℕ → ℕ) → EndlessWalk g s taken
+      → (k : ℕ) × (j : ℕ) × Shown g c ENDLESS (run taken 0 k) j
+  endless-shown closed s taken (b, e) =
+      let n = states g in
+      let l : length (run taken 0 n) ≡ n = length-run taken 0 n in
+      let (k, j, shown, h) = long-shown g c (Unfinished g) s (run taken 0 n) b (run-walk g s taken e 0 n) closed (omega arith) in
+      (k, j, subst (λ (us : List ℕ). Shown g c ENDLESS us j) (take-run taken 0 k n (omega arith)) shown)
 
-  -- .. and what is shown goes on forever
-  pub shown-endless : (ts : List ℕ) (j : ℕ) → Shown g c ENDLESS ts j → EndlessWalk g
+  -- .. and what is shown goes on forever: it is the front of an endless walk
+  pub shown-endless : (ts : List ℕ) (j : ℕ) → Shown g c ENDLESS ts j
+      → (s : ℕ) × (taken : ℕ → ℕ) × EndlessWalk g s taken × (run taken 0 (length ts) ≡ ts)
   shown-endless ts j (s, (b, w), l, e, d) =
       let same = state-last g s ts ∙ e ∙ sym (state-after g s ts j (le-of-lt l)) in
-      repeated-endless g (Unfinished g) s ts b w j (length ts) l (le-refl (length ts)) same
+      let endless = repeated-endless g (Unfinished g) s ts w j (length ts) l (le-refl (length ts)) same in
+      (s, round ts j (length ts), (b, endless), run-round ts j)
 
 -- ---- 4
 
-pub simple-or-endless : (g : Graph) (stop : ℕ → Type 0) (s : ℕ) (ts : List ℕ) → Begins g s
-    → WalkTo g (Unfinished g) stop s ts
-    → EndlessWalk g ⊎ Different (visits g s ts)
-simple-or-endless g stop s ts b w = go (first-repeat (nth (visits g s ts)) (length (visits g s ts)))
+pub simple-or-endless : (g : Graph) (stop : ℕ → Type 0) (s : ℕ) (ts : List ℕ) → WalkTo g (Unfinished g) stop s ts
+    → ((taken : ℕ → ℕ) × EndlessFrom g s taken) ⊎ Different (visits g s ts)
+simple-or-endless g stop s ts w = go (first-repeat (nth (visits g s ts)) (length (visits g s ts)))
   where
     go : Repeat (nth (visits g s ts)) (length (visits g s ts)) ⊎ Different (visits g s ts)
-        → EndlessWalk g ⊎ Different (visits g s ts)
-    go (inl r) = inl (repeat-endless g stop s ts b w r)
+        → ((taken : ℕ → ℕ) × EndlessFrom g s taken) ⊎ Different (visits g s ts)
+    go (inl r) = inl (round ts (r .earlier) (r .later), repeat-endless g stop s ts w r)
     go (inr d) = inr d

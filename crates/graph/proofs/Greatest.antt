@@ -18,7 +18,7 @@ use mathlib.Core.List.{List, [], _∷_}
 use native.Mathlib.Nat.{le-of-eq, le-refl}
 use lib.ListN.{length}
 use Rattle.graph.specs.Graph.{Graph, states, start, final, to, Departs, Final, Unfinished, DeadEnd, Closed}
-use Rattle.graph.specs.Walk.{Begins, visits, UnfinishedFrom, Different, EndlessWalk}
+use Rattle.graph.specs.Walk.{Begins, visits, UnfinishedFrom, Different, EndlessFrom}
 use Rattle.graph.specs.Route.{RouteFrom, Route, LeadsToAnswer, StrandedFrom, GoesOnForever, EndsUnanswered, Cost}
 use Rattle.graph.specs.Route.{total}
 use Rattle.graph.specs.Figure.{Figure, number, NONE, STRANDED, ENDLESS, IsGreatest, NoStart, Shown}
@@ -59,14 +59,15 @@ module _ (g : Graph) where
     sound = λ e.
         let (r, m) = of-nonempty (begun g unanswered (states g)) e in
         let l = of-begun g unanswered (states g) r m in
-        long-endless g (Yes unanswered) (r .0) (r .1) (l .begins) (l .walk) closed (le-of-eq (sym (l .size)));
-    complete = λ e.
-        let ts = run (e .taken) 0 (states g) in
-        let u = run-walk g e 0 (states g) in
-        let w = with-stop g (Unfinished g) (Unfinished g) (Yes unanswered) (λ x u. ap not u) (e .state 0) ts u in
-        let m = in-begun g unanswered (e .state 0) ts (e .begins) w in
+        let (taken, walk) = long-endless g (Yes unanswered) (r .0) (r .1) (start-below g (r .0) (l .begins)) (l .walk) closed (le-of-eq (sym (l .size))) in
+        (r .0, taken, (l .begins, walk));
+    complete = λ (s, taken, (b, e)).
+        let ts = run taken 0 (states g) in
+        let u = run-walk g s taken e 0 (states g) in
+        let w = with-stop g (Unfinished g) (Unfinished g) (Yes unanswered) (λ x u. ap not u) s ts u in
+        let m = in-begun g unanswered s ts b w in
         in-nonempty (begun g unanswered (states g))
-        (subst (λ (k : ℕ). (e .state 0, ts) ∈ begun g unanswered k) (length-run (e .taken) 0 (states g)) m);
+        (subst (λ (k : ℕ). (s, ts) ∈ begun g unanswered k) (length-run taken 0 (states g)) m);
   }
 
   any-stranded : Closed g → Tests (anyStranded g) (EndsUnanswered g)
@@ -119,17 +120,19 @@ module _ (g : Graph) where
       go : Onward (states g) s → LeadsToAnswer g s
       go (inl (ts, w)) = (ts, (b, w))
       go (inr (inl (ts, w))) = absurd (unstranded (s, ts, (b, w)))
-      go (inr (inr (ts, w, l))) = absurd (finite (long-endless g (Unfinished g) s ts b w closed (le-of-eq (sym l))))
+      go (inr (inr (ts, w, l))) =
+          let (taken, e) = long-endless g (Unfinished g) s ts (start-below g s b) w closed (le-of-eq (sym l)) in
+          absurd (finite (s, taken, (b, e)))
 
 -- ---- 3
 
 -- every route is simple
 pub route-simple : (g : Graph) → (GoesOnForever g → ⊥) → (s : ℕ) (ts : List ℕ) → Route g s ts
     → Different (visits g s ts)
-route-simple g finite s ts r = go (simple-or-endless g (Final g) s ts (r .0) (r .1))
+route-simple g finite s ts r = go (simple-or-endless g (Final g) s ts (r .1))
   where
-    go : EndlessWalk g ⊎ Different (visits g s ts) → Different (visits g s ts)
-    go (inl e) = absurd (finite e)
+    go : ((taken : ℕ → ℕ) × EndlessFrom g s taken) ⊎ Different (visits g s ts) → Different (visits g s ts)
+    go (inl (taken, e)) = absurd (finite (s, taken, (r .0, e)))
     go (inr d) = d
 
 cover : (g : Graph) (c : Cost) → Closed g → (GoesOnForever g → ⊥) → Covered max AtLeast picks-max g c
@@ -194,12 +197,15 @@ module _ (g : Graph) (c : Cost) where
 
   -- and it can be shown
   pub greatest-shown : Closed g → (f : Figure) → IsGreatest g c f → (ts : List ℕ) × (j : ℕ) × Shown g c f ts j
-  greatest-shown closed NONE u = ([], 0, refl)
-  greatest-shown closed ENDLESS u = endless-shown g c closed (u .1)
+  greatest-shown closed NONE u = ([], 0, (refl, refl))
+  greatest-shown closed ENDLESS u =
+      let (s, taken, e) = u .1 in
+      let (k, j, shown) = endless-shown g c closed s taken e in
+      (run taken 0 k, j, shown)
   greatest-shown closed STRANDED u =
       let (s, ts, w) = u .2 in
       let q = simple g (Unfinished g) (DeadEnd g) s ts (w .1) in
-      (q .short, 0, (s, (w .0, q .walk), q .different))
+      (q .short, 0, (s, (w .0, q .walk), q .different, refl))
   greatest-shown closed (number k) u =
       let (s, ts, r, q) = u .3 .attained in
-      (ts, 0, (s, r, q, route-simple g (u .1) s ts r))
+      (ts, 0, (s, r, q, route-simple g (u .1) s ts r, refl))

@@ -126,22 +126,22 @@ P1-long = (refl, (refl, takes 0 0 tt refl, (refl, takes 1 1 tt refl, (refl, take
 -- "least delay 7: 0 2"
 pub P1-least-delay : Shown (P1 .plan) (leastDelayCost (P1 .plan)) (number 7) (0 ∷ 2 ∷ []) 0
 unfolding low
-P1-least-delay = (0, P1-short, refl, P1-different 0 (0 ∷ 2 ∷ []) P1-short)
+P1-least-delay = (0, P1-short, refl, P1-different 0 (0 ∷ 2 ∷ []) P1-short, refl)
 
 -- "greatest delay 60: 0 1 3"
 pub P1-greatest-delay : Shown (P1 .plan) (greatestDelayCost (P1 .plan)) (number 60) (0 ∷ 1 ∷ 3 ∷ []) 0
 unfolding high
-P1-greatest-delay = (0, P1-long, refl, P1-different 0 (0 ∷ 1 ∷ 3 ∷ []) P1-long)
+P1-greatest-delay = (0, P1-long, refl, P1-different 0 (0 ∷ 1 ∷ 3 ∷ []) P1-long, refl)
 
 -- "least count 1: 0 2"
 pub P1-least-count : Shown (P1 .plan) (countCost (P1 .plan)) (number 1) (0 ∷ 2 ∷ []) 0
 unfolding counted from to
-P1-least-count = (0, P1-short, refl, P1-different 0 (0 ∷ 2 ∷ []) P1-short)
+P1-least-count = (0, P1-short, refl, P1-different 0 (0 ∷ 2 ∷ []) P1-short, refl)
 
 -- "greatest count 2: 0 1 3"
 pub P1-greatest-count : Shown (P1 .plan) (countCost (P1 .plan)) (number 2) (0 ∷ 1 ∷ 3 ∷ []) 0
 unfolding counted from to
-P1-greatest-count = (0, P1-long, refl, P1-different 0 (0 ∷ 1 ∷ 3 ∷ []) P1-long)
+P1-greatest-count = (0, P1-long, refl, P1-different 0 (0 ∷ 1 ∷ 3 ∷ []) P1-long, refl)
 
 -- ---- "What misleads people here"
 

@@ -57,7 +57,7 @@ module _ (g : Graph) (c : Cost) where
       let (s, ts, r, q) = u .attained in
       let p = simple g (Unfinished g) (Final g) s ts (r .1) in
       let cheap : total g c s (p .short) ≤ k = le-trans (p .cheaper c) (le-of-eq q) in
-      (p .short, 0, (s, (r .0, p .walk), le-antisymm cheap (u .bound s (p .short) (r .0, p .walk)), p .different))
-  least-shown NONE u = ([], 0, refl)
+      (p .short, 0, (s, (r .0, p .walk), le-antisymm cheap (u .bound s (p .short) (r .0, p .walk)), p .different, refl))
+  least-shown NONE u = ([], 0, (refl, refl))
   least-shown STRANDED u = absurd u
   least-shown ENDLESS u = absurd u

@@ -58,31 +58,28 @@ module _ (g : Graph) where
 
   -- "an endless walk of unfinished states": a sequence of transitions whose first k are a walk of unfinished states, for
   -- each k; so it begins as any walk does
-  pub endless-is : EndlessWalk g ↔ ((s : ℕ) × (taken : ℕ → ℕ) × ((k : ℕ) → UnfinishedWalk g s (run taken 0 k)))
-  endless-is = (
-    λ e. (e .state 0, e .taken, λ k. (e .begins, run-walk g e 0 k)),
-    λ (s, taken, w). endless-of g s taken w,
-  )
+  pub endless-is : (s : ℕ) (taken : ℕ → ℕ) → EndlessWalk g s taken ↔ ((k : ℕ) → UnfinishedWalk g s (run taken 0 k))
+  endless-is s taken = (λ (b, e) k. (b, run-walk g s taken e 0 k), λ w. (w 0 .0, endless-of g s taken (λ k. w k .1)))
 
   -- "A number or STRANDED shown with k at 0 means the walk of some start alone."
   pub number-alone : (c : Cost) (k j : ℕ) → Shown g c (number k) [] j → (s : ℕ) × Begins g s × Final g s
-  number-alone c k j (s, r, q, d) = (s, r .0, r .1)
+  number-alone c k j (s, r, q, d, z) = (s, r .0, r .1)
 
   pub stranded-alone : (c : Cost) (j : ℕ) → Shown g c STRANDED [] j → (s : ℕ) × Begins g s × DeadEnd g s
-  stranded-alone c j (s, (b, w), d) = (s, b, w)
+  stranded-alone c j (s, (b, w), d, z) = (s, b, w)
 
   -- the number shown is the sum over the walk shown, "of its lows for a least figure, and of its highs for a greatest
   -- one" ..
   pub shown-lows : (k : ℕ) (ts : List ℕ) (j : ℕ) → Shown g (lows g) (number k) ts j → delay (low g) ts ≡ k
-  shown-lows k ts j (s, r, q, d) = sym (delay-is g (low g) s ts) ∙ q
+  shown-lows k ts j (s, r, q, d, z) = sym (delay-is g (low g) s ts) ∙ q
 
   pub shown-highs : (k : ℕ) (ts : List ℕ) (j : ℕ) → Shown g (highs g) (number k) ts j → delay (high g) ts ≡ k
-  shown-highs k ts j (s, r, q, d) = sym (delay-is g (high g) s ts) ∙ q
+  shown-highs k ts j (s, r, q, d, z) = sym (delay-is g (high g) s ts) ∙ q
 
   -- .. or the number of counted states on it: "one that quotes a handover count which its walk lacks" shows no such walk
   pub shown-count : (p : ℕ → Bool) (k : ℕ) (ts : List ℕ) (j : ℕ) → Shown g (counts g p) (number k) ts j
       → (s : ℕ) × Begins g s × (number-on g p s ts ≡ k)
-  shown-count p k ts j (s, r, q, d) = (s, r .0, sym (count-is g p (Unfinished g) (Final g) s ts (r .1)) ∙ q)
+  shown-count p k ts j (s, r, q, d, z) = (s, r .0, sym (count-is g p (Unfinished g) (Final g) s ts (r .1)) ∙ q)
 
 -- "a calculator that says NONE, STRANDED or ENDLESS before looking", and "one that quotes a fixed figure": no figure is
 -- right for both P2 and P3, whatever the cost

@@ -77,17 +77,17 @@ countCost g = counts g (counted g)
 
 -- ---- what is shown
 
--- the walk of transition numbers ts, k of them, with the place j, is as 01 asks for the figure. "Only ENDLESS has a j",
--- so no other line speaks of it; and "which of several such walks is shown is left free".
+-- the walk of transition numbers ts, k of them, with the place j, is as 01 asks for the figure. "Only ENDLESS has a j":
+-- beside any other kind it is 0. "Which of several such walks is shown is left free."
 abbrev pub Shown : Graph → Cost → Figure → List ℕ → ℕ → Type 0
 -- "For a number: a route that attains the figure and visits no state twice."
-Shown g c (number k) ts j = (s : ℕ) × Route g s ts × (total g c s ts ≡ k) × Different (visits g s ts)
+Shown g c (number k) ts j = (s : ℕ) × Route g s ts × (total g c s ts ≡ k) × Different (visits g s ts) × (j ≡ 0)
 -- "For STRANDED: an unfinished walk to a dead end, no state twice."
-Shown g c STRANDED ts j = (s : ℕ) × StrandedWalk g s ts × Different (visits g s ts)
+Shown g c STRANDED ts j = (s : ℕ) × StrandedWalk g s ts × Different (visits g s ts) × (j ≡ 0)
 -- "For ENDLESS: an unfinished walk and a place j below k, where the state after k transitions is the state after j, and
 -- the first k states differ."
 Shown g c ENDLESS ts j =
     (s : ℕ) × UnfinishedWalk g s ts × (j < length ts) × (arrival g s ts ≡ arrival g s (take j ts))
     × Different (take (length ts) (visits g s ts))
 -- "For NONE: k is 0."
-Shown g c NONE ts j = length ts ≡ 0
+Shown g c NONE ts j = (length ts ≡ 0) × (j ≡ 0)

@@ -22,7 +22,7 @@ LeadsToAnswer g s = (ts : List ℕ) × Route g s ts
 
 -- "A telephone call can go on forever unanswered when an endless walk of unfinished states exists"
 abbrev pub GoesOnForever : Graph → Type 0
-GoesOnForever g = EndlessWalk g
+GoesOnForever g = (s : ℕ) × (taken : ℕ → ℕ) × EndlessWalk g s taken
 
 -- a walk of unfinished states that ends in a dead end; first from any state.
 -- The hunt for a dead end "considers only states that unfinished walks reach".

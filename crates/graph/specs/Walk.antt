@@ -1,9 +1,9 @@
 -- Walks by transition numbers. Document 01, "Routes and figures", first paragraph.
 --
--- A walk is a state, where it begins, and a list of transition numbers: the states on it follow. What a walk must meet
--- is said first of a walk from any state; how the walks of a plan begin is said by `FromStart` alone, and at the end
--- for an endless one, which begins as any walk does (`endless-is` of proofs/Sentences.antt). Assumes nothing.
-use Prim.Native.Nat.{ℕ, suc, _<_}
+-- A walk is a state, where it begins, and a list of transition numbers, or a sequence of them without end: the states on
+-- it follow. What a walk must meet is said first of a walk from any state; how the walks of a plan begin is said by
+-- `FromStart`, for finite and endless ones alike. Assumes nothing.
+use Prim.Native.Nat.{ℕ, zero, suc, _<_}
 use mathlib.Core.Path.{_≡_}
 use mathlib.Core.Bool.{true}
 use mathlib.Core.List.{List, [], _∷_}
@@ -31,7 +31,7 @@ abbrev pub Begins : Graph → ℕ → Type 0
 Begins g s = start g s ≡ true
 
 -- HOW A WALK BEGINS (E5 changes this): "A walk is a start state followed by" its transitions, and K is asked of it
-abbrev pub FromStart : Graph → (ℕ → List ℕ → Type 0) → ℕ → List ℕ → Type 0
+abbrev pub FromStart : {A : Type 0} → Graph → (ℕ → A → Type 0) → ℕ → A → Type 0
 FromStart g K s ts = Begins g s × K s ts
 
 -- "A walk is a start state followed by transitions of the plan, each departing where the one before arrived": nothing
@@ -53,11 +53,16 @@ UnfinishedWalk g = FromStart g (UnfinishedFrom g)
 abbrev pub Different : List ℕ → Type 0
 Different xs = (i j : ℕ) → i < j → j < length xs → getD xs i 0 ≡ getD xs j 0 → ⊥
 
--- "an endless walk of unfinished states": a state and a transition for every number, so it never ends
-pub record EndlessWalk (g : Graph) : Type 0 where
-  pub state : ℕ → ℕ
-  pub taken : ℕ → ℕ
-  pub begins : Begins g (state 0)
-  pub departs : (i : ℕ) → Departs g (state i) (taken i)
-  pub arrives : (i : ℕ) → to g (taken i) ≡ state (suc i)
-  pub unfinished : (i : ℕ) → Unfinished g (state i)
+-- the state after the first i transitions of a sequence, walked from s
+abbrev pub reached : Graph → ℕ → (ℕ → ℕ) → ℕ → ℕ
+reached g s taken zero = s
+reached g s taken (suc i) = to g (taken i)
+
+-- "an endless walk of unfinished states": a transition for every number, so it never ends, "each departing where the one
+-- before arrived"; first from any state
+pub record EndlessFrom (g : Graph) (s : ℕ) (taken : ℕ → ℕ) : Type 0 where
+  pub departs : (i : ℕ) → Departs g (reached g s taken i) (taken i)
+  pub unfinished : (i : ℕ) → Unfinished g (reached g s taken i)
+
+abbrev pub EndlessWalk : Graph → ℕ → (ℕ → ℕ) → Type 0
+EndlessWalk g = FromStart g (EndlessFrom g)

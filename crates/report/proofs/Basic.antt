@@ -147,7 +147,7 @@ pub no-final : Returns (upper alone) ∞ × IsGreatest alone (greatestDelayCost 
 unfolding any empty same N T T⁻¹ marksOf start final from to transition
 no-final = (
   (_, ends refl, refl),
-  ((λ none. none 0 refl), (λ e. not-suc-le-zero (e .departs 0 .listed)), (0, [], (refl, end))),
+  ((λ none. none 0 refl), (λ (s, taken, (b, e)). not-suc-le-zero (e .departs 0 .listed)), (0, [], (refl, end))),
 )
   where
     end : DeadEnd alone 0

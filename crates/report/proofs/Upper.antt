@@ -22,7 +22,7 @@ use native.Mathlib.Omega.{arith}
 use lib.ListN.{length}
 use borrow.Author.Tests.{not-true, not-false}
 use Rattle.graph.specs.Graph.{Graph, states, start, final, to, Departs, Final, Unfinished}
-use Rattle.graph.specs.Walk.{Begins, EndlessWalk}
+use Rattle.graph.specs.Walk.{Begins, reached, EndlessFrom}
 use Rattle.graph.specs.Route.{RouteFrom, Route, StrandedFrom, Cost, total, highs, GoesOnForever}
 use Rattle.graph.specs.Figure.{number, NoStart, Largest, IsGreatest, greatestDelayCost}
 use Rattle.graph.proofs.Tests.{decided}
@@ -47,9 +47,9 @@ module _ (g : Graph) where
   route-through (suc k) s [] w h = absurd (not-suc-le-zero h)
   route-through (suc k) s (t ∷ ts) w h = (w .0, t, w .1, route-through k (to g t) ts (w .2) (le-of-suc-le-suc h))
 
-  endless-through : (e : EndlessWalk g) (k i : ℕ) → Through g k (e .state i)
-  endless-through e zero i = tt
-  endless-through e (suc k) i = (e .unfinished i, e .taken i, e .departs i, rw (e .arrives i) (endless-through e k (suc i)))
+  endless-through : (s : ℕ) (taken : ℕ → ℕ) → EndlessFrom g s taken → (k i : ℕ) → Through g k (reached g s taken i)
+  endless-through s taken e zero i = tt
+  endless-through s taken e (suc k) i = (e .unfinished i, taken i, e .departs i, endless-through s taken e k (suc i))
 
   pub shorter : (k j s : ℕ) → Through g k s → j ≤ k → Through g j s
   shorter k zero s w h = tt
@@ -119,14 +119,21 @@ module _ (g : Graph) (q : TotalPlan g) where
 
     endless : GoesOnForever g
     unfolding out onward walk
-    endless = record {
-      state = λ i. walk i .0;
-      taken = λ i. out (walk i) .1;
-      begins = b .begun .1;
-      departs = λ i. out (walk i) .2;
-      arrives = λ i. refl;
-      unfinished = λ i. out (walk i) .0;
-    }
+    endless = (first, taken, (b .begun .1, record { departs = departs; unfinished = unfinished }))
+      where
+        first : ℕ
+        first = walk 0 .0
+
+        taken : ℕ → ℕ
+        taken i = out (walk i) .1
+
+        departs : (i : ℕ) → Departs g (reached g first taken i) (taken i)
+        departs zero = out (walk 0) .2
+        departs (suc i) = out (walk (suc i)) .2
+
+        unfinished : (i : ℕ) → Unfinished g (reached g first taken i)
+        unfinished zero = out (walk 0) .0
+        unfinished (suc i) = out (walk (suc i)) .0
 
   -- the end, with no start in R'
   module _ (v : Vars) (b : Behind g v) (apart : empty g (v .R′ ∩ start g) ≡ true) where
@@ -180,7 +187,7 @@ module _ (g : Graph) (q : TotalPlan g) where
   pub largest-greatest : (i : ℕ) → Longest g i → (c : Cost) (k : ℕ) → Largest g c k → IsGreatest g c (number k)
   largest-greatest i x c k h = (
     started,
-    (λ e. x .ends (e .state 0) (e .begins) (endless-through g e (suc i) 0)),
+    (λ (s, taken, (b, e)). x .ends s b (endless-through g s taken e (suc i) 0)),
     (λ (s, ts, w). stranded s ts (start-below g s (w .0)) (w .1)),
     h,
   )
