@@ -48,6 +48,23 @@ P1-bounds = record {
   longest = (_, turns refl (turns refl (turns refl (ends refl))), refl);
 }
 
+-- P8: the answer, and a loop at it. A walk that went on would go round it for ever
+abbrev pub P8-steps : Graph
+P8-steps = plan (4 ∷ 2 ∷ []) (step 0 1 ∷ step 1 1 ∷ [])
+
+pub P8-bounds : Bounds P8-steps (finite 1) (finite 1)
+unfolding any empty same N T T⁻¹ marksOf start final from to transition
+P8-bounds = record { shortest = (_, turns refl (ends refl), refl); longest = (_, turns refl (ends refl), refl) }
+
+pub P8-counts : Counts P8-steps (finite 0) (finite 0)
+unfolding any N marksOf start final counted from to transition those Nₐ Tₐ updated
+P8-counts = record { fewest = (_, turns refl (ends refl), refl); most = (_, turns refl (ends refl), refl) }
+
+-- "first and last included": the last state alone is counted here, and in P2 the one that is both
+pub last-counted : Counts (plan (4 ∷ 3 ∷ []) (step 0 1 ∷ [])) (finite 1) (finite 1)
+unfolding any N marksOf start final counted from to transition those Nₐ Tₐ updated
+last-counted = record { fewest = (_, turns refl (ends refl), refl); most = (_, turns refl (ends refl), refl) }
+
 pub P1-counts : Counts (P1 .plan) (finite 1) (finite 2)
 unfolding any N marksOf start final counted from to transition those Nₐ Tₐ updated
 P1-counts = record {
@@ -73,11 +90,6 @@ P4-bounds = record { shortest = (_, turns refl (ends refl), refl); longest = (_,
 pub P7-bounds : Bounds (plan (4 ∷ 2 ∷ 0 ∷ []) (step 0 1 ∷ step 2 2 ∷ [])) (finite 1) (finite 1)
 unfolding any empty same N T T⁻¹ marksOf start final from to transition
 P7-bounds = record { shortest = (_, turns refl (ends refl), refl); longest = (_, turns refl (ends refl), refl) }
-
--- P8: a loop at the final state
-pub P8-bounds : Bounds (plan (4 ∷ 2 ∷ []) (step 0 1 ∷ step 1 1 ∷ [])) (finite 1) (finite 1)
-unfolding any empty same N T T⁻¹ marksOf start final from to transition
-P8-bounds = record { shortest = (_, turns refl (ends refl), refl); longest = (_, turns refl (ends refl), refl) }
 
 -- A walk on from an answer: 1 is final and leads to 2 and back. The longest route is 0, 3, 1.
 abbrev pub on-from-answer : Graph
