@@ -9,12 +9,12 @@ use mathlib.Core.Path.{_≡_, refl}
 use Prim.Native.Nat.{ℕ}
 use lib.Dec.{leb, ltb, eqb}
 use lib.ListN.{length}
-use Rattle.field.specs.Field.{pack, octetsOf, bitsOf, bitsOfAll, widthOfAll, number}
-use Rattle.graph.specs.Known.{P1}
+use Rattle.field.specs.Field.{pack, octetsOf, bits, bitsOf, bitsOfAll, widthOfAll, number, fieldAt}
+use Rattle.graph.specs.Known.{P1, plan, join}
 use Rattle.graph.specs.Graph.{Graph, State, Transition, states, count}
 use Rattle.rules.specs.Image.{image, imageFields, fieldsOfEach, headerRule, statesIn, transitionsIn, readImage, imageLength, versionOf, stateCountOf, transitionCountOf, padOf, stateAt, checked}
 use Rattle.rules.specs.Limits.{within, stateCountOk, transitionCountOk, marksOk, endsOk, durationsOk}
-use Rattle.rules.specs.Refusal.{Result, accepted, refused}
+use Rattle.rules.specs.Refusal.{Result, accepted, refused, collect}
 use Rattle.rules.specs.Rules.{freshRule, markRule, joinRule, unjoinRule, readRule, writeRule, freshGraph, withMark, withTransition, without}
 
 -- ---- P1 and the 28 octets of "Plans with known figures"
@@ -166,6 +166,16 @@ module _ (os : List ℕ) where
       → readImage os ≡ accepted (record { stateList = ss; transitions = ts })
   unfolding readImage
   read-done h ss s ts t = rw (h, s, t)
+
+-- "by number": of two items that are refused the first decides
+pub by-number : collect {A = ℕ} (λ i. refused i) 0 2 ≡ refused 0
+unfolding collect
+by-number = refl
+
+-- and so a transition whose low is above its high, 8, before one from no state, 7
+pub first-decides : readImage (image (plan (4 ∷ 2 ∷ []) (join 0 1 5 3 ∷ join 2 1 1 1 ∷ []))) ≡ refused 8
+unfolding image imageFields fieldsOfEach pack octetsOf bitsOf bitsOfAll widthOfAll number readImage headerRule statesIn transitionsIn collect fieldAt bits
+first-decides = refl
 
 -- of one transition, "7 before 8"
 pub checked-7 : (n : ℕ) (t : Transition) → endsOk n t ≡ false → checked n t ≡ refused 7

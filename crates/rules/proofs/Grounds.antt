@@ -111,10 +111,14 @@ write-grounds g buffer =
     first writeNumbers (not (within g)) PlanLimits r2 refl
     (first writeNumbers (ltb (length buffer) n) BufferLength (accepted n) refl (accept writeNumbers n))
 
-abbrev readNumbers : List ℕ
-readNumbers = 0 ∷ 1 ∷ 2 ∷ 3 ∷ 4 ∷ 5 ∷ 6 ∷ 7 ∷ 8 ∷ []
+-- the octets alone, and read, which is given a plan too
+abbrev imageNumbers : List ℕ
+imageNumbers = 1 ∷ 2 ∷ 3 ∷ 4 ∷ 5 ∷ 6 ∷ 7 ∷ 8 ∷ []
 
-header-grounds : (os : List ℕ) → Only readNumbers (headerRule os)
+abbrev readNumbers : List ℕ
+readNumbers = 0 ∷ imageNumbers
+
+header-grounds : (os : List ℕ) → Only imageNumbers (headerRule os)
 unfolding headerRule
 header-grounds os =
     let n : ℕ = stateCountOf os in
@@ -125,42 +129,49 @@ header-grounds os =
     let r4 : Result (Unit {0}) = refuseIf (not (transitionCountOk m)) TransitionCount >> r5 in
     let r3 : Result (Unit {0}) = refuseIf (not (stateCountOk n)) StateCount >> r4 in
     let r2 : Result (Unit {0}) = refuseIf (not (eqb (versionOf os) 1)) Version >> r3 in
-    first readNumbers (ltb (length os) 4) ImageShort r2 refl
-    (first readNumbers (not (eqb (versionOf os) 1)) Version r3 refl
-    (first readNumbers (not (stateCountOk n)) StateCount r4 refl
-    (first readNumbers (not (transitionCountOk m)) TransitionCount r5 refl
-    (first readNumbers (not (eqb (padOf os) 0)) SpareBits r6 refl
-    (first readNumbers (ltb (length os) (imageLength n m)) ImageShort r7 refl
-    (ground readNumbers (ltb (imageLength n m) (length os)) ImageLong refl))))))
+    first imageNumbers (ltb (length os) 4) ImageShort r2 refl
+    (first imageNumbers (not (eqb (versionOf os) 1)) Version r3 refl
+    (first imageNumbers (not (stateCountOk n)) StateCount r4 refl
+    (first imageNumbers (not (transitionCountOk m)) TransitionCount r5 refl
+    (first imageNumbers (not (eqb (padOf os) 0)) SpareBits r6 refl
+    (first imageNumbers (ltb (length os) (imageLength n m)) ImageShort r7 refl
+    (ground imageNumbers (ltb (imageLength n m) (length os)) ImageLong refl))))))
 
-state-grounds : (os : List ℕ) (at : ℕ) → Only readNumbers (stateAt os at)
+state-grounds : (os : List ℕ) (at : ℕ) → Only imageNumbers (stateAt os at)
 state-grounds os at =
     let v : State = marked (4 * fieldAt os at 1 + 2 * fieldAt os (at + 1) 1 + fieldAt os (at + 2) 1) in
-    first readNumbers (not (eqb (fieldAt os (at + 3) 5) 0)) SpareBits (accepted v) refl (accept readNumbers v)
+    first imageNumbers (not (eqb (fieldAt os (at + 3) 5) 0)) SpareBits (accepted v) refl (accept imageNumbers v)
 
-pub image-grounds : (os : List ℕ) → Only readNumbers (readImage os)
+pub image-grounds : (os : List ℕ) → Only imageNumbers (readImage os)
 unfolding readImage statesIn transitionsIn
 image-grounds os =
     let n : ℕ = stateCountOf os in
     let m : ℕ = transitionCountOf os in
     let last : List State → List Transition → Result Graph = λ ss ts. accepted (record { stateList = ss; transitions = ts }) in
-    both readNumbers (headerRule os) (statesIn os n >>= λ ss. transitionsIn os n m >>= λ ts. last ss ts) (header-grounds os)
-    (bind readNumbers (statesIn os n) (λ ss. transitionsIn os n m >>= λ ts. last ss ts)
-    (each readNumbers (λ (i : ℕ). stateAt os (statePlace i)) (λ i. state-grounds os (statePlace i)) n 0)
-    (λ ss. bind readNumbers (transitionsIn os n m) (λ ts. last ss ts)
-    (each readNumbers (λ (i : ℕ). checked n (transitionAt os (transitionPlace n i))) (λ i. checked-grounds readNumbers refl refl n (transitionAt os (transitionPlace n i))) m 0)
-    (λ ts. accept readNumbers (record { stateList = ss; transitions = ts }))))
+    both imageNumbers (headerRule os) (statesIn os n >>= λ ss. transitionsIn os n m >>= λ ts. last ss ts) (header-grounds os)
+    (bind imageNumbers (statesIn os n) (λ ss. transitionsIn os n m >>= λ ts. last ss ts)
+    (each imageNumbers (λ (i : ℕ). stateAt os (statePlace i)) (λ i. state-grounds os (statePlace i)) n 0)
+    (λ ss. bind imageNumbers (transitionsIn os n m) (λ ts. last ss ts)
+    (each imageNumbers (λ (i : ℕ). checked n (transitionAt os (transitionPlace n i))) (λ i. checked-grounds imageNumbers refl refl n (transitionAt os (transitionPlace n i))) m 0)
+    (λ ts. accept imageNumbers (record { stateList = ss; transitions = ts }))))
+
+one-more : (x : ℕ) (ks : List ℕ) (k : ℕ) → oneOf k ks ≡ true → oneOf k (x ∷ ks) ≡ true
+one-more x ks k h = rw h (go (eqb k x))
+  where
+    go : (b : Bool) → b || true ≡ true
+    go true = refl
+    go false = refl
 
 pub read-grounds : (g : Graph) (os : List ℕ) → Only readNumbers (readRule g os)
 unfolding readRule
-read-grounds g os = first readNumbers (not (within g)) PlanLimits (readImage os) refl (image-grounds os)
+read-grounds g os = first readNumbers (not (within g)) PlanLimits (readImage os) refl (λ k e. one-more 0 imageNumbers k (image-grounds os k e))
 
--- every list of octets is the image of a plan within the limits, or is refused by a number of read's rows
+-- every list of octets is the image of a plan within the limits, or is refused by a number of read's rows, 0 not among them
 pub read-decided : (os : List ℕ) → Octets os
-    → ((g : Graph) × (readImage os ≡ accepted g) × (within g ≡ true) × (image g ≡ os)) ⊎ ((k : ℕ) × (readImage os ≡ refused k) × (oneOf k readNumbers ≡ true))
+    → ((g : Graph) × (readImage os ≡ accepted g) × (within g ≡ true) × (image g ≡ os)) ⊎ ((k : ℕ) × (readImage os ≡ refused k) × (oneOf k imageNumbers ≡ true))
 read-decided os ho = go (readImage os) refl
   where
     go : (r : Result Graph) → readImage os ≡ r
-        → ((g : Graph) × (readImage os ≡ accepted g) × (within g ≡ true) × (image g ≡ os)) ⊎ ((k : ℕ) × (readImage os ≡ refused k) × (oneOf k readNumbers ≡ true))
+        → ((g : Graph) × (readImage os ≡ accepted g) × (within g ≡ true) × (image g ≡ os)) ⊎ ((k : ℕ) × (readImage os ≡ refused k) × (oneOf k imageNumbers ≡ true))
     go (accepted g) e = inl (g, e, read-within os g e, image-read os g e ho)
     go (refused k) e = inr (k, e, image-grounds os k e)

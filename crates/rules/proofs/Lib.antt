@@ -1,5 +1,6 @@
 pub mod Basic
 pub mod Results
+pub mod Order
 pub mod Fields
 pub mod ReadWrite
 pub mod Kept

@@ -19,7 +19,8 @@ use Rattle.rules.specs.Refusal.{Result, accepted, refused, outcome}
 use Rattle.rules.specs.Image.{stateAt, statePlace, statesIn}
 use lib.Seq.{getD-set-same, getD-set-other}
 use borrow.Author.Count.{below-none, below-more}
-use Rattle.image.proofs.Collect.{collect-accepted, collect-refused}
+use Rattle.rules.proofs.Order.{collect-refused}
+use Rattle.image.proofs.Collect.{collect-accepted}
 use Rattle.image.proofs.reading.states.Statement.{statement}
 use Rattle.image.proofs.reading.states.Tie as tie
 use Rattle.image.proofs.reading.states.Reads as reads

@@ -20,7 +20,8 @@ use Rattle.rules.proofs.ReadWrite.{Bounded, bounded}
 use Rattle.arrays.specs.Tables.{transition, transitionOf}
 use Rattle.image.specs.Values.{meant}
 use Rattle.arrays.proofs.Lists.{transition-other, transition-here}
-use Rattle.image.proofs.Collect.{collect-accepted, collect-refused}
+use Rattle.rules.proofs.Order.{collect-refused}
+use Rattle.image.proofs.Collect.{collect-accepted}
 use Rattle.image.proofs.reading.transitions.Statement.{statement}
 use Rattle.image.proofs.reading.transitions.Tie as tie
 use Rattle.image.proofs.reading.transitions.Reads as reads
