@@ -1,14 +1,24 @@
 //! A second call plan calculator, written from document 01 alone.
 //!
-//! It states the rules of the plan half once more, in plain Rust: what a plan is, the calls on it,
-//! the image both ways and the refusals. The tests compare it with the proved library.
+//! It states the rules once more, in plain Rust: what a plan is, the calls on it, the image both
+//! ways, the four figures with the walks shown, the record, and the refusals. The tests compare it
+//! with the proved library.
 
 pub mod bits;
+pub mod check;
+pub mod figure;
 pub mod image;
+pub mod kinds;
 pub mod plan;
 #[cfg(feature = "proved")]
 pub mod proved;
+pub mod quotation;
 pub mod refusal;
+pub mod rng;
+pub mod rounds;
+pub mod text;
+pub mod walks;
 
+pub use figure::{Figure, Quotation, Value, FIGURES};
 pub use plan::{Plan, Transition, MAX_DURATION, MAX_MARKS, MAX_STATES, MAX_TRANSITIONS};
 pub use refusal::Refusal;

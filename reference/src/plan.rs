@@ -64,6 +64,23 @@ impl Plan {
         Ok(())
     }
 
+    pub fn is_start(&self, state: usize) -> bool {
+        self.marks[state] / 4 == 1
+    }
+
+    pub fn is_final(&self, state: usize) -> bool {
+        self.marks[state] / 2 % 2 == 1
+    }
+
+    pub fn is_counted(&self, state: usize) -> bool {
+        self.marks[state] % 2 == 1
+    }
+
+    /// Whether the state is unfinished and no transition leaves it.
+    pub fn is_dead_end(&self, state: usize) -> bool {
+        !self.is_final(state) && self.transitions.iter().all(|step| step.from != state)
+    }
+
     /// Whether the plan keeps every limit.
     pub fn within_limits(&self) -> bool {
         let n = self.marks.len();

@@ -3,6 +3,8 @@
 //! A plan crosses the boundary as three lent slices. Nothing checks the declarations here against
 //! the library's source, so they are few and of one shape.
 
+#[cfg(feature = "quotations")]
+use crate::figure::Figure;
 use crate::plan::{Plan, Transition, MAX_STATES, MAX_TRANSITIONS};
 
 /// Places of a plan in `counts`: the state count and the transition count.
@@ -12,10 +14,15 @@ pub const MARKS: usize = MAX_STATES;
 /// Places of a plan in `fields`: all from states, then all to states, lows and highs.
 pub const FIELDS: usize = 4 * MAX_TRANSITIONS;
 
-/// The answer where a lent plan slice has too few places.
+/// The answer where a lent plan slice has too few places, or a slice for answers has.
 pub const SHORT_SLICE: u32 = 255;
-/// The answer of an accepted call. Write adds the image's length. A refusal is below 255.
+/// The answer of an accepted call. Write and record add the length. A refusal is below 255.
 pub const ACCEPTED: u32 = 256;
+
+/// Places of a quotation in `out`: the kind, the figure, k and j.
+pub const OUT: usize = 4;
+/// Places of the four walks in `walks`: one after another, each with a place for every state.
+pub const WALKS: usize = 4 * MAX_STATES;
 
 extern "C" {
     fn callplan_fresh(
@@ -82,6 +89,81 @@ extern "C" {
         fields_len: usize,
         buffer: *mut u8,
         buffer_len: usize,
+    ) -> u32;
+}
+
+#[cfg(feature = "quotations")]
+extern "C" {
+    fn callplan_least_delay(
+        counts: *const usize,
+        counts_len: usize,
+        marks: *const u8,
+        marks_len: usize,
+        fields: *const u16,
+        fields_len: usize,
+        walk: *mut u16,
+        walk_len: usize,
+        out: *mut u32,
+        out_len: usize,
+    ) -> u32;
+
+    fn callplan_greatest_delay(
+        counts: *const usize,
+        counts_len: usize,
+        marks: *const u8,
+        marks_len: usize,
+        fields: *const u16,
+        fields_len: usize,
+        walk: *mut u16,
+        walk_len: usize,
+        out: *mut u32,
+        out_len: usize,
+    ) -> u32;
+
+    fn callplan_least_count(
+        counts: *const usize,
+        counts_len: usize,
+        marks: *const u8,
+        marks_len: usize,
+        fields: *const u16,
+        fields_len: usize,
+        walk: *mut u16,
+        walk_len: usize,
+        out: *mut u32,
+        out_len: usize,
+    ) -> u32;
+
+    fn callplan_greatest_count(
+        counts: *const usize,
+        counts_len: usize,
+        marks: *const u8,
+        marks_len: usize,
+        fields: *const u16,
+        fields_len: usize,
+        walk: *mut u16,
+        walk_len: usize,
+        out: *mut u32,
+        out_len: usize,
+    ) -> u32;
+
+    fn callplan_record(
+        counts: *const usize,
+        counts_len: usize,
+        marks: *const u8,
+        marks_len: usize,
+        fields: *const u16,
+        fields_len: usize,
+        buffer: *mut u8,
+        buffer_len: usize,
+    ) -> u32;
+
+    fn callplan_quote(
+        octets: *const u8,
+        octets_len: usize,
+        walks: *mut u16,
+        walks_len: usize,
+        out: *mut u32,
+        out_len: usize,
     ) -> u32;
 }
 
@@ -196,6 +278,18 @@ impl LentPlan {
         }
     }
 
+    /// Puts a plan within the limits into the slices. The places past its counts stay.
+    pub fn hold(&mut self, plan: &Plan) {
+        self.counts[..COUNTS].copy_from_slice(&[plan.marks.len(), plan.transitions.len()]);
+        self.marks[..plan.marks.len()].copy_from_slice(&plan.marks);
+        for (number, transition) in plan.transitions.iter().enumerate() {
+            self.fields[number] = transition.from as u16;
+            self.fields[MAX_TRANSITIONS + number] = transition.to as u16;
+            self.fields[2 * MAX_TRANSITIONS + number] = transition.low as u16;
+            self.fields[3 * MAX_TRANSITIONS + number] = transition.high as u16;
+        }
+    }
+
     /// The plan that the slices hold, up to the counts. They must have a plan's places.
     ///
     /// A count above its limit has no places to stand for; the plan returned is then one over that
@@ -224,5 +318,62 @@ impl LentPlan {
         transitions.resize(m, blank);
 
         Plan { marks, transitions }
+    }
+}
+
+#[cfg(feature = "quotations")]
+impl LentPlan {
+    /// Quotes a figure, the walk into `walk` and the rest of the answer into `out`.
+    pub fn quote(&self, figure: Figure, walk: &mut [u16], out: &mut [u32]) -> u32 {
+        let call = match figure {
+            Figure::LeastDelay => callplan_least_delay,
+            Figure::GreatestDelay => callplan_greatest_delay,
+            Figure::LeastCount => callplan_least_count,
+            Figure::GreatestCount => callplan_greatest_count,
+        };
+        unsafe {
+            call(
+                self.counts.as_ptr(),
+                self.counts.len(),
+                self.marks.as_ptr(),
+                self.marks.len(),
+                self.fields.as_ptr(),
+                self.fields.len(),
+                walk.as_mut_ptr(),
+                walk.len(),
+                out.as_mut_ptr(),
+                out.len(),
+            )
+        }
+    }
+
+    pub fn record(&self, buffer: &mut [u8]) -> u32 {
+        unsafe {
+            callplan_record(
+                self.counts.as_ptr(),
+                self.counts.len(),
+                self.marks.as_ptr(),
+                self.marks.len(),
+                self.fields.as_ptr(),
+                self.fields.len(),
+                buffer.as_mut_ptr(),
+                buffer.len(),
+            )
+        }
+    }
+}
+
+/// Reads an image and quotes its four figures, with walks and answers one after another.
+#[cfg(feature = "quotations")]
+pub fn quote(octets: &[u8], walks: &mut [u16], out: &mut [u32]) -> u32 {
+    unsafe {
+        callplan_quote(
+            octets.as_ptr(),
+            octets.len(),
+            walks.as_mut_ptr(),
+            walks.len(),
+            out.as_mut_ptr(),
+            out.len(),
+        )
     }
 }

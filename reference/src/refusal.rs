@@ -29,6 +29,8 @@ pub enum Refusal {
     BufferTooShort = 11,
     /// The marks value is above 7.
     MarksValue = 12,
+    /// A figure of the record is above 1,048,575.
+    FigureSize = 13,
 }
 
 impl Refusal {

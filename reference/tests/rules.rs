@@ -95,6 +95,7 @@ fn numbers_are_those_of_the_table() {
         Refusal::TransitionNumber,
         Refusal::BufferTooShort,
         Refusal::MarksValue,
+        Refusal::FigureSize,
     ];
     for (number, refusal) in (0..).zip(table) {
         assert_eq!(refusal.number(), number);

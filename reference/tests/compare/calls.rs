@@ -2,11 +2,11 @@
 
 use reference::image::encode;
 use reference::proved::ACCEPTED;
+use reference::rng::{Case, Rng};
 use reference::{MAX_STATES, MAX_TRANSITIONS};
 
 use crate::generate;
 use crate::pair::{Call, Pair};
-use crate::rng::{Case, Rng};
 use crate::tally::Tally;
 
 const SEED: u64 = 0x0001_CA11;
@@ -26,8 +26,8 @@ fn random_lists_of_calls() {
     tally.assert_covers(&["fresh", "mark", "join", "unjoin", "read", "write"]);
 }
 
-/// One list, from a fresh plan.
-fn run_list(rng: &mut Rng, tally: &mut Tally) {
+/// One list, from a fresh plan. Returns what it leaves.
+pub fn run_list(rng: &mut Rng, tally: &mut Tally) -> Pair {
     let n = match rng.below(10) {
         0 => rng.pick(&[511, 512]),
         1 => rng.between(1, MAX_STATES),
@@ -63,4 +63,5 @@ fn run_list(rng: &mut Rng, tally: &mut Tally) {
             _ => {}
         }
     }
+    pair
 }

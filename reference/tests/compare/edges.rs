@@ -2,11 +2,11 @@
 
 use reference::image::{encode, length};
 use reference::proved::{LentPlan, ACCEPTED, COUNTS, FIELDS, MARKS, SHORT_SLICE};
+use reference::rng::Rng;
 use reference::{Plan, Transition, MAX_STATES, MAX_TRANSITIONS};
 
 use crate::generate::{self, put};
 use crate::pair::{Call, Pair};
-use crate::rng::Rng;
 use crate::vectors::P1;
 
 const SEED: u64 = 0xED6E;
@@ -21,7 +21,7 @@ fn join(from: usize, to: usize, low: u32, high: u32) -> Call {
 }
 
 /// P1 on both, with noise past its counts.
-fn p1(rng: &mut Rng) -> Pair {
+pub fn p1(rng: &mut Rng) -> Pair {
     let mut pair = Pair::fresh(rng, 9);
     assert_eq!(pair.run(&Call::Read(P1.to_vec())), ACCEPTED);
     pair.fill_past_counts(rng);
@@ -29,7 +29,7 @@ fn p1(rng: &mut Rng) -> Pair {
 }
 
 /// A random plan of the given size on both, with noise past its counts.
-fn random(rng: &mut Rng, n: usize, m: usize) -> Pair {
+pub fn random(rng: &mut Rng, n: usize, m: usize) -> Pair {
     let mut pair = Pair::fresh(rng, 1);
     let octets = encode(&generate::plan(rng, n, m));
     assert_eq!(pair.run(&Call::Read(octets)), ACCEPTED);
@@ -173,10 +173,10 @@ fn buffers() {
     }
 }
 
-type Change = Box<dyn Fn(&mut LentPlan)>;
+pub type Change = Box<dyn Fn(&mut LentPlan)>;
 
 /// Changes by hand, each of which breaks one limit of a plan of `n` states and `m` transitions.
-fn breaks(n: usize, m: usize) -> Vec<(String, Change)> {
+pub fn breaks(n: usize, m: usize) -> Vec<(String, Change)> {
     let mut list: Vec<(String, Change)> = Vec::new();
     for count in [0, 513, 1 << 16, (1 << 32) + n, usize::MAX] {
         let change = move |lent: &mut LentPlan| lent.counts[0] = count;

@@ -2,10 +2,10 @@
 
 use reference::image::{encode, length};
 use reference::proved::LentPlan;
+use reference::rng::Rng;
 use reference::{Plan, Transition, MAX_STATES, MAX_TRANSITIONS};
 
 use crate::pair::{Call, Pair};
-use crate::rng::Rng;
 
 /// A number of states and a number of transitions, mostly small, sometimes at the limits.
 fn size(rng: &mut Rng) -> (usize, usize) {

@@ -2,10 +2,10 @@
 
 use reference::image::{decode, encode};
 use reference::proved::ACCEPTED;
+use reference::rng::{Case, Rng};
 
 use crate::generate::{self, put};
 use crate::pair::{Call, Pair};
-use crate::rng::{Case, Rng};
 use crate::tally::Tally;
 
 const SEED: u64 = 0x0001_3A6E;

@@ -4,8 +4,12 @@ mod calls;
 mod edges;
 mod generate;
 mod images;
+#[cfg(feature = "quotations")]
+#[path = "../figures/library.rs"]
+mod library;
 mod pair;
-mod rng;
+#[cfg(feature = "quotations")]
+mod quotations;
 mod tally;
 #[path = "../vectors/mod.rs"]
 mod vectors;

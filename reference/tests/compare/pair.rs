@@ -3,7 +3,7 @@
 use reference::proved::{LentPlan, ACCEPTED, COUNTS, FIELDS, MARKS};
 use reference::{Plan, Refusal, Transition, MAX_TRANSITIONS};
 
-use crate::rng::Rng;
+use reference::rng::Rng;
 
 /// A call with its arguments.
 #[derive(Clone, Debug)]
@@ -60,6 +60,11 @@ impl Pair {
 
     pub fn plan(&self) -> &Plan {
         &self.plan
+    }
+
+    #[cfg(feature = "quotations")]
+    pub fn lent(&self) -> &LentPlan {
+        &self.lent
     }
 
     pub fn image_length(&self) -> usize {

@@ -4,16 +4,17 @@ use std::collections::BTreeMap;
 
 use reference::proved::ACCEPTED;
 
-use crate::rng::print;
+use reference::rng::print;
 
 /// The numbers by which the table lets each call be refused.
-const TABLE: [(&str, &[u32]); 6] = [
+const TABLE: [(&str, &[u32]); 7] = [
     ("fresh", &[4]),
     ("mark", &[0, 7, 12]),
     ("join", &[0, 7, 8, 9]),
     ("unjoin", &[0, 10]),
     ("read", &[0, 1, 2, 3, 4, 5, 6, 7, 8]),
     ("write", &[0, 11]),
+    ("quote", &[1, 2, 3, 4, 5, 6, 7, 8]),
 ];
 
 /// How often each call gave each answer. Accepted calls are counted together.

@@ -1,4 +1,4 @@
-//! A small generator of reproducible random numbers (SplitMix64).
+//! A small generator of reproducible random numbers (SplitMix64), for the tests and benchmarks.
 
 use std::io::{stdout, Write};
 use std::thread::panicking;
@@ -72,6 +72,13 @@ impl Rng {
 
     pub fn pick<T: Copy>(&mut self, choices: &[T]) -> T {
         choices[self.below(choices.len())]
+    }
+
+    /// Puts the elements into a random order.
+    pub fn shuffle<T>(&mut self, elements: &mut [T]) {
+        for last in (1..elements.len()).rev() {
+            elements.swap(last, self.below(last + 1));
+        }
     }
 
     pub fn octets(&mut self, length: usize) -> Vec<u8> {

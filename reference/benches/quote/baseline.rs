@@ -1,0 +1,413 @@
+//! A baseline written for speed: image octets in, the four figures with their walks out.
+//!
+//! The transitions stand by state in one array. The least figures take states nearest first, with
+//! a 4-ary heap, and stop at the first final state. One depth-first search gives both greatest
+//! figures. Nothing is allocated.
+
+const STATES: usize = 512;
+const TRANSITIONS: usize = 2048;
+
+const NUMBER: u32 = 0;
+const NONE: u32 = 1;
+const STRANDED: u32 = 2;
+const ENDLESS: u32 = 3;
+
+const START: u8 = 4;
+const FINAL: u8 = 2;
+const COUNTED: u8 = 1;
+
+/// The four walks, in the record's order.
+pub type Walks = [[u16; STATES]; 4];
+/// A kind, a figure, k and j.
+pub type Answer = [u32; 4];
+
+/// Reads an image and quotes the four figures, or gives the number that the image is refused by.
+pub fn quote(octets: &[u8], walks: &mut Walks, answers: &mut [Answer; 4]) -> Result<(), u32> {
+    let graph = Graph::read(octets)?;
+    let [least_delay, greatest_delay, least_count, greatest_count] = walks;
+    answers[0] = graph.least(|step| u32::from(step.low), |_| 0, least_delay);
+    answers[2] = graph.least(
+        |step| graph.counted(usize::from(step.to)),
+        |state| graph.counted(state),
+        least_count,
+    );
+    [answers[1], answers[3]] = graph.greatest([greatest_delay, greatest_count]);
+    Ok(())
+}
+
+#[derive(Clone, Copy)]
+struct Step {
+    to: u16,
+    low: u16,
+    high: u16,
+    number: u16,
+}
+
+const NO_STEP: Step = Step {
+    to: 0,
+    low: 0,
+    high: 0,
+    number: 0,
+};
+
+struct Graph {
+    n: usize,
+    marks: [u8; STATES],
+    /// The steps of state s stand from place first[s] up to first[s + 1].
+    first: [u16; STATES + 1],
+    steps: [Step; TRANSITIONS],
+}
+
+impl Graph {
+    fn read(octets: &[u8]) -> Result<Graph, u32> {
+        let Some((header, body)) = octets.split_first_chunk::<4>() else {
+            return Err(1);
+        };
+        let header = u32::from_be_bytes(*header);
+        let n = (header >> 18 & 0x3FF) as usize;
+        let m = (header >> 6 & 0xFFF) as usize;
+        if header >> 28 != 1 {
+            return Err(3);
+        }
+        if n == 0 || n > STATES {
+            return Err(4);
+        }
+        if m > TRANSITIONS {
+            return Err(5);
+        }
+        if header & 0x3F != 0 {
+            return Err(6);
+        }
+        if body.len() < n + 5 * m {
+            return Err(1);
+        }
+        if body.len() > n + 5 * m {
+            return Err(2);
+        }
+
+        let mut graph = Graph {
+            n,
+            marks: [0; STATES],
+            first: [0; STATES + 1],
+            steps: [NO_STEP; TRANSITIONS],
+        };
+        for (marks, &octet) in graph.marks.iter_mut().zip(&body[..n]) {
+            if octet & 0x1F != 0 {
+                return Err(6);
+            }
+            *marks = octet >> 5;
+        }
+        graph.place_steps(&body[n..])?;
+        Ok(graph)
+    }
+
+    /// Reads the transitions and puts them by the state that they leave.
+    fn place_steps(&mut self, octets: &[u8]) -> Result<(), u32> {
+        let from = |record: &[u8]| usize::from(u16::from_be_bytes([record[0], record[1]]) >> 7);
+        for record in octets.chunks_exact(5) {
+            self.first[from(record) + 1] += 1;
+        }
+        for state in 0..self.n {
+            self.first[state + 1] += self.first[state];
+        }
+        let mut next = self.first;
+        for (number, record) in octets.chunks_exact(5).enumerate() {
+            let from = from(record);
+            let bits = u32::from_be_bytes([record[1], record[2], record[3], record[4]]);
+            let step = Step {
+                to: (bits >> 22 & 0x1FF) as u16,
+                low: (bits >> 11 & 0x7FF) as u16,
+                high: (bits & 0x7FF) as u16,
+                number: number as u16,
+            };
+            if from >= self.n || usize::from(step.to) >= self.n {
+                return Err(7);
+            }
+            if step.low > step.high {
+                return Err(8);
+            }
+            self.steps[usize::from(next[from])] = step;
+            next[from] += 1;
+        }
+        Ok(())
+    }
+
+    fn steps_of(&self, state: usize) -> std::ops::Range<usize> {
+        usize::from(self.first[state])..usize::from(self.first[state + 1])
+    }
+
+    fn is_final(&self, state: usize) -> bool {
+        self.marks[state] & FINAL != 0
+    }
+
+    fn counted(&self, state: usize) -> u32 {
+        u32::from(self.marks[state] & COUNTED)
+    }
+
+    /// The least sum of weights, and of what the first state costs, over all routes.
+    fn least(
+        &self,
+        weight: impl Fn(Step) -> u32,
+        first_cost: impl Fn(usize) -> u32,
+        walk: &mut [u16; STATES],
+    ) -> Answer {
+        let mut costs = [u32::MAX; STATES];
+        // The state before, and the number of the transition from there.
+        let mut came = [(u16::MAX, 0); STATES];
+        let mut heap = Heap::new();
+        for state in 0..self.n {
+            if self.marks[state] & START != 0 {
+                costs[state] = first_cost(state);
+                heap.push(costs[state], state);
+            }
+        }
+        while let Some((cost, state)) = heap.pop() {
+            if self.is_final(state) {
+                let k = trace_back(&came, state, walk);
+                return answer(NUMBER, cost, k);
+            }
+            if cost > costs[state] {
+                continue;
+            }
+            for &step in &self.steps[self.steps_of(state)] {
+                let to = usize::from(step.to);
+                let cost = cost + weight(step);
+                if cost < costs[to] {
+                    costs[to] = cost;
+                    came[to] = (state as u16, step.number);
+                    heap.push(cost, to);
+                }
+            }
+        }
+        answer(NONE, 0, 0)
+    }
+
+    /// The greatest delay and the greatest count.
+    fn greatest(&self, walks: [&mut [u16; STATES]; 2]) -> [Answer; 2] {
+        let mut search = Search::new(self);
+        let is_start = |state: &usize| self.marks[*state] & START != 0;
+        if !(0..self.n).any(|state| is_start(&state)) {
+            return [answer(NONE, 0, 0); 2];
+        }
+        for start in (0..self.n).filter(is_start) {
+            if let Some((k, j)) = search.explore(start) {
+                for walk in walks {
+                    walk[..k].copy_from_slice(&search.walk[..k]);
+                }
+                return [[ENDLESS, 0, k as u32, j as u32]; 2];
+            }
+        }
+        if let Some(k) = search.stranded {
+            for walk in walks {
+                walk[..k].copy_from_slice(&search.stranded_walk[..k]);
+            }
+            return [answer(STRANDED, 0, k); 2];
+        }
+        let [delay_walk, count_walk] = walks;
+        [
+            self.best(is_start, &search.delays, delay_walk),
+            self.best(is_start, &search.counts, count_walk),
+        ]
+    }
+
+    /// The greatest value of a start, and the walk that its choices make.
+    fn best(
+        &self,
+        is_start: impl Fn(&usize) -> bool,
+        values: &[(u32, u16); STATES],
+        walk: &mut [u16; STATES],
+    ) -> Answer {
+        let starts = (0..self.n).filter(is_start);
+        let mut state = starts.max_by_key(|&state| values[state].0).unwrap_or(0);
+        let figure = values[state].0;
+        let mut k = 0;
+        while !self.is_final(state) {
+            let step = self.steps[usize::from(values[state].1)];
+            walk[k] = step.number;
+            k += 1;
+            state = usize::from(step.to);
+        }
+        answer(NUMBER, figure, k)
+    }
+}
+
+/// An answer without a j.
+fn answer(kind: u32, figure: u32, k: usize) -> Answer {
+    [kind, figure, k as u32, 0]
+}
+
+/// Puts the walk to a state in order and returns its length.
+fn trace_back(came: &[(u16, u16); STATES], last: usize, walk: &mut [u16; STATES]) -> usize {
+    let mut k = 0;
+    let mut state = last;
+    while came[state].0 != u16::MAX {
+        walk[k] = came[state].1;
+        k += 1;
+        state = usize::from(came[state].0);
+    }
+    walk[..k].reverse();
+    k
+}
+
+/// A 4-ary heap of costs with states, in one word each. A state may be on it more than once.
+struct Heap {
+    length: usize,
+    entries: [u32; STATES + TRANSITIONS],
+}
+
+impl Heap {
+    fn new() -> Heap {
+        Heap {
+            length: 0,
+            entries: [0; STATES + TRANSITIONS],
+        }
+    }
+
+    fn push(&mut self, cost: u32, state: usize) {
+        let entry = cost << 9 | state as u32;
+        let mut place = self.length;
+        self.length += 1;
+        while place > 0 {
+            let above = (place - 1) / 4;
+            if self.entries[above] <= entry {
+                break;
+            }
+            self.entries[place] = self.entries[above];
+            place = above;
+        }
+        self.entries[place] = entry;
+    }
+
+    fn pop(&mut self) -> Option<(u32, usize)> {
+        if self.length == 0 {
+            return None;
+        }
+        let nearest = self.entries[0];
+        self.length -= 1;
+        let entry = self.entries[self.length];
+        let mut place = 0;
+        loop {
+            let below = 4 * place + 1;
+            if below >= self.length {
+                break;
+            }
+            let children = &self.entries[below..self.length.min(below + 4)];
+            let (mut least, mut at) = (children[0], 0);
+            for (child, &other) in children.iter().enumerate().skip(1) {
+                if other < least {
+                    (least, at) = (other, child);
+                }
+            }
+            if least >= entry {
+                break;
+            }
+            self.entries[place] = least;
+            place = below + at;
+        }
+        self.entries[place] = entry;
+        Some((nearest >> 9, (nearest & 0x1FF) as usize))
+    }
+}
+
+const UNSEEN: u16 = u16::MAX;
+const LEFT: u16 = u16::MAX - 1;
+
+/// A depth-first search over unfinished states.
+struct Search<'a> {
+    graph: &'a Graph,
+    /// For each state UNSEEN, its place on the path, or LEFT.
+    place: [u16; STATES],
+    /// The place of each state's next step.
+    next: [u16; STATES],
+    path: [u16; STATES],
+    /// The transitions between the states of the path.
+    walk: [u16; STATES],
+    /// The greatest delay and count from each state on, with the step that begins there.
+    delays: [(u32, u16); STATES],
+    counts: [(u32, u16); STATES],
+    /// The walk to the first dead end.
+    stranded: Option<usize>,
+    stranded_walk: [u16; STATES],
+}
+
+impl Search<'_> {
+    fn new(graph: &Graph) -> Search<'_> {
+        let mut counts = [(0, 0); STATES];
+        let mut next = [0; STATES];
+        for state in 0..graph.n {
+            counts[state].0 = graph.counted(state);
+            next[state] = graph.first[state];
+        }
+        Search {
+            graph,
+            place: [UNSEEN; STATES],
+            next,
+            path: [0; STATES],
+            walk: [0; STATES],
+            delays: [(0, 0); STATES],
+            counts,
+            stranded: None,
+            stranded_walk: [0; STATES],
+        }
+    }
+
+    /// Searches from a start. Stops at a state that is on the path already, with k and j.
+    fn explore(&mut self, start: usize) -> Option<(usize, usize)> {
+        if self.graph.is_final(start) || self.place[start] == LEFT {
+            return None;
+        }
+        self.enter(start, 0);
+        let mut depth = 0;
+        loop {
+            let state = usize::from(self.path[depth]);
+            let at = self.next[state];
+            if at == self.graph.first[state + 1] {
+                self.place[state] = LEFT;
+                if depth == 0 {
+                    return None;
+                }
+                depth -= 1;
+                let above = usize::from(self.path[depth]);
+                self.update(above, self.next[above] - 1);
+                continue;
+            }
+            self.next[state] = at + 1;
+            let step = self.graph.steps[usize::from(at)];
+            let to = usize::from(step.to);
+            if self.graph.is_final(to) || self.place[to] == LEFT {
+                self.update(state, at);
+                continue;
+            }
+            self.walk[depth] = step.number;
+            depth += 1;
+            if self.place[to] != UNSEEN {
+                return Some((depth, usize::from(self.place[to])));
+            }
+            self.enter(to, depth);
+        }
+    }
+
+    fn enter(&mut self, state: usize, depth: usize) {
+        self.place[state] = depth as u16;
+        self.path[depth] = state as u16;
+        if self.stranded.is_none() && self.graph.steps_of(state).is_empty() {
+            self.stranded = Some(depth);
+            self.stranded_walk[..depth].copy_from_slice(&self.walk[..depth]);
+        }
+    }
+
+    /// Takes a step whose target has its values into account at the state that it leaves.
+    fn update(&mut self, state: usize, at: u16) {
+        let step = self.graph.steps[usize::from(at)];
+        let to = usize::from(step.to);
+        let is_first = self.graph.first[state] == at;
+        let delay = u32::from(step.high) + self.delays[to].0;
+        if is_first || delay > self.delays[state].0 {
+            self.delays[state] = (delay, at);
+        }
+        let count = self.graph.counted(state) + self.counts[to].0;
+        if is_first || count > self.counts[state].0 {
+            self.counts[state] = (count, at);
+        }
+    }
+}

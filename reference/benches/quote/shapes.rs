@@ -1,0 +1,134 @@
+//! The plans that the benchmark times: six shapes, with 4 transitions for each state.
+
+use reference::rng::Rng;
+use reference::{Plan, Transition, MAX_DURATION};
+
+pub struct Shape {
+    pub name: &'static str,
+    /// A plan of `n` states, n a multiple of 16 from 32 on, and 4n transitions.
+    pub plan: fn(&mut Rng, usize) -> Plan,
+}
+
+pub const SHAPES: [Shape; 6] = [
+    Shape {
+        name: "chain",
+        plan: chain,
+    },
+    Shape {
+        name: "layers of 16",
+        plan: layers,
+    },
+    Shape {
+        name: "random acyclic",
+        plan: acyclic,
+    },
+    Shape {
+        name: "random with loops",
+        plan: loops,
+    },
+    Shape {
+        name: "many starts, finals",
+        plan: many,
+    },
+    Shape {
+        name: "cheap chain, shortcuts",
+        plan: shortcuts,
+    },
+];
+
+impl Shape {
+    /// The shape's plan with its transitions in a random order.
+    pub fn draw(&self, rng: &mut Rng, n: usize) -> Plan {
+        let mut plan = (self.plan)(rng, n);
+        assert_eq!((plan.marks.len(), plan.transitions.len()), (n, 4 * n));
+        rng.shuffle(&mut plan.transitions);
+        plan
+    }
+}
+
+fn step(rng: &mut Rng, from: usize, to: usize) -> Transition {
+    let one = rng.below(MAX_DURATION as usize + 1) as u32;
+    let other = rng.below(MAX_DURATION as usize + 1) as u32;
+    Transition {
+        from,
+        to,
+        low: one.min(other),
+        high: one.max(other),
+    }
+}
+
+/// A plan with the given starts and finals, every other state counted. From each state four
+/// transitions lead where `next` says; those of the states that it gives none go to others.
+fn plan(
+    rng: &mut Rng,
+    n: usize,
+    is_start: impl Fn(usize) -> bool,
+    is_final: impl Fn(usize) -> bool,
+    next: impl Fn(&mut Rng, usize) -> Option<usize>,
+) -> Plan {
+    let marks = (0..n).map(|state| {
+        4 * u8::from(is_start(state)) + 2 * u8::from(is_final(state)) + (state % 2) as u8
+    });
+    let mut transitions = Vec::new();
+    let mut from = 0;
+    while transitions.len() < 4 * n {
+        if let Some(to) = next(rng, from) {
+            transitions.push(step(rng, from, to));
+        }
+        from = if from + 1 < n { from + 1 } else { 0 };
+    }
+    Plan {
+        marks: marks.collect(),
+        transitions,
+    }
+}
+
+/// A chain has n - 1 transitions by nature. The rest are further ones between its neighbours.
+fn chain(rng: &mut Rng, n: usize) -> Plan {
+    let next = |_: &mut Rng, state: usize| (state + 1 < n).then_some(state + 1);
+    plan(rng, n, |state| state == 0, |state| state == n - 1, next)
+}
+
+/// From each state to random ones of the next layer. The last layer is final, the first are
+/// starts.
+fn layers(rng: &mut Rng, n: usize) -> Plan {
+    let next = |rng: &mut Rng, state: usize| {
+        (state + 16 < n).then(|| state - state % 16 + 16 + rng.below(16))
+    };
+    plan(rng, n, |state| state < 16, |state| state + 16 >= n, next)
+}
+
+/// From each state to any later ones.
+fn acyclic(rng: &mut Rng, n: usize) -> Plan {
+    let next = |rng: &mut Rng, state: usize| (state + 1 < n).then(|| rng.between(state + 1, n - 1));
+    plan(rng, n, |state| state == 0, |state| state == n - 1, next)
+}
+
+/// From each state to any.
+fn loops(rng: &mut Rng, n: usize) -> Plan {
+    let next = |rng: &mut Rng, _: usize| Some(rng.below(n));
+    plan(rng, n, |state| state == 0, |state| state == n - 1, next)
+}
+
+/// From each state to later ones. One state in four is a start and one in four final.
+fn many(rng: &mut Rng, n: usize) -> Plan {
+    let next = |rng: &mut Rng, state: usize| (state + 1 < n).then(|| rng.between(state + 1, n - 1));
+    plan(rng, n, |state| state % 4 == 0, |state| state % 4 == 3, next)
+}
+
+/// A chain of steps that take a second each, and shortcuts that take longer than the chain.
+fn shortcuts(rng: &mut Rng, n: usize) -> Plan {
+    let next = |rng: &mut Rng, state: usize| (state + 1 < n).then(|| rng.between(state + 1, n - 1));
+    let mut plan = plan(rng, n, |state| state == 0, |state| state == n - 1, next);
+    for (place, transition) in plan.transitions.iter_mut().enumerate() {
+        if place < n - 1 {
+            transition.to = transition.from + 1;
+            (transition.low, transition.high) = (1, 1);
+        } else {
+            let length = (transition.to - transition.from) as u32;
+            let low = (2 * length + 10 * rng.below(50) as u32).min(MAX_DURATION);
+            (transition.low, transition.high) = (low, low);
+        }
+    }
+    plan
+}

@@ -1,0 +1,320 @@
+//! Whether a shown walk is one that document 01 asks for ("Routes and figures").
+//!
+//! The checker takes the value as said and looks at the walk alone. Whether the value is right is
+//! for the calculators to say.
+
+use crate::figure::{Figure, Quotation, Value};
+use crate::plan::Plan;
+
+/// What is wrong with a shown walk.
+#[derive(Clone, Copy, Debug, PartialEq, Eq)]
+pub enum Fault {
+    /// ENDLESS or STRANDED of a least figure.
+    Kind,
+    /// More transitions than there are states.
+    Length,
+    /// A number that no transition of the plan has.
+    NoTransition,
+    /// NONE with a walk.
+    WalkOfNone,
+    /// A j where there is none.
+    PlaceSet,
+    /// The walk begins at a state that is no start; where it has no transitions, no start alone
+    /// is a walk as asked.
+    NoStart,
+    /// A transition departs elsewhere than the one before arrived.
+    Break,
+    /// A state is visited twice where none may be.
+    Twice,
+    /// A final state is on the walk before its last state, or as the last of an unfinished one.
+    Finished,
+    /// The last state of a route is not final.
+    Unanswered,
+    /// The route does not come to the number.
+    OtherNumber,
+    /// A transition leaves the last state of a STRANDED walk.
+    NoDeadEnd,
+    /// j is not below k, or the state after k transitions is not the state after j.
+    NoReturn,
+}
+
+/// Looks at the walk shown with a figure of a plan within the limits.
+pub fn check(plan: &Plan, figure: Figure, shown: &Quotation) -> Result<(), Fault> {
+    let k = shown.walk.len();
+    require(k <= plan.marks.len(), Fault::Length)?;
+    let known = |&number: &usize| number < plan.transitions.len();
+    require(shown.walk.iter().all(known), Fault::NoTransition)?;
+    require(
+        shown.value == Value::Endless || shown.j == 0,
+        Fault::PlaceSet,
+    )?;
+    match shown.value {
+        Value::None => require(k == 0, Fault::WalkOfNone),
+        Value::Number(number) => from_some_start(plan, shown, |states| {
+            is_route(plan, figure, shown, states, number)
+        }),
+        Value::Stranded => {
+            require(!figure.is_least(), Fault::Kind)?;
+            from_some_start(plan, shown, |states| is_stranded(plan, states))
+        }
+        Value::Endless => {
+            require(!figure.is_least(), Fault::Kind)?;
+            require(shown.j < k, Fault::NoReturn)?;
+            from_some_start(plan, shown, |states| is_endless(plan, states, shown.j))
+        }
+    }
+}
+
+/// The states of the walk must be as asked. Where it has no transitions it is the walk of a start
+/// alone, and one such start as asked is enough.
+fn from_some_start(
+    plan: &Plan,
+    shown: &Quotation,
+    is_as_asked: impl Fn(&[usize]) -> Result<(), Fault>,
+) -> Result<(), Fault> {
+    let Some(&first) = shown.walk.first() else {
+        let mut starts = (0..plan.marks.len()).filter(|&state| plan.is_start(state));
+        let found = starts.any(|state| is_as_asked(&[state]).is_ok());
+        return require(found, Fault::NoStart);
+    };
+    let mut states = vec![plan.transitions[first].from];
+    require(plan.is_start(states[0]), Fault::NoStart)?;
+    for &number in &shown.walk {
+        let transition = plan.transitions[number];
+        require(states.last() == Some(&transition.from), Fault::Break)?;
+        states.push(transition.to);
+    }
+    is_as_asked(&states)
+}
+
+/// "a route that attains the figure and visits no state twice"
+fn is_route(
+    plan: &Plan,
+    figure: Figure,
+    shown: &Quotation,
+    states: &[usize],
+    number: u32,
+) -> Result<(), Fault> {
+    let (&last, earlier) = states.split_last().expect("a walk has a state");
+    require(all_unfinished(plan, earlier), Fault::Finished)?;
+    require(plan.is_final(last), Fault::Unanswered)?;
+    require(all_differ(states), Fault::Twice)?;
+    let steps = shown.walk.iter().map(|&number| plan.transitions[number]);
+    let attained = match figure {
+        Figure::LeastDelay => steps.map(|step| step.low).sum(),
+        Figure::GreatestDelay => steps.map(|step| step.high).sum(),
+        Figure::LeastCount | Figure::GreatestCount => states
+            .iter()
+            .filter(|&&state| plan.is_counted(state))
+            .count() as u32,
+    };
+    require(attained == number, Fault::OtherNumber)
+}
+
+/// "an unfinished walk to a dead end, no state twice"
+fn is_stranded(plan: &Plan, states: &[usize]) -> Result<(), Fault> {
+    require(all_unfinished(plan, states), Fault::Finished)?;
+    require(all_differ(states), Fault::Twice)?;
+    let last = states[states.len() - 1];
+    let left = plan.transitions.iter().any(|step| step.from == last);
+    require(!left, Fault::NoDeadEnd)
+}
+
+/// "an unfinished walk and a place j below k, where the state after k transitions is the state
+/// after j, and the first k states differ"
+fn is_endless(plan: &Plan, states: &[usize], j: usize) -> Result<(), Fault> {
+    let k = states.len() - 1;
+    require(all_unfinished(plan, states), Fault::Finished)?;
+    require(j < k && states[k] == states[j], Fault::NoReturn)?;
+    require(all_differ(&states[..k]), Fault::Twice)
+}
+
+fn all_unfinished(plan: &Plan, states: &[usize]) -> bool {
+    states.iter().all(|&state| !plan.is_final(state))
+}
+
+fn all_differ(states: &[usize]) -> bool {
+    let mut sorted = states.to_vec();
+    sorted.sort_unstable();
+    sorted.windows(2).all(|pair| pair[0] != pair[1])
+}
+
+fn require(condition: bool, fault: Fault) -> Result<(), Fault> {
+    if condition {
+        Ok(())
+    } else {
+        Err(fault)
+    }
+}
+
+#[cfg(test)]
+mod tests {
+    use super::*;
+    use crate::plan::Transition;
+    use Figure::{GreatestCount, GreatestDelay, LeastCount, LeastDelay};
+
+    /// State 0 and the final state 6 are starts, state 3 is final, 4 and 7 are dead ends, 7 a
+    /// start; 2 and 3 are counted.
+    fn plan() -> Plan {
+        let ends = [
+            (0, 1), // 0
+            (1, 2), // 1
+            (2, 3), // 2, to an answer
+            (2, 1), // 3, back to where 1 departs
+            (1, 4), // 4, to a dead end
+            (5, 3), // 5, from a state that is no start
+            (1, 1), // 6, a loop
+            (3, 2), // 7, on from a final state
+            (3, 4), // 8
+            (3, 3), // 9
+        ];
+        let transitions = ends
+            .iter()
+            .enumerate()
+            .map(|(number, &(from, to))| Transition {
+                from,
+                to,
+                low: 1 << number,
+                high: 2 << number,
+            });
+        Plan {
+            marks: vec![4, 0, 1, 3, 0, 0, 6, 4],
+            transitions: transitions.collect(),
+        }
+    }
+
+    fn verdict(figure: Figure, value: Value, walk: &[usize], j: usize) -> Result<(), Fault> {
+        let walk = walk.to_vec();
+        check(&plan(), figure, &Quotation { value, walk, j })
+    }
+
+    #[test]
+    fn walks_as_asked() {
+        for (figure, number) in [
+            (LeastDelay, 7),
+            (GreatestDelay, 14),
+            (LeastCount, 2),
+            (GreatestCount, 2),
+        ] {
+            assert_eq!(
+                verdict(figure, Value::Number(number), &[0, 1, 2], 0),
+                Ok(())
+            );
+            // State 6 alone, a start that is final.
+            assert_eq!(verdict(figure, Value::Number(0), &[], 0), Ok(()));
+            assert_eq!(verdict(figure, Value::None, &[], 0), Ok(()));
+        }
+        for figure in [GreatestDelay, GreatestCount] {
+            assert_eq!(verdict(figure, Value::Stranded, &[0, 4], 0), Ok(()));
+            // State 7 alone, a start that is a dead end.
+            assert_eq!(verdict(figure, Value::Stranded, &[], 0), Ok(()));
+            assert_eq!(verdict(figure, Value::Endless, &[0, 6], 1), Ok(()));
+            assert_eq!(verdict(figure, Value::Endless, &[0, 1, 3], 1), Ok(()));
+        }
+    }
+
+    #[test]
+    fn wrong_kinds_places_and_lengths() {
+        for figure in [LeastDelay, LeastCount] {
+            assert_eq!(
+                verdict(figure, Value::Stranded, &[0, 4], 0),
+                Err(Fault::Kind)
+            );
+            assert_eq!(
+                verdict(figure, Value::Endless, &[0, 6], 1),
+                Err(Fault::Kind)
+            );
+        }
+        let long = [0, 6, 6, 6, 6, 6, 6, 6, 6];
+        let found = verdict(GreatestDelay, Value::Endless, &long, 1);
+        assert_eq!(found, Err(Fault::Length));
+        let found = verdict(LeastDelay, Value::Number(7), &[0, 1, 10], 0);
+        assert_eq!(found, Err(Fault::NoTransition));
+        assert_eq!(
+            verdict(LeastDelay, Value::None, &[0], 0),
+            Err(Fault::WalkOfNone)
+        );
+        for (value, walk) in [
+            (Value::None, &[][..]),
+            (Value::Number(14), &[0, 1, 2]),
+            (Value::Stranded, &[0, 4]),
+        ] {
+            let found = verdict(GreatestDelay, value, walk, 1);
+            assert_eq!(found, Err(Fault::PlaceSet));
+        }
+    }
+
+    #[test]
+    fn wrong_routes() {
+        for (number, walk, fault) in [
+            (32, &[5][..], Fault::NoStart),
+            (6, &[1, 2], Fault::NoStart),
+            (5, &[0, 2], Fault::Break),
+            (7, &[1, 0, 2], Fault::NoStart),
+            (7, &[0, 2, 1], Fault::Break),
+            (3, &[0, 1], Fault::Unanswered),
+            (17, &[0, 4], Fault::Unanswered),
+            (7 + 512, &[0, 1, 2, 9], Fault::Finished),
+            (15 + 2, &[0, 1, 3, 1, 2], Fault::Twice),
+            (64 + 7, &[0, 6, 1, 2], Fault::Twice),
+            (6, &[0, 1, 2], Fault::OtherNumber),
+            (8, &[0, 1, 2], Fault::OtherNumber),
+            (14, &[0, 1, 2], Fault::OtherNumber),
+            (1, &[], Fault::NoStart),
+        ] {
+            let found = verdict(LeastDelay, Value::Number(number), walk, 0);
+            assert_eq!(found, Err(fault), "{number} {walk:?}");
+        }
+        // The lows for the highs, and a count without its last state.
+        let found = verdict(GreatestDelay, Value::Number(7), &[0, 1, 2], 0);
+        assert_eq!(found, Err(Fault::OtherNumber));
+        for figure in [LeastCount, GreatestCount] {
+            let found = verdict(figure, Value::Number(1), &[0, 1, 2], 0);
+            assert_eq!(found, Err(Fault::OtherNumber));
+        }
+    }
+
+    #[test]
+    fn wrong_stranded_walks() {
+        for (walk, fault) in [
+            (&[4][..], Fault::NoStart),
+            (&[1, 4], Fault::NoStart),
+            (&[0, 1, 4], Fault::Break),
+            (&[0, 1], Fault::NoDeadEnd),
+            (&[0], Fault::NoDeadEnd),
+            (&[0, 1, 2, 8], Fault::Finished),
+            (&[0, 1, 2], Fault::Finished),
+            (&[0, 6, 4], Fault::Twice),
+        ] {
+            let found = verdict(GreatestCount, Value::Stranded, walk, 0);
+            assert_eq!(found, Err(fault), "{walk:?}");
+        }
+        // No transitions, and no start that is a dead end: 7 is no start now, 4 never was one.
+        let mut plan = plan();
+        plan.marks[7] = 0;
+        let shown = Quotation::new(Value::Stranded, Vec::new());
+        assert_eq!(check(&plan, GreatestDelay, &shown), Err(Fault::NoStart));
+    }
+
+    #[test]
+    fn wrong_endless_walks() {
+        for (walk, j, fault) in [
+            (&[6][..], 0, Fault::NoStart),
+            (&[0, 3], 0, Fault::Break),
+            (&[0, 6], 0, Fault::NoReturn),
+            (&[0, 6], 2, Fault::NoReturn),
+            (&[0, 6], 3, Fault::NoReturn),
+            (&[0, 1, 3], 0, Fault::NoReturn),
+            (&[0, 1, 3], 2, Fault::NoReturn),
+            (&[0, 1], 0, Fault::NoReturn),
+            (&[], 0, Fault::NoReturn),
+            (&[0, 6, 6], 1, Fault::Twice),
+            (&[0, 6, 1, 3], 1, Fault::Twice),
+            (&[0, 1, 2, 9], 3, Fault::Finished),
+            (&[0, 1, 2, 7], 2, Fault::Finished),
+        ] {
+            let found = verdict(GreatestDelay, Value::Endless, walk, j);
+            assert_eq!(found, Err(fault), "{walk:?} @{j}");
+        }
+    }
+}

@@ -1,0 +1,41 @@
+//! The calls that quote: the four quotations and the record.
+
+use crate::bits::BitWriter;
+use crate::figure::{Figure, Quotation, FIGURES};
+use crate::plan::Plan;
+use crate::refusal::{require, Refusal};
+use crate::rounds;
+
+pub const RECORD_OCTETS: usize = 11;
+/// The largest figure that the record's field of 20 bits holds.
+const MAX_FIGURE: u32 = 1_048_575;
+
+impl Plan {
+    /// Quotes a figure and puts the walk at the front of the buffer. Later places stay.
+    pub fn quote(&self, figure: Figure, buffer: &mut [u16]) -> Result<Quotation, Refusal> {
+        self.require_limits()?;
+        require(buffer.len() >= self.marks.len(), Refusal::BufferTooShort)?;
+        let quotation = rounds::quote(self, figure);
+        for (place, &number) in buffer.iter_mut().zip(&quotation.walk) {
+            *place = number as u16;
+        }
+        Ok(quotation)
+    }
+
+    /// Puts the quotation record at the front of the buffer and returns its length. Later octets
+    /// stay.
+    pub fn record(&self, buffer: &mut [u8]) -> Result<usize, Refusal> {
+        self.require_limits()?;
+        require(buffer.len() >= RECORD_OCTETS, Refusal::BufferTooShort)?;
+        let values = FIGURES.map(|figure| rounds::quote(self, figure).value);
+        let fits = values.iter().all(|value| value.figure() <= MAX_FIGURE);
+        require(fits, Refusal::FigureSize)?;
+        let mut bits = BitWriter::with_capacity(RECORD_OCTETS);
+        for value in values {
+            bits.put(2, value.kind());
+            bits.put(20, value.figure());
+        }
+        buffer[..RECORD_OCTETS].copy_from_slice(&bits.finish());
+        Ok(RECORD_OCTETS)
+    }
+}

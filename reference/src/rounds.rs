@@ -1,0 +1,123 @@
+//! Quotations of plans of any size, by rounds over the list of transitions.
+//!
+//! Round r finds, for each state, the best walk of just r transitions that ends there, from the
+//! walks of the round before and all transitions. These are Bellman and Ford's rounds, kept
+//! apart by length. As many rounds as there are states are enough, for the reasons in `walks`.
+
+use crate::figure::{Figure, Quotation, Value};
+use crate::plan::Plan;
+
+/// The best walk of a round that ends at a state: its cost, and its last transition. In round 0
+/// there is none, and the number means nothing.
+#[derive(Clone, Copy)]
+struct End {
+    cost: u32,
+    number: u16,
+}
+
+struct Rounds<'a> {
+    plan: &'a Plan,
+    /// By round, then by state.
+    ends: Vec<Vec<Option<End>>>,
+}
+
+impl Rounds<'_> {
+    /// Rounds 0 to n, or up to the first with no walk. No walk goes on from a final state.
+    fn new(plan: &Plan, figure: Figure) -> Rounds<'_> {
+        let n = plan.marks.len();
+        let costs: Vec<u32> = (0..plan.transitions.len())
+            .map(|number| figure.step_cost(plan, number))
+            .collect();
+        let first = |state| {
+            plan.is_start(state).then(|| End {
+                cost: figure.first_cost(plan, state),
+                number: 0,
+            })
+        };
+        let mut ends: Vec<Vec<Option<End>>> = vec![(0..n).map(first).collect()];
+        while ends.len() <= n && ends[ends.len() - 1].iter().any(Option::is_some) {
+            let before = &ends[ends.len() - 1];
+            let mut after: Vec<Option<End>> = vec![None; n];
+            for (number, transition) in plan.transitions.iter().enumerate() {
+                let Some(end) = before[transition.from] else {
+                    continue;
+                };
+                if plan.is_final(transition.from) {
+                    continue;
+                }
+                let cost = end.cost + costs[number];
+                let is_better = match after[transition.to] {
+                    None => true,
+                    Some(other) if figure.is_least() => cost < other.cost,
+                    Some(other) => cost > other.cost,
+                };
+                if is_better {
+                    let number = number as u16;
+                    after[transition.to] = Some(End { cost, number });
+                }
+            }
+            ends.push(after);
+        }
+        Rounds { plan, ends }
+    }
+
+    /// The first round and state with a walk that the test accepts.
+    fn find(&self, accepts: impl Fn(usize, usize) -> bool) -> Option<(usize, usize)> {
+        let n = self.plan.marks.len();
+        let places = (0..self.ends.len()).flat_map(|round| (0..n).map(move |state| (round, state)));
+        let mut walks = places.filter(|&(round, state)| self.ends[round][state].is_some());
+        walks.find(|&(round, state)| accepts(round, state))
+    }
+
+    /// The walk of a round that ends at a state, with its start.
+    fn walk(&self, round: usize, state: usize) -> (usize, Vec<usize>) {
+        let mut walk = Vec::new();
+        let mut state = state;
+        for round in (1..=round).rev() {
+            let end = self.ends[round][state].expect("a walk of this round ends here");
+            let number = usize::from(end.number);
+            walk.push(number);
+            state = self.plan.transitions[number].from;
+        }
+        walk.reverse();
+        (state, walk)
+    }
+
+    /// The best cost over the routes of all rounds.
+    fn best(&self, figure: Figure) -> Option<u32> {
+        let finals = (0..self.plan.marks.len()).filter(|&state| self.plan.is_final(state));
+        let ends = finals.flat_map(|state| self.ends.iter().filter_map(move |row| row[state]));
+        let costs = ends.map(|end| end.cost);
+        if figure.is_least() {
+            costs.min()
+        } else {
+            costs.max()
+        }
+    }
+}
+
+/// The figure's value and a walk that document 01 lets be shown with it.
+pub fn quote(plan: &Plan, figure: Figure) -> Quotation {
+    let n = plan.marks.len();
+    let rounds = Rounds::new(plan, figure);
+    if !figure.is_least() {
+        let endless = rounds.find(|round, state| round == n && !plan.is_final(state));
+        if let Some((round, state)) = endless {
+            let (start, walk) = rounds.walk(round, state);
+            return Quotation::endless(plan, start, &walk);
+        }
+        let dead_ends: Vec<bool> = (0..n).map(|state| plan.is_dead_end(state)).collect();
+        if let Some((round, state)) = rounds.find(|_, state| dead_ends[state]) {
+            return Quotation::new(Value::Stranded, rounds.walk(round, state).1);
+        }
+    }
+    let Some(cost) = rounds.best(figure) else {
+        return Quotation::none();
+    };
+    // The first round that attains it: the fewest transitions, so no state is on the route twice.
+    let attains = |round: usize, state: usize| {
+        plan.is_final(state) && rounds.ends[round][state].is_some_and(|end| end.cost == cost)
+    };
+    let (round, state) = rounds.find(attains).expect("some route attains the best");
+    Quotation::new(Value::Number(cost), rounds.walk(round, state).1)
+}

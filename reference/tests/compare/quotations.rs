@@ -1,0 +1,172 @@
+//! Quotations after lists of calls, of images of all sorts, and of plans and slices that are wrong.
+
+use reference::image::decode;
+use reference::kinds::Kinds;
+use reference::proved::{self, LentPlan, ACCEPTED, COUNTS, FIELDS, MARKS, OUT, SHORT_SLICE, WALKS};
+use reference::rng::{Case, Rng};
+use reference::{rounds, Plan, Refusal, Value, FIGURES, MAX_STATES, MAX_TRANSITIONS};
+
+use crate::calls::run_list;
+use crate::edges::{breaks, p1, random};
+use crate::generate;
+use crate::library;
+use crate::tally::Tally;
+use crate::vectors::P1;
+
+const SEED: u64 = 0x0000_0C0D;
+const LISTS: u64 = 8_000;
+const IMAGES: u64 = 40_000;
+
+fn values(plan: &Plan) -> [Value; 4] {
+    FIGURES.map(|figure| rounds::quote(plan, figure).value)
+}
+
+/// The second calculator's plan comes from the arguments of the calls alone.
+#[test]
+fn lists_of_calls_then_quotations() {
+    let mut tally = Tally::default();
+    let mut kinds = Kinds::default();
+    for number in 0..LISTS {
+        let case = Case { seed: SEED, number };
+        let mut rng = case.rng();
+        let pair = run_list(&mut rng, &mut tally);
+        let values = values(pair.plan());
+        library::compare(&mut rng, pair.lent(), pair.plan(), &values);
+        kinds.add(&values);
+    }
+    kinds.print(&format!(
+        "lists of calls, then quotations: seed {SEED:#x}, {LISTS} lists, {} calls",
+        tally.calls()
+    ));
+    kinds.assert_covers();
+    tally.assert_covers(&["fresh", "mark", "join", "unjoin", "read", "write"]);
+}
+
+#[test]
+fn images_quoted_at_once() {
+    let mut tally = Tally::default();
+    let mut kinds = Kinds::default();
+    for number in 0..IMAGES {
+        let case = Case { seed: SEED, number };
+        let mut rng = case.rng();
+        let octets = generate::image(&mut rng);
+        match decode(&octets) {
+            Ok(plan) => {
+                let values = values(&plan);
+                library::quote_image(&mut rng, &octets, Ok((&plan, &values)));
+                kinds.add(&values);
+                tally.add("quote", ACCEPTED);
+            }
+            Err(refusal) => {
+                library::quote_image(&mut rng, &octets, Err(refusal));
+                tally.add("quote", refusal.number());
+            }
+        }
+    }
+    kinds.print(&format!(
+        "images quoted at once: seed {SEED:#x}, {IMAGES} images, {} of them accepted",
+        kinds.plans()
+    ));
+    kinds.assert_covers();
+    tally.assert_covers(&["quote"]);
+}
+
+#[test]
+fn buffers_of_walks_and_records() {
+    let mut rng = Rng::of_test("buffers_of_walks_and_records", SEED);
+    for (n, m) in [(1, 0), (1, 3), (4, 4), (512, 0), (512, 2048)] {
+        let pair = random(&mut rng, n, m);
+        let values = values(pair.plan());
+        for figure in FIGURES {
+            let short = Err(Refusal::BufferTooShort);
+            let value = Ok(values[figure as usize]);
+            for (places, expected) in [
+                (0, short),
+                (n - 1, short),
+                (n, value),
+                (n + 1, value),
+                (n + 600, value),
+            ] {
+                library::quote(&mut rng, pair.lent(), pair.plan(), figure, places, expected);
+            }
+        }
+        for octets in [0, 10, 11, 12, 40] {
+            library::record(&mut rng, pair.lent(), pair.plan(), octets);
+        }
+    }
+}
+
+#[test]
+fn quotations_of_plans_that_break_a_limit() {
+    let mut rng = Rng::of_test("quotations_of_plans_that_break_a_limit", SEED);
+    for good in [p1(&mut rng), random(&mut rng, MAX_STATES, MAX_TRANSITIONS)] {
+        let n = good.plan().marks.len();
+        let m = good.plan().transitions.len();
+        for (_, change) in breaks(n, m) {
+            let mut pair = good.clone();
+            pair.by_hand(change);
+            let (lent, plan) = (pair.lent(), pair.plan());
+            assert!(!plan.within_limits());
+            for figure in FIGURES {
+                for places in [0, n - 1, n, 600] {
+                    let refused = Err(Refusal::BrokenPlan);
+                    library::quote(&mut rng, lent, plan, figure, places, refused);
+                }
+            }
+            for octets in [0, 10, 11, 12] {
+                assert_eq!(plan.record(&mut vec![0; octets]), Err(Refusal::BrokenPlan));
+                library::record(&mut rng, lent, plan, octets);
+            }
+        }
+    }
+}
+
+/// A slice with too few places for a plan or for the answers is refused before all else.
+#[test]
+fn short_slices_for_plans_and_answers() {
+    for (counts, marks, fields, out) in [
+        (1, MARKS, FIELDS, OUT),
+        (COUNTS, MARKS - 1, FIELDS, OUT),
+        (COUNTS, MARKS, FIELDS - 1, OUT),
+        (COUNTS, MARKS, FIELDS, OUT - 1),
+        (COUNTS, MARKS, FIELDS, 0),
+        (0, 0, 0, 0),
+    ] {
+        for n in [0, 1] {
+            // No plan, or a plan of one state.
+            let lent = LentPlan {
+                counts: [n, 0][..counts].to_vec(),
+                marks: vec![0; marks],
+                fields: vec![0; fields],
+            };
+            let before = lent.clone();
+            for places in [0, 5] {
+                let mut walk = vec![7; places];
+                let mut answers = vec![7; out];
+                for figure in FIGURES {
+                    let answer = lent.quote(figure, &mut walk, &mut answers);
+                    assert_eq!(answer, SHORT_SLICE, "{counts} {marks} {fields} {out}");
+                }
+                assert!(walk.iter().all(|&place| place == 7));
+                assert!(answers.iter().all(|&place| place == 7));
+            }
+            if out == OUT {
+                for octets in [0, 20] {
+                    let mut buffer = vec![7; octets];
+                    assert_eq!(lent.record(&mut buffer), SHORT_SLICE);
+                    assert!(buffer.iter().all(|&octet| octet == 7));
+                }
+            }
+            assert!(lent == before);
+        }
+    }
+    for (walks, out) in [(WALKS - 1, 4 * OUT), (WALKS, 4 * OUT - 1), (0, 0)] {
+        for octets in [&P1[..], &P1[..3], &[]] {
+            let mut walks = vec![7; walks];
+            let mut out = vec![7; out];
+            assert_eq!(proved::quote(octets, &mut walks, &mut out), SHORT_SLICE);
+            assert!(walks.iter().all(|&place| place == 7));
+            assert!(out.iter().all(|&place| place == 7));
+        }
+    }
+}

@@ -1,0 +1,222 @@
+//! The plans of document 01 whose figures it gives, and the edges beside them.
+
+use reference::image::{decode, encode};
+use reference::quotation::RECORD_OCTETS;
+use reference::rng::Rng;
+use reference::{text, Plan, Refusal, Transition, Value, FIGURES};
+
+use crate::means::compare;
+use crate::vectors::P1;
+use Value::{Endless, None, Number, Stranded};
+
+const SEED: u64 = 0x0000_0001;
+pub const P1_LINES: &str = "\
+least delay 7: 0 2
+greatest delay 60: 0 1 3
+least count 1: 0 2
+greatest count 2: 0 1 3
+";
+const P1_RECORD: [u8; RECORD_OCTETS] = [
+    0x00, 0x00, 0x1C, 0x00, 0x03, 0xC0, 0x00, 0x00, 0x40, 0x00, 0x02,
+];
+
+fn plan(marks: &[u8], steps: &[(usize, usize, u32, u32)]) -> Plan {
+    let transitions = steps.iter().map(|&(from, to, low, high)| Transition {
+        from,
+        to,
+        low,
+        high,
+    });
+    Plan {
+        marks: marks.to_vec(),
+        transitions: transitions.collect(),
+    }
+}
+
+/// P1 to P9, and some more that no row of them is like.
+pub fn known() -> Vec<(&'static str, Plan, [Value; 4])> {
+    let p1 = decode(&P1).unwrap();
+    let p5 = Plan {
+        marks: vec![0, 1, 1, 2],
+        ..p1.clone()
+    };
+    vec![
+        ("P1", p1, [Number(7), Number(60), Number(1), Number(2)]),
+        (
+            "P2",
+            plan(&[7], &[]),
+            [Number(0), Number(0), Number(1), Number(1)],
+        ),
+        ("P3", plan(&[4, 2], &[]), [None, Stranded, None, Stranded]),
+        (
+            "P4",
+            plan(&[4, 2], &[(0, 0, 0, 0), (0, 1, 1, 1)]),
+            [Number(1), Endless, Number(0), Endless],
+        ),
+        ("P5", p5, [None; 4]),
+        (
+            "P6",
+            plan(&[4, 2], &[(0, 1, 1, 9), (0, 1, 3, 4)]),
+            [Number(1), Number(9), Number(0), Number(0)],
+        ),
+        (
+            "P7",
+            plan(&[4, 2, 0], &[(0, 1, 2, 3), (2, 2, 1, 1)]),
+            [Number(2), Number(3), Number(0), Number(0)],
+        ),
+        (
+            "P8",
+            plan(&[4, 2], &[(0, 1, 1, 2), (1, 1, 5, 5)]),
+            [Number(1), Number(2), Number(0), Number(0)],
+        ),
+        (
+            "P9",
+            plan(&[4, 0], &[(0, 0, 1, 1), (0, 1, 1, 1)]),
+            [None, Endless, None, Endless],
+        ),
+        (
+            "an unreached dead end",
+            plan(&[4, 2, 0], &[(0, 1, 2, 3)]),
+            [Number(2), Number(3), Number(0), Number(0)],
+        ),
+        (
+            "a dead end beside an answer",
+            plan(&[4, 2, 0], &[(0, 1, 2, 3), (0, 2, 1, 1)]),
+            [Number(2), Stranded, Number(0), Stranded],
+        ),
+        (
+            "both ends counted",
+            plan(&[5, 3], &[(0, 1, 2, 3)]),
+            [Number(2), Number(3), Number(2), Number(2)],
+        ),
+        (
+            "a start that leads to no answer beside one that is one",
+            plan(&[4, 7], &[]),
+            [Number(0), Stranded, Number(1), Stranded],
+        ),
+    ]
+}
+
+/// 512 states in a chain, each step 2047..2047, the last final.
+pub fn p10() -> Plan {
+    let mut plan = Plan::fresh(512).unwrap();
+    plan.mark(0, 4).unwrap();
+    plan.mark(511, 2).unwrap();
+    for from in 0..511 {
+        let (to, low, high) = (from + 1, 2047, 2047);
+        plan.join(Transition {
+            from,
+            to,
+            low,
+            high,
+        })
+        .unwrap();
+    }
+    plan
+}
+
+#[test]
+fn known_plans() {
+    let mut rng = Rng::of_test("known_plans", SEED);
+    for (name, plan, values) in known() {
+        assert_eq!(compare(&mut rng, &plan), values, "{name}");
+        let octets = encode(&plan);
+        let lines = FIGURES.map(|figure| {
+            let mut buffer = vec![7; plan.marks.len() + 1];
+            let quotation = plan.quote(figure, &mut buffer).unwrap();
+            let k = quotation.walk.len();
+            let numbers: Vec<u16> = quotation.walk.iter().map(|&number| number as u16).collect();
+            assert_eq!(buffer[..k], numbers, "{name}");
+            assert!(buffer[k..].iter().all(|&place| place == 7), "{name}");
+            text::line(figure, &quotation)
+        });
+        assert_eq!(text::quote(&octets), lines.concat(), "{name}");
+    }
+}
+
+#[test]
+fn the_lines_of_p1() {
+    assert_eq!(text::quote(&P1), P1_LINES);
+}
+
+#[test]
+fn lines_of_other_kinds() {
+    let lines = |plan: &Plan| text::quote(&encode(plan));
+    let known = known();
+    assert_eq!(
+        lines(&known[3].1),
+        "least delay 1: 1\ngreatest delay ENDLESS: 0 @0\n\
+         least count 0: 1\ngreatest count ENDLESS: 0 @0\n"
+    );
+    assert_eq!(
+        lines(&known[2].1),
+        "least delay NONE:\ngreatest delay STRANDED:\n\
+         least count NONE:\ngreatest count STRANDED:\n"
+    );
+    assert_eq!(
+        lines(&known[1].1),
+        "least delay 0:\ngreatest delay 0:\nleast count 1:\ngreatest count 1:\n"
+    );
+    assert_eq!(text::quote(&[]), "refused 1\n");
+    assert_eq!(text::quote(&P1[..27]), "refused 1\n");
+    assert_eq!(text::quote(&[&P1[..], &[0]].concat()), "refused 2\n");
+}
+
+#[test]
+fn the_chain_of_512_states() {
+    let mut rng = Rng::of_test("the_chain_of_512_states", SEED);
+    let plan = p10();
+    let values = compare(&mut rng, &plan);
+    assert_eq!(
+        values,
+        [Number(1_046_017), Number(1_046_017), Number(0), Number(0)]
+    );
+    for figure in FIGURES {
+        let quotation = plan.quote(figure, &mut [0; 512]).unwrap();
+        assert_eq!(quotation.walk, (0..511).collect::<Vec<_>>());
+    }
+    assert_eq!(Plan::fresh(513), Err(Refusal::StateCount));
+    let step = |high| Transition {
+        from: 0,
+        to: 1,
+        low: 0,
+        high,
+    };
+    assert_eq!(plan.clone().join(step(2047)), Ok(()));
+    assert_eq!(plan.clone().join(step(2048)), Err(Refusal::Duration));
+}
+
+#[test]
+fn records() {
+    let p1 = decode(&P1).unwrap();
+    let mut buffer = [0xAA; 12];
+    assert_eq!(p1.record(&mut buffer[..10]), Err(Refusal::BufferTooShort));
+    assert_eq!(buffer, [0xAA; 12]);
+    assert_eq!(p1.record(&mut buffer[..11]), Ok(11));
+    assert_eq!(buffer[..11], P1_RECORD);
+    assert_eq!(p1.record(&mut buffer), Ok(11));
+    assert_eq!(buffer[11], 0xAA);
+
+    // P4's kinds: 0 and 3 by turns, with the figure 1 in the last of the first 22 bits.
+    let p4 = &known()[3].1;
+    assert_eq!(p4.record(&mut buffer), Ok(11));
+    let expected = [0x00, 0x00, 0x07, 0, 0, 0, 0, 0, 0x30, 0, 0];
+    assert_eq!(buffer[..11], expected);
+}
+
+#[test]
+fn short_buffers_and_broken_plans() {
+    let p1 = decode(&P1).unwrap();
+    let broken = plan(&[8], &[]);
+    for figure in FIGURES {
+        let mut buffer = [7; 5];
+        let refused = p1.quote(figure, &mut buffer[..3]);
+        assert_eq!(refused, Err(Refusal::BufferTooShort));
+        assert_eq!(broken.quote(figure, &mut []), Err(Refusal::BrokenPlan));
+        assert_eq!(broken.quote(figure, &mut buffer), Err(Refusal::BrokenPlan));
+        assert_eq!(buffer, [7; 5]);
+        assert!(p1.quote(figure, &mut buffer[..4]).is_ok());
+    }
+    assert_eq!(broken.record(&mut []), Err(Refusal::BrokenPlan));
+    assert_eq!(broken.record(&mut [0; 11]), Err(Refusal::BrokenPlan));
+}

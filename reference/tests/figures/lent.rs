@@ -1,0 +1,59 @@
+//! Plans lent to the proved library, and the lines that its answers make.
+
+use reference::image::encode;
+use reference::proved::{self, LentPlan, ACCEPTED, COUNTS, FIELDS, MARKS, OUT, WALKS};
+use reference::quotation::RECORD_OCTETS;
+use reference::rng::Rng;
+use reference::{text, Figure, Plan, Value, FIGURES, MAX_STATES};
+
+use crate::known::{known, p10, P1_LINES};
+use crate::library;
+use crate::vectors::P1;
+
+/// Slices that hold the plan, with up to 2 places more than a plan's and noise past its counts.
+pub fn lend(rng: &mut Rng, plan: &Plan) -> LentPlan {
+    let more = rng.below(3);
+    let mut lent = LentPlan {
+        counts: (0..COUNTS + more).map(|_| rng.next() as usize).collect(),
+        marks: rng.octets(MARKS + more),
+        fields: (0..FIELDS + more).map(|_| rng.next() as u16).collect(),
+    };
+    lent.hold(plan);
+    lent
+}
+
+/// Quotes the plan's image, and makes one of the other calls.
+pub fn compare_some(rng: &mut Rng, lent: &LentPlan, plan: &Plan, values: &[Value; 4]) {
+    library::quote_image(rng, &encode(plan), Ok((plan, values)));
+    match rng.below(FIGURES.len() + 1) {
+        0 => library::record(rng, lent, plan, RECORD_OCTETS),
+        choice => {
+            let figure = FIGURES[choice - 1];
+            let places = plan.marks.len();
+            let value = values[figure as usize];
+            library::quote(rng, lent, plan, figure, places, Ok(value));
+        }
+    }
+}
+
+/// The lines that the library's answers make.
+fn lines(octets: &[u8], values: [Value; 4]) -> String {
+    let (mut walks, mut out) = ([0; WALKS], [0; 4 * OUT]);
+    assert_eq!(proved::quote(octets, &mut walks, &mut out), ACCEPTED);
+    let line = |figure: Figure| {
+        let place = figure as usize;
+        let (walk, out) = (&walks[MAX_STATES * place..], &out[OUT * place..]);
+        text::line(figure, &library::shown(values[place], walk, out))
+    };
+    FIGURES.map(line).concat()
+}
+
+#[test]
+fn the_librarys_lines() {
+    assert_eq!(lines(&P1, known()[0].2), P1_LINES);
+    // These show the whole chain, since there is no other route.
+    let octets = encode(&p10());
+    let delay = Value::Number(1_046_017);
+    let values = [delay, delay, Value::Number(0), Value::Number(0)];
+    assert_eq!(lines(&octets, values), text::quote(&octets));
+}

@@ -1,0 +1,123 @@
+//! The calls of the proved library that quote, held to the values that the second calculator
+//! found. Every lent place is compared.
+
+use reference::check::check;
+use reference::image::encode;
+use reference::proved::{self, LentPlan, ACCEPTED, OUT, WALKS};
+use reference::quotation::RECORD_OCTETS;
+use reference::rng::Rng;
+use reference::{Figure, Plan, Quotation, Refusal, Value, FIGURES, MAX_STATES};
+
+/// Makes every call that quotes on the plan that the slices hold: buffers of n - 1, n or n + 1
+/// places, and of 10, 11 or 12 octets.
+pub fn compare(rng: &mut Rng, lent: &LentPlan, plan: &Plan, values: &[Value; 4]) {
+    for figure in FIGURES {
+        let n = plan.marks.len();
+        let places = n - 1 + rng.below(3);
+        let expected = match places >= n {
+            true => Ok(values[figure as usize]),
+            false => Err(Refusal::BufferTooShort),
+        };
+        quote(rng, lent, plan, figure, places, expected);
+    }
+    let octets = RECORD_OCTETS - 1 + rng.below(3);
+    record(rng, lent, plan, octets);
+    quote_image(rng, &encode(plan), Ok((plan, values)));
+}
+
+/// One quotation into a buffer of so many places, with the value or the refusal that is expected.
+pub fn quote(
+    rng: &mut Rng,
+    lent: &LentPlan,
+    plan: &Plan,
+    figure: Figure,
+    places: usize,
+    expected: Result<Value, Refusal>,
+) {
+    let lent_before = lent.clone();
+    let mut walk = vec![rng.next() as u16; places];
+    let mut out = vec![rng.next() as u32; OUT + rng.below(3)];
+    let (mut expected_walk, mut expected_out) = (walk.clone(), out.clone());
+
+    let answer = lent.quote(figure, &mut walk, &mut out);
+    let name = figure.name();
+    match expected {
+        Err(refusal) => assert_eq!(answer, refusal.number(), "{name}, {places} places"),
+        Ok(value) => {
+            assert_eq!(answer, ACCEPTED, "{name} of {plan:?}");
+            let k = assert_shown(plan, figure, value, &walk, &out);
+            expected_walk[..k].copy_from_slice(&walk[..k]);
+            expected_out[..OUT].copy_from_slice(&out[..OUT]);
+        }
+    }
+    assert!(walk == expected_walk, "a place past the walk changed");
+    assert!(out == expected_out, "a place past the answer changed");
+    assert!(*lent == lent_before, "the plan slices changed");
+}
+
+/// The record into a buffer of so many octets.
+pub fn record(rng: &mut Rng, lent: &LentPlan, plan: &Plan, octets: usize) {
+    let lent_before = lent.clone();
+    let mut buffer = rng.octets(octets);
+    let mut expected_buffer = buffer.clone();
+    let expected = match plan.record(&mut expected_buffer) {
+        Ok(length) => ACCEPTED + length as u32,
+        Err(refusal) => refusal.number(),
+    };
+    assert_eq!(lent.record(&mut buffer), expected, "the record of {plan:?}");
+    assert_eq!(buffer, expected_buffer, "the record of {plan:?}");
+    assert!(*lent == lent_before, "the plan slices changed");
+}
+
+/// All four figures of an image, or the refusal that is expected.
+pub fn quote_image(rng: &mut Rng, octets: &[u8], expected: Result<(&Plan, &[Value; 4]), Refusal>) {
+    let lent_octets = octets.to_vec();
+    let mut walks = vec![rng.next() as u16; WALKS + rng.below(3)];
+    let mut out = vec![rng.next() as u32; 4 * OUT + rng.below(3)];
+    let (mut expected_walks, mut expected_out) = (walks.clone(), out.clone());
+
+    let answer = proved::quote(&lent_octets, &mut walks, &mut out);
+    match expected {
+        Err(refusal) => assert_eq!(answer, refusal.number(), "{octets:02X?}"),
+        Ok((plan, values)) => {
+            assert_eq!(answer, ACCEPTED, "{octets:02X?}");
+            for (place, figure) in FIGURES.into_iter().enumerate() {
+                let walk = &walks[MAX_STATES * place..][..MAX_STATES];
+                let out = &out[OUT * place..][..OUT];
+                let k = assert_shown(plan, figure, values[place], walk, out);
+                expected_walks[MAX_STATES * place..][..k].copy_from_slice(&walk[..k]);
+                expected_out[OUT * place..][..OUT].copy_from_slice(out);
+            }
+        }
+    }
+    assert!(walks == expected_walks, "a place beside the walks changed");
+    assert!(out == expected_out, "a place past the answers changed");
+    assert!(lent_octets == octets, "the octets changed");
+}
+
+/// Asserts the kind and the figure as numbers, and a walk as document 01 asks. Returns k.
+fn assert_shown(plan: &Plan, figure: Figure, value: Value, walk: &[u16], out: &[u32]) -> usize {
+    let name = figure.name();
+    assert_eq!(
+        out[..2],
+        [value.kind(), value.figure()],
+        "{name} of {plan:?}"
+    );
+    let shown = shown(value, walk, out);
+    assert_eq!(
+        check(plan, figure, &shown),
+        Ok(()),
+        "{name}: {shown:?} of {plan:?}"
+    );
+    shown.walk.len()
+}
+
+/// What stands in the slices of an accepted quotation of a value.
+pub fn shown(value: Value, walk: &[u16], out: &[u32]) -> Quotation {
+    let walk = &walk[..out[2] as usize];
+    Quotation {
+        value,
+        walk: walk.iter().map(|&number| usize::from(number)).collect(),
+        j: out[3] as usize,
+    }
+}

@@ -1,0 +1,311 @@
+//! Random plans of many shapes. Where the shape decides the kind of a figure, it says which.
+
+use reference::rng::Rng;
+use reference::{Plan, Transition, MAX_DURATION};
+
+/// What a shape's greatest figures are by the way it is made. The least ones are then numbers.
+#[derive(Clone, Copy, Debug, PartialEq, Eq)]
+pub enum Greatest {
+    Number,
+    Stranded,
+    Endless,
+    Open,
+}
+
+pub struct Shape {
+    pub name: &'static str,
+    /// A plan of `n` states and `m` transitions, n at least 8 and m at least 2n.
+    pub plan: fn(&mut Rng, usize, usize) -> Plan,
+    pub greatest: Greatest,
+}
+
+const fn shape(
+    name: &'static str,
+    plan: fn(&mut Rng, usize, usize) -> Plan,
+    greatest: Greatest,
+) -> Shape {
+    Shape {
+        name,
+        plan,
+        greatest,
+    }
+}
+
+pub const SHAPES: [Shape; 13] = [
+    shape("chain", chain, Greatest::Number),
+    shape("layers", layers, Greatest::Number),
+    shape("sound", sound, Greatest::Number),
+    shape("loop reached", loop_reached, Greatest::Endless),
+    shape("loop unreached", loop_unreached, Greatest::Number),
+    shape("dead end reached", dead_end_reached, Greatest::Stranded),
+    shape("dead end unreached", dead_end_unreached, Greatest::Number),
+    shape("dense", dense, Greatest::Open),
+    shape("zero durations", zero_durations, Greatest::Open),
+    shape("many starts", many_starts, Greatest::Open),
+    shape("finals that are starts", finals_that_start, Greatest::Open),
+    shape("equal transitions", equal_transitions, Greatest::Open),
+    shape("anything", anything, Greatest::Open),
+];
+
+impl Shape {
+    /// A plan of this shape, its states renumbered and its transitions in a random order.
+    pub fn draw(&self, rng: &mut Rng, n: usize, m: usize) -> Plan {
+        let plan = (self.plan)(rng, n, m);
+        assert_eq!((plan.marks.len(), plan.transitions.len()), (n, m));
+        let mut states: Vec<usize> = (0..n).collect();
+        rng.shuffle(&mut states);
+        let mut marks = vec![0; n];
+        for (state, &value) in plan.marks.iter().enumerate() {
+            marks[states[state]] = value;
+        }
+        let renumber = |transition: Transition| Transition {
+            from: states[transition.from],
+            to: states[transition.to],
+            ..transition
+        };
+        let mut transitions: Vec<Transition> = plan.transitions.into_iter().map(renumber).collect();
+        rng.shuffle(&mut transitions);
+        Plan { marks, transitions }
+    }
+}
+
+/// A transition with durations of all sizes.
+fn step(rng: &mut Rng, from: usize, to: usize) -> Transition {
+    let limit = rng.pick(&[0, 1, 3, 20, MAX_DURATION as usize]);
+    let one = rng.below(limit + 1) as u32;
+    let other = rng.below(limit + 1) as u32;
+    Transition {
+        from,
+        to,
+        low: one.min(other),
+        high: one.max(other),
+    }
+}
+
+/// A marks value, counted or not.
+fn marks(rng: &mut Rng, is_start: bool, is_final: bool) -> u8 {
+    4 * u8::from(is_start) + 2 * u8::from(is_final) + rng.below(2) as u8
+}
+
+/// One state after another, with several transitions between some of them.
+fn chain(rng: &mut Rng, n: usize, m: usize) -> Plan {
+    let marks = (0..n).map(|state| marks(rng, state == 0, state == n - 1));
+    let marks = marks.collect();
+    let mut transitions: Vec<Transition> = (0..n - 1)
+        .map(|state| step(rng, state, state + 1))
+        .collect();
+    while transitions.len() < m {
+        let state = rng.below(n - 1);
+        transitions.push(step(rng, state, state + 1));
+    }
+    Plan { marks, transitions }
+}
+
+/// Transitions lead from each layer to the next, from the starts to the final states.
+fn layers(rng: &mut Rng, n: usize, m: usize) -> Plan {
+    let width = rng.between(2, 4);
+    let last = (n - 1) / width * width;
+    let next = |rng: &mut Rng, state: usize| {
+        let first = state - state % width + width;
+        rng.between(first, (first + width).min(n) - 1)
+    };
+    // The states from `last` on are the last layer, which is final.
+    let marks = (0..n).map(|state| marks(rng, state < width, state >= last));
+    let marks = marks.collect();
+    let mut transitions = Vec::new();
+    for number in 0..m {
+        let from = if number < last {
+            number
+        } else {
+            rng.below(last)
+        };
+        let to = next(rng, from);
+        transitions.push(step(rng, from, to));
+    }
+    Plan { marks, transitions }
+}
+
+/// Every unfinished state is left, by transitions to higher states, and the last one is final: all
+/// walks come to an answer. From final states transitions lead anywhere.
+fn sound(rng: &mut Rng, n: usize, m: usize) -> Plan {
+    let few = rng.pick(&[2, 8, 1000]);
+    let reach = rng.pick(&[1, 3, n]);
+    let marks: Vec<u8> = (0..n)
+        .map(|state| {
+            let is_start = state == 0 || rng.one_in(few);
+            let is_final = state == n - 1 || (state > 0 && rng.one_in(few));
+            marks(rng, is_start, is_final)
+        })
+        .collect();
+    let is_final = |state: usize| marks[state] & 2 != 0;
+    let mut transitions = Vec::new();
+    for number in 0..m {
+        let from = if number < n - 1 { number } else { rng.below(n) };
+        let to = if is_final(from) {
+            rng.below(n)
+        } else {
+            rng.between(from + 1, (from + reach).min(n - 1))
+        };
+        transitions.push(step(rng, from, to));
+    }
+    Plan { marks, transitions }
+}
+
+/// The states of a walk of a sound plan through unfinished states from state 0.
+fn unfinished_walk(rng: &mut Rng, plan: &Plan) -> Vec<usize> {
+    let mut states = vec![0];
+    for _ in 0..rng.below(plan.marks.len()) {
+        let state = states[states.len() - 1];
+        let steps = plan.transitions.iter().filter(|step| step.from == state);
+        let targets: Vec<usize> = steps.map(|step| step.to).collect();
+        let target = rng.pick(&targets);
+        if plan.is_final(target) {
+            break;
+        }
+        states.push(target);
+    }
+    states
+}
+
+/// A sound plan, and one transition back on a walk.
+fn loop_reached(rng: &mut Rng, n: usize, m: usize) -> Plan {
+    let mut plan = sound(rng, n, m - 1);
+    let states = unfinished_walk(rng, &plan);
+    let to = rng.pick(&states);
+    plan.transitions
+        .push(step(rng, states[states.len() - 1], to));
+    plan
+}
+
+/// A sound plan, and a loop that only final states lead to.
+fn loop_unreached(rng: &mut Rng, n: usize, m: usize) -> Plan {
+    let length = rng.between(1, 3);
+    let mut plan = sound(rng, n - length, m - length - 2);
+    let first = n - length;
+    for state in first..n {
+        plan.marks.push(marks(rng, false, false));
+        let next = if state + 1 < n { state + 1 } else { first };
+        plan.transitions.push(step(rng, state, next));
+    }
+    plan.transitions.push(step(rng, first - 1, first));
+    let to = rng.below(n);
+    plan.transitions.push(step(rng, n - 1, to));
+    plan
+}
+
+/// A sound plan, and a transition from a walk to a dead end.
+fn dead_end_reached(rng: &mut Rng, n: usize, m: usize) -> Plan {
+    let mut plan = sound(rng, n - 1, m - 1);
+    let states = unfinished_walk(rng, &plan);
+    let from = rng.pick(&states);
+    plan.marks.push(marks(rng, false, false));
+    plan.transitions.push(step(rng, from, n - 1));
+    plan
+}
+
+/// A sound plan, and a dead end that only a final state and an unreached one lead to.
+fn dead_end_unreached(rng: &mut Rng, n: usize, m: usize) -> Plan {
+    let mut plan = sound(rng, n - 2, m - 2);
+    plan.marks.push(marks(rng, false, false));
+    plan.marks.push(marks(rng, false, false));
+    plan.transitions.push(step(rng, n - 3, n - 1));
+    plan.transitions.push(step(rng, n - 2, n - 1));
+    plan
+}
+
+/// A random plan with one state in `starts` a start and one in `finals` final.
+fn random(rng: &mut Rng, n: usize, m: usize, starts: usize, finals: usize) -> Plan {
+    let marks = (0..n).map(|_| {
+        let is_start = rng.one_in(starts);
+        let is_final = rng.one_in(finals);
+        marks(rng, is_start, is_final)
+    });
+    let marks = marks.collect();
+    let transitions = (0..m).map(|_| {
+        let (from, to) = (rng.below(n), rng.below(n));
+        step(rng, from, to)
+    });
+    let transitions = transitions.collect();
+    Plan { marks, transitions }
+}
+
+/// As many transitions as there are, between the first few states only.
+fn dense(rng: &mut Rng, n: usize, m: usize) -> Plan {
+    let few = rng.between(2, 8);
+    let mut plan = random(rng, few, m, 3, 3);
+    plan.marks.resize(n, 0);
+    if rng.one_in(2) {
+        // No loops but those of one state, and those seldom.
+        for transition in &mut plan.transitions {
+            let ends = (transition.from, transition.to);
+            transition.from = ends.0.min(ends.1);
+            transition.to = ends.0.max(ends.1);
+            if transition.from == transition.to && !rng.one_in(100) {
+                transition.from = 0;
+                transition.to = few - 1;
+            }
+        }
+    }
+    plan
+}
+
+fn zero_durations(rng: &mut Rng, n: usize, m: usize) -> Plan {
+    let mut plan = open(rng, n, m);
+    let all = rng.one_in(2);
+    for transition in &mut plan.transitions {
+        if all || rng.one_in(2) {
+            transition.low = 0;
+            transition.high = 0;
+        }
+    }
+    plan
+}
+
+/// A plan of no special shape, often a sound one with something added.
+fn open(rng: &mut Rng, n: usize, m: usize) -> Plan {
+    match rng.below(6) {
+        0 => sound(rng, n, m),
+        1 => loop_reached(rng, n, m),
+        2 => dead_end_reached(rng, n, m),
+        3 => loop_unreached(rng, n, m),
+        4 => layers(rng, n, m),
+        _ => random(rng, n, m, 4, 2),
+    }
+}
+
+fn many_starts(rng: &mut Rng, n: usize, m: usize) -> Plan {
+    let mut plan = open(rng, n, m);
+    for marks in &mut plan.marks {
+        if !rng.one_in(4) {
+            *marks |= 4;
+        }
+    }
+    plan
+}
+
+fn finals_that_start(rng: &mut Rng, n: usize, m: usize) -> Plan {
+    let mut plan = open(rng, n, m);
+    for marks in &mut plan.marks {
+        if *marks & 2 != 0 || rng.one_in(4) {
+            *marks |= 6;
+        }
+    }
+    plan
+}
+
+/// Some of the transitions stand in the list several times.
+fn equal_transitions(rng: &mut Rng, n: usize, m: usize) -> Plan {
+    let mut plan = open(rng, n, m);
+    for _ in 0..m / 2 {
+        let (from, to) = (rng.below(m), rng.below(m));
+        plan.transitions[to] = plan.transitions[from];
+    }
+    plan
+}
+
+/// Marks of all values, starts and finals many or few, and some plans with none.
+fn anything(rng: &mut Rng, n: usize, m: usize) -> Plan {
+    let starts = rng.pick(&[1, 2, 8, n, 100_000]);
+    let finals = rng.pick(&[2, 8, n, 100_000]);
+    random(rng, n, m, starts, finals)
+}
