@@ -309,10 +309,6 @@ module _ (g : Graph) (In : ℕ → Type 0) (order : ℕ → ℕ) where
 -- ---- 5
 
 module _ (g : Graph) (c : Cost) (In : ℕ → Type 0) (value rank : ℕ → ℕ) where
-  -- no start has a value: there is no route
-  pub least-none : LeastValues g c In value → ((s : ℕ) → Begins g s → In s → ⊥) → IsLeast g c NONE
-  least-none v none s ts (b, r) = none s b (least-values g c In value v s ts r .0)
-
   -- the least value of a start
   pub least-number : LeastValues g c In value → Choices g c In value rank
       → (s : ℕ) → Begins g s → In s → ((x : ℕ) → Begins g x → In x → value s ≤ value x) → IsLeast g c (number (value s))
@@ -337,6 +333,11 @@ module _ (g : Graph) (c : Cost) (In : ℕ → Type 0) (value rank : ℕ → ℕ)
     where
       stays : (x t : ℕ) → In x → Departs g x t → Unfinished g (to g t) → In (to g t)
       stays x t i d u = r .onward x t i d u .0
+
+module _ (g : Graph) (c : Cost) where
+  -- no start has a value: there is no route
+  pub least-none : (Has : ℕ → Type 0) (value : ℕ → ℕ) → LeastValues g c Has value → ((s : ℕ) → Begins g s → Has s → ⊥) → IsLeast g c NONE
+  least-none Has value v none s ts (b, r) = none s b (least-values g c Has value v s ts r .0)
 
   -- a walk that is shown for ENDLESS
   pub greatest-endless : (ts : List ℕ) (j : ℕ) → Shown g c ENDLESS ts j → IsGreatest g c ENDLESS
@@ -363,6 +364,6 @@ module _ (g : Graph) (c : Cost) (In : ℕ → Type 0) (value rank : ℕ → ℕ)
       )
 
   -- a walk that is shown for STRANDED, where the rank falls
-  pub greatest-stranded : FallingRank g In rank → (ts : List ℕ) (j : ℕ) → Shown g c STRANDED ts j
+  pub greatest-stranded : (In : ℕ → Type 0) (rank : ℕ → ℕ) → FallingRank g In rank → (ts : List ℕ) (j : ℕ) → Shown g c STRANDED ts j
       → IsGreatest g c STRANDED
-  greatest-stranded r ts j shown = (λ no-start. no-start (shown .0) (shown .1 .0), no-endless g In rank r, (shown .0, ts, shown .1))
+  greatest-stranded In rank r ts j shown = (λ no-start. no-start (shown .0) (shown .1 .0), no-endless g In rank r, (shown .0, ts, shown .1))

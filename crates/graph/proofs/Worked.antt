@@ -1,21 +1,27 @@
--- P1 with what a search would leave behind: the certificates of Certificate.antt can be met, and give P1's delays again.
+-- Plans with what a search would leave behind: each certificate of Certificate.antt can be met, and gives the figure that
+-- is known.
 --
--- The values are the least and the greatest delay from each state to an answer. The rank of a state is the number of
--- transitions that may follow at most. What is asked of a transition is asked of P1's four (`P1-cases`). Assumes nothing.
+-- P1 for numbers: the values are the least and the greatest delay from each state to an answer. The rank of a state is
+-- the number of transitions that may follow at most. What is asked of a transition is asked of P1's four (`P1-cases`).
+-- P3 for NONE, where only the final state has a value; P4 for ENDLESS, with its loop on the stack; and for STRANDED the
+-- plan with a dead end beside its answer, whose tree has the start and the dead end. Assumes nothing.
 use Prim.Native.Nat.{ℕ, zero, suc, _+_, _≤_, _<_}
-use mathlib.Core.Path.{_≡_, refl, subst}
+use mathlib.Core.Path.{_≡_, refl, sym, subst}
 use mathlib.Core.Bool.{true≢false, false≢true}
+use mathlib.Core.Logic.{_⊎_, inl, inr}
 use mathlib.Core.List.{[], _∷_}
+use native.Mathlib.Nat.{not-suc-le-zero, le-refl}
 use native.Mathlib.Omega.{arith}
 use lib.Dec.{T, ltb, lit<}
 use Rattle.graph.specs.Graph.{Graph, start, final, from, to, low, high, Departs, Final, Unfinished}
 use Rattle.graph.specs.Walk.{Begins}
 use Rattle.graph.specs.Route.{Cost, lows, highs}
-use Rattle.graph.specs.Figure.{number, IsLeast, IsGreatest}
-use Rattle.graph.specs.Known.{P1}
+use Rattle.graph.specs.Figure.{number, NONE, STRANDED, ENDLESS, IsLeast, IsGreatest}
+use Rattle.graph.specs.Known.{P1, P3, P4, reached-dead-end}
 use Rattle.graph.proofs.Repeat.{nth}
-use Rattle.graph.proofs.Certificate.{LeastValues, GreatestValues, FallingRank, Choice, Choices, least-number}
-use Rattle.graph.proofs.Certificate.{greatest-number}
+use Rattle.graph.proofs.Build.{StepAt}
+use Rattle.graph.proofs.Certificate.{LeastValues, GreatestValues, FallingRank, Choice, Choices, least-number, least-none}
+use Rattle.graph.proofs.Certificate.{greatest-number, endless-by-places, greatest-endless, FoundBy, Tree, tree-stranded, greatest-stranded}
 
 abbrev g : Graph
 g = P1 .plan
@@ -136,3 +142,80 @@ unfolding start
 P1-least-certified =
     least-number g (lows g) Valued least rank least-over least-choices 0 refl (lit< tt)
     (λ x b i. rw (start-0 x b) (omega arith))
+
+-- ---- no route: P3
+
+pub P3-none-certified : (c : Cost) → IsLeast (P3 .plan) c NONE
+unfolding start final
+P3-none-certified c = least-none (P3 .plan) c (λ s. s ≡ 1) (c .close) (record { at-final = at-final; over = λ s t u d h. absurd (not-suc-le-zero (d .listed)) }) none
+  where
+    at-final : (s : ℕ) → Final (P3 .plan) s → (s ≡ 1) × (c .close s ≤ c .close s)
+    at-final zero f = absurd (false≢true f)
+    at-final (suc zero) f = (refl, le-refl (c .close 1))
+    at-final (suc (suc s)) f = absurd (false≢true f)
+
+    none : (s : ℕ) → Begins (P3 .plan) s → s ≡ 1 → ⊥
+    none s b e = false≢true (rw e at b)
+
+-- ---- an endless walk: P4, its stack the start alone, and the transition back to it
+
+pub P4-endless-certified : (c : Cost) → IsGreatest (P4 .plan) c ENDLESS
+unfolding start final from to
+P4-endless-certified c =
+    greatest-endless (P4 .plan) c (0 ∷ []) 0
+    (endless-by-places (P4 .plan) c (λ i. 0) (0 ∷ []) refl at 0 (lit< tt) refl (λ i j l h e. omega arith))
+  where
+    at : (i : ℕ) → i < 1 → StepAt (P4 .plan) (Unfinished (P4 .plan)) (Unfinished (P4 .plan)) (λ i. 0) (0 ∷ []) i
+    at zero h = record { passes = refl; departs = record { listed = lit< tt; source = refl }; arrives = refl }
+    at (suc i) h = absurd (omega arith)
+
+-- ---- a dead end reached: 0→1, an answer, and 0→2
+
+abbrev stuck : Graph
+stuck = reached-dead-end .plan
+
+-- the states found, in this order: 0, a start, and 2, by transition 1
+abbrev FoundThere : ℕ → Type 0
+FoundThere s = (s ≡ 0) ⊎ (s ≡ 2)
+
+found : Tree stuck FoundThere (λ s. s)
+unfolding start final from to
+found = record { unfinished = unfinished; origin = origin }
+  where
+    unfinished : (s : ℕ) → FoundThere s → Unfinished stuck s
+    unfinished s (inl z) = rw z refl
+    unfinished s (inr z) = rw z refl
+
+    origin : (s : ℕ) → FoundThere s → Begins stuck s ⊎ FoundBy stuck FoundThere (λ s. s) s
+    origin s (inl z) = inl (rw z refl)
+    origin s (inr z) = inr (record { via = 1; listed = lit< tt; arrives = sym z; inside = inl refl; earlier = omega arith })
+
+-- the rank falls from 0 to 2, and nothing departs from 2
+abbrev rank-there : ℕ → ℕ
+rank-there = nth (1 ∷ 0 ∷ 0 ∷ [])
+
+falling-there : FallingRank stuck FoundThere rank-there
+unfolding start final from to
+falling-there = record { begins = begins; onward = onward }
+  where
+    begins : (s : ℕ) → Begins stuck s → Unfinished stuck s → FoundThere s
+    begins zero b u = inl refl
+    begins (suc zero) b u = absurd (false≢true b)
+    begins (suc (suc zero)) b u = inr refl
+    begins (suc (suc (suc s))) b u = absurd (false≢true b)
+
+    onward : (s t : ℕ) → FoundThere s → Departs stuck s t → Unfinished stuck (to stuck t) → FoundThere (to stuck t) × (rank-there (to stuck t) < rank-there s)
+    onward s zero i d u = absurd (true≢false u)
+    onward s (suc zero) i d u = (inr refl, rw (sym (d .source)) (lit< tt))
+    onward s (suc (suc t)) i d u = absurd (omega (arith, d .listed))
+
+pub stranded-certified : (c : Cost) → IsGreatest stuck c STRANDED
+unfolding from
+stranded-certified c =
+    let (ts, shown) = tree-stranded stuck FoundThere (λ s. s) found c 2 (inr refl) none-departs in
+    greatest-stranded stuck c FoundThere rank-there falling-there ts 0 shown
+  where
+    none-departs : (t : ℕ) → Departs stuck 2 t → ⊥
+    none-departs zero d = omega (arith, d .source)
+    none-departs (suc zero) d = omega (arith, d .source)
+    none-departs (suc (suc t)) d = omega (arith, d .listed)

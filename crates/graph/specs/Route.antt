@@ -48,7 +48,7 @@ abbrev pub total : Graph → Cost → ℕ → List ℕ → ℕ
 total g c s [] = c .close s
 total g c s (t ∷ ts) = c .step t + total g c (to g t) ts
 
--- WHAT A TRANSITION COSTS (E2): "A route's delay is the sum of its lows for a least figure ..
+-- WHAT A TRANSITION COSTS (E2 changes this, `IsGreatest` and `Shown`): "A route's delay is the sum of its lows for a least figure ..
 abbrev pub lows : Graph → Cost
 lows g = record { step = low g; close = λ s. 0 }
 

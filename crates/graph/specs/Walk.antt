@@ -30,7 +30,7 @@ arrival g s (t ∷ ts) = arrival g (to g t) ts
 abbrev pub Begins : Graph → ℕ → Type 0
 Begins g s = start g s ≡ true
 
--- HOW A WALK BEGINS (E5 changes this): "A walk is a start state followed by" its transitions, and K is asked of it
+-- HOW A WALK BEGINS (E5 changes this, and what is shown): "A walk is a start state followed by" its transitions, and K is asked of it
 abbrev pub FromStart : {A : Type 0} → Graph → (ℕ → A → Type 0) → ℕ → A → Type 0
 FromStart g K s ts = Begins g s × K s ts
 
