@@ -5,6 +5,7 @@
 
 use std::alloc::{alloc, dealloc, Layout};
 use std::ffi::{c_int, c_void};
+use std::hint::black_box;
 use std::ptr::null_mut;
 use std::slice;
 
@@ -14,7 +15,7 @@ use reference::proved::{quote, OUT, WALKS};
 use reference::proved::{LentPlan, ACCEPTED};
 use reference::rng::print;
 #[cfg(feature = "quotations")]
-use reference::{quotation::RECORD_OCTETS, FIGURES};
+use reference::{quotation::RECORD_OCTETS, Figure, FIGURES};
 use reference::{Plan, Transition, MAX_STATES, MAX_TRANSITIONS};
 
 const STACK: usize = 1 << 20;
@@ -71,7 +72,7 @@ fn used<F: FnMut() + Send>(mut call: F) -> usize {
     }
 }
 
-/// A plan of the largest size: a chain with steps back and forth if `has_loops`, else only forth.
+/// A plan of the largest size: a chain, with steps back in it if `has_loops`.
 fn full(has_loops: bool) -> Plan {
     let mut marks = vec![1; MAX_STATES];
     marks[0] = 4;
@@ -92,59 +93,85 @@ fn full(has_loops: bool) -> Plan {
     }
 }
 
-fn lend(plan: &Plan) -> LentPlan {
-    let mut lent = LentPlan::zeroed();
-    lent.hold(plan);
-    lent
+/// Plans with figures of every kind.
+fn plans() -> Vec<Plan> {
+    let (chain, loops) = (full(false), full(true));
+    let mut stranded = chain.clone();
+    stranded.marks[MAX_STATES - 1] = 0;
+    vec![Plan::fresh(1).unwrap(), chain, loops, stranded]
 }
 
-/// Runs the call on each plan, accepted, and prints and asserts the most that it used.
-fn measure(name: &str, plans: &[Plan], call: impl Fn(LentPlan, &Plan) -> u32 + Sync) {
+/// The most stack that the call uses on a plan, where it is accepted.
+fn most(call: impl Fn(LentPlan, &Plan) -> u32 + Sync) -> usize {
     let idle = used(|| {});
     let of_plan = |plan: &Plan| {
-        let lent = lend(plan);
+        let mut lent = LentPlan::zeroed();
+        lent.hold(plan);
         let mut answer = 0;
         let depth = used(|| answer = call(lent.clone(), plan));
-        assert!(answer >= ACCEPTED, "{name} answered {answer}");
-        depth - idle
+        (answer >= ACCEPTED).then_some(depth - idle)
     };
-    let depth = plans.iter().map(of_plan).max().expect("there are plans");
-    print(&format!("  {name:14} {depth:7} octets of stack\n"));
-    assert!(depth <= LIMIT, "{name} used {depth} octets of stack");
+    let depths: Vec<usize> = plans().iter().filter_map(of_plan).collect();
+    assert!(depths.len() >= 3, "most plans are accepted");
+    depths.into_iter().max().unwrap_or(0)
+}
+
+#[test]
+fn the_measure_sees_a_large_frame() {
+    let size = 200 << 10;
+    let depth = used(|| {
+        black_box([1u8; 200 << 10]);
+    });
+    assert!(depth >= size && depth < size + (32 << 10), "{depth} octets");
 }
 
 #[test]
 fn every_call_stays_within_128_kib() {
-    let plans = [Plan::fresh(1).unwrap(), full(false), full(true)];
-    measure("nothing", &plans, |_, _| ACCEPTED);
-    measure("fresh", &plans, |mut lent, _| lent.fresh(MAX_STATES));
-    measure("mark", &plans, |mut lent, _| lent.mark(0, 7));
-    measure("join", &plans, |mut lent, _| {
+    let fresh = most(|mut lent, _| lent.fresh(MAX_STATES));
+    let mark = most(|mut lent, _| lent.mark(0, 7));
+    let unjoin = most(|mut lent, _| lent.unjoin(0));
+    let join = most(|mut lent, plan| {
+        // A full plan has room once its last transition is gone.
         lent.counts[1] = lent.counts[1].min(MAX_TRANSITIONS - 1);
+        let (from, to, low, high) = (0, plan.marks.len() - 1, 0, 0);
         lent.join(Transition {
-            from: 0,
-            to: 0,
-            low: 0,
-            high: 0,
+            from,
+            to,
+            low,
+            high,
         })
     });
-    measure("unjoin", &plans[1..], |mut lent, _| lent.unjoin(0));
-    measure("read", &plans, |mut lent, plan| lent.read(&encode(plan)));
-    measure("write", &plans, |lent, _| {
-        lent.write(&mut vec![0; length(MAX_STATES, MAX_TRANSITIONS)])
-    });
+    let read = most(|mut lent, plan| lent.read(&encode(plan)));
+    let write = most(|lent, _| lent.write(&mut vec![0; length(MAX_STATES, MAX_TRANSITIONS)]));
+    #[cfg_attr(not(feature = "quotations"), allow(unused_mut))]
+    let mut depths = vec![
+        ("fresh", fresh),
+        ("mark", mark),
+        ("join", join),
+        ("unjoin", unjoin),
+        ("read", read),
+        ("write", write),
+    ];
     #[cfg(feature = "quotations")]
-    {
-        for figure in FIGURES {
-            measure(figure.name(), &plans, |lent, _| {
-                lent.quote(figure, &mut vec![0; MAX_STATES], &mut vec![0; OUT])
-            });
-        }
-        measure("record", &plans, |lent, _| {
-            lent.record(&mut vec![0; RECORD_OCTETS])
-        });
-        measure("quote", &plans, |_, plan| {
-            quote(&encode(plan), &mut vec![0; WALKS], &mut vec![0; 4 * OUT])
-        });
+    depths.extend(quotations());
+
+    for (name, depth) in &depths {
+        print(&format!("  {name:14} {depth:7} octets of stack\n"));
     }
+    for (name, depth) in depths {
+        assert!(depth <= LIMIT, "{name} used {depth} octets of stack");
+    }
+}
+
+#[cfg(feature = "quotations")]
+fn quotations() -> Vec<(&'static str, usize)> {
+    let of_figure = |figure: Figure| {
+        let depth = most(|lent, _| lent.quote(figure, &mut vec![0; MAX_STATES], &mut vec![0; OUT]));
+        (figure.name(), depth)
+    };
+    let mut depths = FIGURES.map(of_figure).to_vec();
+    let record = most(|lent, _| lent.record(&mut vec![0; RECORD_OCTETS]));
+    let quote = most(|_, plan| quote(&encode(plan), &mut vec![0; WALKS], &mut vec![0; 4 * OUT]));
+    depths.extend([("record", record), ("quote", quote)]);
+    depths
 }

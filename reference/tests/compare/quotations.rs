@@ -4,12 +4,13 @@ use reference::image::decode;
 use reference::kinds::Kinds;
 use reference::proved::{self, LentPlan, ACCEPTED, COUNTS, FIELDS, MARKS, OUT, SHORT_SLICE, WALKS};
 use reference::rng::{Case, Rng};
-use reference::{rounds, Plan, Refusal, Value, FIGURES, MAX_STATES, MAX_TRANSITIONS};
+use reference::{rounds, Plan, Refusal, Transition, Value, FIGURES, MAX_STATES, MAX_TRANSITIONS};
 
 use crate::calls::run_list;
 use crate::edges::{breaks, p1, random};
 use crate::generate;
 use crate::library;
+use crate::pair::{Call, Pair};
 use crate::tally::Tally;
 use crate::vectors::P1;
 
@@ -40,6 +41,38 @@ fn lists_of_calls_then_quotations() {
     ));
     kinds.assert_covers();
     tally.assert_covers(&["fresh", "mark", "join", "unjoin", "read", "write"]);
+}
+
+/// P10, made by calls.
+#[test]
+fn the_chain_by_calls() {
+    let mut rng = Rng::of_test("the_chain_by_calls", SEED);
+    let mut pair = Pair::fresh(&mut rng, MAX_STATES);
+    assert_eq!(pair.run(&Call::Fresh(513)), Refusal::StateCount.number());
+    let step = |from, high| {
+        let (to, low) = (from + 1, 2047);
+        Call::Join(Transition {
+            from,
+            to,
+            low,
+            high,
+        })
+    };
+    for from in 0..511 {
+        assert_eq!(pair.run(&step(from, 2048)), Refusal::Duration.number());
+        assert_eq!(pair.run(&step(from, 2047)), ACCEPTED);
+    }
+    assert_eq!(pair.run(&Call::Mark(0, 4)), ACCEPTED);
+    assert_eq!(pair.run(&Call::Mark(511, 2)), ACCEPTED);
+    let delay = Value::Number(1_046_017);
+    let values = [delay, delay, Value::Number(0), Value::Number(0)];
+    library::compare(&mut rng, pair.lent(), pair.plan(), &values);
+    for (figure, value) in FIGURES.into_iter().zip(values) {
+        let (mut walk, mut out) = (vec![0; 512], [0; OUT]);
+        assert_eq!(pair.lent().quote(figure, &mut walk, &mut out), ACCEPTED);
+        assert_eq!(out, [0, value.figure(), 511, 0]);
+        assert_eq!(walk[..511], (0..511).collect::<Vec<u16>>());
+    }
 }
 
 #[test]

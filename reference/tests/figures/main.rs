@@ -14,6 +14,8 @@ mod lent;
 #[cfg(feature = "quotations")]
 mod library;
 mod means;
+#[cfg(feature = "program")]
+mod program;
 mod random;
 mod shapes;
 mod small;

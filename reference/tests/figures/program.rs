@@ -1,0 +1,111 @@
+//! The program `quote`, from standard input to standard output.
+
+use std::env;
+use std::io::Write;
+use std::path::{Path, PathBuf};
+use std::process::{Command, Stdio};
+
+use reference::check::check;
+use reference::image::{decode, encode};
+use reference::rng::{print, Case};
+use reference::{rounds, text, Plan, FIGURES, MAX_STATES, MAX_TRANSITIONS};
+
+use crate::known::{known, p10, P1_LINES};
+use crate::shapes::SHAPES;
+use crate::vectors::P1;
+
+const SEED: u64 = 0x0000_90CE;
+const PLANS: u64 = 260;
+
+/// The program, where `rt ci` builds it or `RT_QUOTE` says.
+fn program() -> PathBuf {
+    let here = Path::new(env!("CARGO_MANIFEST_DIR"));
+    match env::var_os("RT_QUOTE") {
+        Some(path) => here.join(path),
+        None => here.join("../target/bin/quote"),
+    }
+}
+
+/// What the program prints for the octets.
+fn printed(octets: &[u8]) -> String {
+    let mut child = Command::new(program())
+        .stdin(Stdio::piped())
+        .stdout(Stdio::piped())
+        .spawn()
+        .expect("`rt check quote` at the root of the repository builds the program");
+    let mut input = child.stdin.take().expect("it was asked for");
+    // The program may stop reading where the input is longer than any image.
+    let _ = input.write_all(octets);
+    drop(input);
+    let output = child.wait_with_output().expect("the program ends");
+    String::from_utf8(output.stdout).expect("the program prints text")
+}
+
+/// Asserts that the program prints four lines as document 01 has them, right ones.
+fn assert_quoted(plan: &Plan) {
+    let printed = printed(&encode(plan));
+    let lines: Vec<&str> = printed.split_inclusive('\n').collect();
+    assert_eq!(lines.len(), FIGURES.len(), "{printed:?}");
+    for (figure, line) in FIGURES.into_iter().zip(lines) {
+        let shown = text::parse(figure, line);
+        let shown = shown.unwrap_or_else(|| panic!("{line:?} of {plan:?}"));
+        assert_eq!(shown.value, rounds::quote(plan, figure).value, "{plan:?}");
+        assert_eq!(check(plan, figure, &shown), Ok(()), "{line:?} of {plan:?}");
+    }
+}
+
+#[test]
+fn the_program_quotes_known_plans() {
+    assert_eq!(printed(&P1), P1_LINES);
+    for (_, plan, _) in known() {
+        assert_quoted(&plan);
+    }
+    let octets = encode(&p10());
+    assert_eq!(printed(&octets), text::quote(&octets));
+}
+
+#[test]
+fn the_program_quotes_random_plans() {
+    print(&format!("the program: seed {SEED:#x}, {PLANS} plans\n"));
+    for number in 0..PLANS {
+        let case = Case { seed: SEED, number };
+        let mut rng = case.rng();
+        let shape = &SHAPES[number as usize % SHAPES.len()];
+        let n = rng.pick(&[8, 20, 100, MAX_STATES]);
+        assert_quoted(&shape.draw(&mut rng, n, 4 * n));
+    }
+}
+
+#[test]
+fn the_program_refuses() {
+    let full = encode(&Plan {
+        marks: vec![0; MAX_STATES],
+        transitions: vec![p10().transitions[0]; MAX_TRANSITIONS],
+    });
+    let mut inputs: Vec<Vec<u8>> = (0..P1.len()).map(|length| P1[..length].to_vec()).collect();
+    for more in [1, 2, 5, 100_000] {
+        inputs.push([&P1[..], &vec![0; more]].concat());
+        inputs.push([&full[..], &vec![0; more]].concat());
+    }
+    inputs.push(full[..full.len() - 1].to_vec());
+    // 513 states, a version of 2, no states, 2,049 transitions, a pad bit, a spare bit, a bad
+    // state number and a low above its high.
+    inputs.push([&[0x18, 0x04, 0x00, 0x00], &[0; 513][..]].concat());
+    inputs.push([&[0x20], &P1[1..]].concat());
+    inputs.push(vec![0x10, 0x00, 0x00, 0x00]);
+    inputs.push([&[0x10, 0x06, 0x00, 0x40], &[0; 1 + 5 * 2049][..]].concat());
+    inputs.push([&P1[..3], &[0x01], &P1[4..]].concat());
+    inputs.push([&P1[..4], &[0x81], &P1[5..]].concat());
+    inputs.push([&P1[..8], &[0x02], &P1[9..]].concat());
+    inputs.push([&P1[..12], &[0x00], &P1[13..]].concat());
+    let mut numbers: Vec<u32> = Vec::new();
+    for octets in inputs {
+        let refusal = decode(&octets).expect_err("none of them is an image");
+        let line = format!("refused {}\n", refusal.number());
+        assert_eq!(printed(&octets), line, "{} octets", octets.len());
+        numbers.push(refusal.number());
+    }
+    numbers.sort_unstable();
+    numbers.dedup();
+    assert_eq!(numbers, [1, 2, 3, 4, 5, 6, 7, 8]);
+}
