@@ -4,7 +4,7 @@
 --    forever: walk on to place k, be at place j again, and so on. The place that the endless walk is at goes up by one,
 --    and from k - 1 back to j (`next`).
 -- 2. An endless walk has a walk of every length, its first k transitions (`run-walk`); and a sequence of transitions
---    of which that is so is an endless walk (`endless-of`). The one of 1 has the walk itself for its first (`run-round`).
+--    of which that is so is an endless walk (`endless-of`). The first k of the one in 1 are the walk itself (`run-round`).
 -- 3. So a plan of n states has an endless walk exactly when n transitions can be walked from a start through unfinished
 --    states: by 2 one way; and by 1 the other, since n + 1 states below n hold a repeat. Up to the first repeat, that
 --    walk is what 01 asks to be shown for ENDLESS (`repeat-shown`).
@@ -22,7 +22,7 @@ use lib.ListN.{length, take}
 use lib.Seq.{length-take-le, take-take}
 use borrow.Author.Tests.{eqb-true, eqb-false, ne-eqb}
 use Rattle.graph.specs.Graph.{Graph, states, Unfinished, Closed}
-use Rattle.graph.specs.Walk.{Begins, WalkTo, visits, arrival, UnfinishedFrom, UnfinishedWalk, Different}
+use Rattle.graph.specs.Walk.{Begins, WalkTo, visits, arrival, UnfinishedFrom, Different}
 use Rattle.graph.specs.Walk.{reached, EndlessFrom, EndlessWalk}
 use Rattle.graph.specs.Route.{Cost}
 use Rattle.graph.specs.Figure.{ENDLESS, Shown}

@@ -3,7 +3,7 @@
 -- those before it do not, whatever holds of those after it, and the call is accepted where none holds. Document 01: "0 comes before the rest in every call", "In mark: 7, 12", "In join: 7, 8, 9", and
 -- read's order.
 -- Assumes nothing.
-use mathlib.Core.Bool.{Bool, true, false, not, _&&_}
+use mathlib.Core.Bool.{true, false}
 use mathlib.Core.List.{List, [], _∷_}
 use mathlib.Core.Path.{_≡_, refl}
 use Prim.Native.Nat.{ℕ}
@@ -12,9 +12,9 @@ use lib.ListN.{length}
 use Rattle.field.specs.Field.{pack, octetsOf, bits, bitsOf, bitsOfAll, widthOfAll, number, fieldAt}
 use Rattle.graph.specs.Known.{P1, plan, join}
 use Rattle.graph.specs.Graph.{Graph, State, Transition, states, count}
-use Rattle.rules.specs.Image.{image, imageFields, fieldsOfEach, headerRule, statesIn, transitionsIn, readImage, imageLength, versionOf, stateCountOf, transitionCountOf, padOf, stateAt, checked}
+use Rattle.rules.specs.Image.{image, imageFields, fieldsOfEach, headerRule, statesIn, transitionsIn, readImage, imageLength, versionOf, stateCountOf, transitionCountOf, padOf, checked}
 use Rattle.rules.specs.Limits.{within, stateCountOk, transitionCountOk, marksOk, endsOk, durationsOk}
-use Rattle.rules.specs.Refusal.{Result, accepted, refused, collect}
+use Rattle.rules.specs.Refusal.{accepted, refused, collect}
 use Rattle.rules.specs.Rules.{freshRule, markRule, joinRule, unjoinRule, readRule, writeRule, freshGraph, withMark, withTransition, without}
 
 -- ---- P1 and the 28 octets of "Plans with known figures"

@@ -6,13 +6,13 @@ use mathlib.Core.Bool.{Bool, true}
 use mathlib.Core.List.{List, [], _∷_, _++_, append-assoc}
 use mathlib.Core.Path.{_≡_, refl, sym, ap, ap₂, _∙_}
 use Prim.Native.Nat.{ℕ, zero, suc, _+_, _*_, _≤_}
-use native.Mathlib.Nat.{mul-zero, mul-suc, add-zero}
+use native.Mathlib.Nat.{mul-zero}
 use native.Mathlib.Omega.{arith}
 use lib.ListN.{length, take, drop}
 use lib.Seq.{drop-drop, drop-at, take-add}
 use Rattle.field.specs.Field.{Field, bitsOfAll, widthOfAll}
 use Rattle.field.proofs.Pack.{length-bitsOfAll, bitsOfAll-append, widthOfAll-append}
-use Rattle.rules.specs.Refusal.{Result, accepted, refused, _>>=_, collect}
+use Rattle.rules.specs.Refusal.{Result, accepted, _>>=_, collect}
 use Rattle.rules.specs.Limits.{all}
 use Rattle.rules.specs.Image.{fieldsOfEach}
 use Rattle.rules.proofs.Results.{and-true, both-true, bind-accepted}

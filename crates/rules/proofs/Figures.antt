@@ -10,7 +10,7 @@ use lib.ListN.{length}
 use native.Mathlib.Omega.{arith}
 use Rattle.graph.specs.Compute.{least, greatest}
 use Rattle.graph.specs.Figure.{Figure, number, IsLeast, IsGreatest, Shown}
-use Rattle.graph.specs.Graph.{Graph, Transition, states, count, Closed, transition, to, low, high}
+use Rattle.graph.specs.Graph.{Graph, states, count, Closed, transition, to, low, high}
 use Rattle.graph.specs.Route.{Cost, lows, highs, counts}
 use Rattle.graph.proofs.Bound.{least-within, greatest-within, least-delay-le, greatest-delay-le, least-count-le, greatest-count-le}
 use Rattle.graph.proofs.Greatest.{greatest-is, greatest-unique}
@@ -19,7 +19,7 @@ use Rattle.rules.specs.Calls.{Call, runFresh}
 use Rattle.rules.specs.Limits.{within, stateCountOk, transitionOk}
 use Rattle.rules.specs.Rules.{freshGraph}
 use Rattle.rules.proofs.Kept.{fresh-within, run-within}
-use Rattle.rules.proofs.ReadWrite.{Limited, limited, Bounded, bounded}
+use Rattle.rules.proofs.ReadWrite.{limited, Bounded, bounded}
 use Rattle.rules.proofs.Results.{all-getD}
 
 module _ (g : Graph) (w : within g ≡ true) where

@@ -1,25 +1,23 @@
 -- Every call keeps a plan within the limits: fresh makes one, each event that is accepted leaves one, and a refused one leaves the plan. So
 -- every plan that a list of calls from a fresh plan comes to is within the limits.
 -- Assumes nothing.
-use mathlib.Core.Bool.{Bool, true, false, not, _&&_}
+use mathlib.Core.Bool.{true, not}
 use mathlib.Core.List.{List, [], _∷_, _++_}
-use mathlib.Core.Path.{_≡_, refl, sym, ap, ap₂, _∙_}
-use Prim.Native.Nat.{ℕ, zero, suc, _+_, _-_, _≤_, _<_, min}
-use native.Mathlib.Nat.{min-le-left, min-le-right}
+use mathlib.Core.Path.{_≡_, refl, ap, ap₂, _∙_}
+use Prim.Native.Nat.{ℕ, suc, _+_, _-_, _<_, min}
 use native.Mathlib.Omega.{arith}
-use lib.Dec.{leb, ltb}
+use lib.Dec.{leb}
 use lib.ListN.{length, take, drop, set, replicate, length-append, length-take, length-drop, length-set, length-replicate}
 use borrow.Author.Tests.{leb-true, leb-false}
 use Rattle.graph.specs.Graph.{Graph, Transition, marked, states, count}
-use Rattle.field.specs.Field.{Octets}
-use Rattle.rules.specs.declared.Refusal.the-variants.{PlanLimits, StateCount, StateNumber, ListFull, TransitionNumber, MarksValue}
+use Rattle.rules.specs.declared.Refusal.the-variants.{PlanLimits, StateNumber, ListFull, TransitionNumber, MarksValue}
 use Rattle.rules.specs.Refusal.{Result, accepted, refused, _>>=_, _>>_, refuseIf}
 use Rattle.rules.specs.Limits.{all, within, stateCountOk, marksOk, stateOk, transitionOk}
 use Rattle.rules.specs.Image.{checked, readImage}
-use Rattle.rules.specs.Rules.{givenPlan, freshGraph, withMark, withTransition, without, freshRule, markRule, joinRule, unjoinRule, readRule, next}
-use Rattle.rules.specs.Calls.{Call, mark, join, unjoin, read, step, Run, run}
-use Rattle.rules.proofs.Results.{never, and-true, bind-accepted, then-accepted, ground-false, holds, all-append, all-take, all-drop, all-set, all-replicate}
-use Rattle.rules.proofs.ReadWrite.{Limited, limited, within-limits, ok-checked, read-within}
+use Rattle.rules.specs.Rules.{givenPlan, freshGraph, withMark, withTransition, without, markRule, joinRule, unjoinRule, readRule, next}
+use Rattle.rules.specs.Calls.{Call, mark, join, unjoin, read, step, run}
+use Rattle.rules.proofs.Results.{never, and-true, then-accepted, ground-false, holds, all-append, all-take, all-drop, all-set, all-replicate}
+use Rattle.rules.proofs.ReadWrite.{limited, within-limits, ok-checked, read-within}
 
 -- ---- each event
 

@@ -3,25 +3,25 @@
 -- transition taken has its fields' bits where they were taken, spare and pad bits are zero and the length is what the counts give; so the
 -- octets' bits are those of the plan's fields, one after another, and the image is the octets.
 -- Assumes nothing.
-use mathlib.Core.Bool.{Bool, true, false, not, _&&_}
+use mathlib.Core.Bool.{Bool, true, not, _&&_}
 use mathlib.Core.List.{List, [], _∷_, _++_, append-assoc, append-nil}
-use mathlib.Core.Path.{_≡_, refl, sym, ap, ap₂, _∙_, subst}
-use Prim.Native.Nat.{ℕ, zero, suc, _+_, _-_, _*_, _/_, _%_, _^_, _≤_, _<_}
+use mathlib.Core.Path.{_≡_, refl, sym, ap, ap₂, _∙_}
+use Prim.Native.Nat.{ℕ, _+_, _-_, _*_, _/_, _%_, _^_, _≤_, _<_}
 use native.Mathlib.Nat.{zero-add, le-antisymm, mod-lt, mod-eq-of-lt, div-add-mod', div-div-eq-div-mul}
 use native.Mathlib.Omega.{arith}
 use lib.Dec.{leb, ltb, eqb}
-use lib.ListN.{length, getD, take, drop, length-append, take-append-drop, length-drop}
-use lib.Seq.{take-length, take-all, drop-drop, drop-at, take-add}
-use borrow.Author.Tests.{leb-true, ltb-true, ltb-false, eqb-true, le-leb, lt-ltb, le-ltb, eq-eqb}
+use lib.ListN.{length, getD, take, drop, take-append-drop, length-drop}
+use lib.Seq.{take-all, drop-drop, drop-at}
+use borrow.Author.Tests.{leb-true, ltb-true, ltb-false, eqb-true, le-leb, le-ltb}
 use Rattle.graph.specs.Graph.{Graph, State, Transition, marked, states, count}
-use Rattle.field.specs.Field.{Field, AllFit, Octets, fieldAt, bits, bitsOfAll, widthOfAll, unpack, pack, putAll, widths}
+use Rattle.field.specs.Field.{Field, AllFit, Octets, fieldAt, bits, bitsOfAll, widthOfAll, unpack, putAll}
 use Rattle.field.proofs.Bits.{length-bits}
 use Rattle.field.proofs.Laws.{field-lt}
 use Rattle.field.proofs.Pack.{unpack-of-bits, bits-of-unpack, bitsOfAll-append, widthOfAll-append, length-bitsOfAll, length-pack, bits-pack, pack-octets, pack-of-bits, putAll-append, putAll-pack}
 use Rattle.rules.specs.declared.Refusal.the-variants.{ImageShort, ImageLong, Version, StateCount, TransitionCount, SpareBits, StateNumber, Duration}
-use Rattle.rules.specs.Refusal.{Result, accepted, refused, _>>=_, _>>_, refuseIf, collect}
+use Rattle.rules.specs.Refusal.{Result, accepted, _>>=_, _>>_, refuseIf}
 use Rattle.rules.specs.Limits.{all, within, stateCountOk, transitionCountOk, stateOk, endsOk, durationsOk, transitionOk}
-use Rattle.rules.specs.Image.{field, headerFields, stateFields, transitionFields, fieldsOfEach, imageFields, image, imageLength, versionOf, stateCountOf, transitionCountOf, padOf, stateAt, transitionAt, checked, statePlace, transitionPlace, headerRule, statesIn, transitionsIn, readImage}
+use Rattle.rules.specs.Image.{field, headerFields, stateFields, transitionFields, fieldsOfEach, imageFields, image, imageLength, versionOf, stateCountOf, transitionCountOf, padOf, stateAt, transitionAt, checked, headerRule, statesIn, transitionsIn, readImage}
 use Rattle.rules.proofs.Results.{and-true, both-true, bind-accepted, then-accepted, ground-false, holds}
 use Rattle.rules.proofs.Fields.{width-each, collect-of-bits, bits-of-collect}
 

@@ -1,13 +1,13 @@
 -- Results that are accepted: what came before was accepted, and no ground held. Assumes nothing.
 use mathlib.Core.Bool.{Bool, true, false, not, _&&_}
 use mathlib.Core.List.{List, [], _∷_, _++_}
-use mathlib.Core.Path.{_≡_, refl, sym, ap, _∙_}
+use mathlib.Core.Path.{_≡_, refl, sym}
 use Prim.Native.Nat.{ℕ, zero, suc, _+_, _<_}
 use native.Mathlib.Nat.{not-suc-le-zero, le-of-suc-le-suc}
 use native.Mathlib.Omega.{arith}
 use lib.ListN.{length, getD, take, drop, set, replicate}
 use Rattle.rules.specs.declared.Refusal.{Refusal}
-use Rattle.rules.specs.Refusal.{number, Result, accepted, refused, _>>=_, _>>_, refuseIf, collect, answerOf}
+use Rattle.rules.specs.Refusal.{number, Result, accepted, refused, _>>=_, _>>_, refuseIf, answerOf}
 use Rattle.rules.specs.Limits.{all}
 
 -- ---- accepted and refused results
