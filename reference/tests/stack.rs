@@ -118,11 +118,11 @@ fn most(call: impl Fn(LentPlan, &Plan) -> u32 + Sync) -> usize {
 
 #[test]
 fn the_measure_sees_a_large_frame() {
-    let size = 200 << 10;
+    assert!(used(|| {}) < 32 << 10);
     let depth = used(|| {
         black_box([1u8; 200 << 10]);
     });
-    assert!(depth >= size && depth < size + (32 << 10), "{depth} octets");
+    assert!(depth >= 200 << 10, "{depth} octets");
 }
 
 #[test]

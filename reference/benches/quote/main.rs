@@ -24,21 +24,22 @@ const LARGE: usize = 512;
 const ROUNDS: usize = 101;
 const CALLS: u32 = 20;
 
-/// The median times of one call, in microseconds.
+/// The times of one call in microseconds, those of the quickest rounds.
 struct Times {
     proved: Option<f64>,
     baseline: f64,
 }
 
 fn main() {
-    println!("Quoting from an image: microseconds by call, medians of {ROUNDS} rounds of {CALLS}");
+    println!("Quoting from an image: microseconds by call, in the quickest of {ROUNDS} rounds of");
     println!(
-        "calls each, by turns. {SMALL} states with {} transitions, then {LARGE} with {},",
+        "{CALLS} calls, by turns. {SMALL} states with {} transitions, then {LARGE} with {},",
         4 * SMALL,
         4 * LARGE
     );
     println!("in random order (seed {SEED:#x}). The chain is filled up with further transitions");
-    println!("between its neighbours. Growth from the small size to the large: 8 is linear.");
+    println!("between its neighbours, the layers with further ones from each to the next.");
+    println!("Growth from the small size to the large: 8 is linear.");
     println!(
         "{:23} {:>8} {:>8} {:>6} {:>8} {:>8} {:>6} {:>7} {:>7}",
         "", "proved", "baseline", "ratio", "proved", "baseline", "ratio", "growth", "(base)"
@@ -80,30 +81,44 @@ fn column(number: Option<f64>, width: usize) -> String {
 
 /// Times both on an image, by turns.
 fn time(octets: &[u8]) -> Times {
-    let mut baseline_walks = [[0; MAX_STATES]; 4];
-    let mut baseline_answers = [[0; 4]; 4];
-    #[cfg(feature = "quotations")]
-    let (mut walks, mut out) = ([0; WALKS], [0; 4 * OUT]);
-    let mut baseline_times = Vec::new();
-    let mut proved_times = Vec::new();
-    for _ in 0..ROUNDS {
-        baseline_times.push(microseconds(|| {
-            let octets = black_box(octets);
-            let answer = baseline::quote(octets, &mut baseline_walks, &mut baseline_answers);
-            assert_eq!(answer, Ok(()));
-            black_box((&baseline_walks, &baseline_answers));
-        }));
-        #[cfg(feature = "quotations")]
-        proved_times.push(microseconds(|| {
-            let answer = proved::quote(black_box(octets), &mut walks, &mut out);
-            assert_eq!(answer, ACCEPTED);
-            black_box((&walks, &out));
-        }));
-    }
+    let rounds: Vec<Times> = (0..ROUNDS)
+        .map(|_| Times {
+            proved: time_proved(octets),
+            baseline: time_baseline(octets),
+        })
+        .collect();
+    let baseline = rounds.iter().map(|times| times.baseline);
     Times {
-        proved: median(&mut proved_times),
-        baseline: median(&mut baseline_times).expect("there were rounds"),
+        proved: rounds
+            .iter()
+            .filter_map(|times| times.proved)
+            .reduce(f64::min),
+        baseline: baseline.fold(f64::MAX, f64::min),
     }
+}
+
+#[cfg(feature = "quotations")]
+fn time_proved(octets: &[u8]) -> Option<f64> {
+    let (mut walks, mut out) = ([0; WALKS], [0; 4 * OUT]);
+    Some(microseconds(|| {
+        let answer = proved::quote(black_box(octets), &mut walks, &mut out);
+        assert_eq!(answer, ACCEPTED);
+        black_box((&walks, &out));
+    }))
+}
+
+#[cfg(not(feature = "quotations"))]
+fn time_proved(_: &[u8]) -> Option<f64> {
+    None
+}
+
+fn time_baseline(octets: &[u8]) -> f64 {
+    let (mut walks, mut answers) = ([[0; MAX_STATES]; 4], [[0; 4]; 4]);
+    microseconds(|| {
+        let answer = baseline::quote(black_box(octets), &mut walks, &mut answers);
+        assert_eq!(answer, Ok(()));
+        black_box((&walks, &answers));
+    })
 }
 
 /// The time of one call, taken over `CALLS` of them.
@@ -113,9 +128,4 @@ fn microseconds(mut call: impl FnMut()) -> f64 {
         call();
     }
     begin.elapsed().as_secs_f64() * 1e6 / f64::from(CALLS)
-}
-
-fn median(times: &mut [f64]) -> Option<f64> {
-    times.sort_by(f64::total_cmp);
-    times.get(times.len() / 2).copied()
 }
