@@ -1,18 +1,18 @@
 -- Lists that a function tabulates: their elements, their parts, and a test of them all. Assumes nothing.
 use mathlib.Core.Bool.{Bool, true, false, _&&_}
-use mathlib.Core.List.{List, [], _∷_, _++_}
+use mathlib.Core.List.{List, [], _∷_, _++_, map, map-append}
 use mathlib.Core.Logic.{_≢_, _⊎_, inl, inr}
 use mathlib.Core.Path.{_≡_, refl, sym, ap, ap₂, _∙_}
 use Prim.Native.Nat.{ℕ, zero, suc, _+_, _-_, _≤_, _<_}
 use native.Mathlib.Nat.{not-suc-le-zero, eq-or-lt-of-le, le-of-suc-le-suc}
 use native.Mathlib.Omega.{arith}
-use lib.ListN.{length, getD, take, drop, set, length-append, length-drop, length-set, List·getD-append}
-use lib.Seq.{ext-getD, getD-at, getD-set-same, getD-set-other, getD-take, getD-drop, getD-append-add, length-take-le, paste, paste-suc, length-paste-head}
+use lib.ListN.{length, getD, take, drop, set, length-append, length-drop, length-set, take-append-drop, List·getD-append}
+use lib.Seq.{ext-getD, getD-at, getD-set-same, getD-set-other, getD-take, getD-drop, getD-append-add, length-take-le, drop-set-lt, paste, paste-suc, length-paste-head}
 use native.Mathlib.Decide.{decLt, ℕ-discrete}
 use native.Mathlib.Numerals.{add-one}
 use Rattle.rules.specs.Limits.{all}
 use Rattle.rules.proofs.Results.{all-append}
-use Rattle.arrays.specs.Tables.{tabulate, transition, transitionOf}
+use Rattle.arrays.specs.Tables.{tabulate, transition, transitionOf, Later, over}
 
 same-or-not : (a b : ℕ) → (a ≡ b) ⊎ (a ≢ b)
 same-or-not a b = go (ℕ-discrete a b)
@@ -89,6 +89,33 @@ module _ {A : Type 0} where
       go : (i < n → all test (tabulate n f) ≡ false) → (i ≡ n) ⊎ (i < n) → all test (tabulate n f ++ (f n ∷ [])) ≡ false
       go ih (inl p) = all-last test (tabulate n f) (f n) (ap (λ (k : ℕ). test (f k)) (sym p) ∙ e)
       go ih (inr l) = all-front test (tabulate n f) (f n ∷ []) (ih l)
+
+-- the elements of an array from the front are its first part
+pub tabulate-front : (n : ℕ) (l : List ℕ) → n ≤ length l → tabulate n (λ (i : ℕ). getD l i 0) ≡ take n l
+tabulate-front n l h = tabulate-of 0 (take n l) n (λ (i : ℕ). getD l i 0) (length-take-le n l h) (λ i k. getD-take n l i 0 k)
+
+pub map-tabulate : {A B : Type 0} (h : A → B) (n : ℕ) (f : ℕ → A) → map h (tabulate n f) ≡ tabulate n (λ (i : ℕ). h (f i))
+unfolding tabulate
+map-tabulate h zero f = refl
+map-tabulate {A} {B} h (suc n) f =
+    map-append h (tabulate n f) (f n ∷ []) ∙ ap {B = List B} (λ (l : List B). l ++ (h (f n) ∷ [])) (map-tabulate h n f)
+
+-- later places stay where nothing was stored, and where a store is at an earlier place
+pub later-none : (n : ℕ) (l : List ℕ) → n ≤ length l → Later n l l
+later-none n l h = record { room = h; same = refl }
+
+pub later-set : (n : ℕ) (before after : List ℕ) (i v : ℕ) → i < n → Later n before after → Later n before (set after i v)
+later-set n before after i v h l =
+    record { room = rw (length-set after i v) (l .room); same = drop-set-lt n after i v h ∙ l .same }
+
+-- an array that holds one number of each of n items, and whose later places are as they were, is those numbers over what it was
+pub over-front : {A : Type 0} (n : ℕ) (f : ℕ → A) (part : A → ℕ) (before after : List ℕ) → ((i : ℕ) → part (f i) ≡ getD after i 0) → Later n before after
+    → after ≡ over (map part (tabulate n f)) before
+over-front n f part before after e h =
+    let s : map part (tabulate n f) ≡ take n after =
+    map-tabulate part n f ∙ tabulate-same n (λ (i : ℕ). part (f i)) (λ (i : ℕ). getD after i 0) (λ i k. e i) ∙ tabulate-front n after (h .room) in
+    let l : length (map part (tabulate n f)) ≡ n = ap length s ∙ length-take-le n after (h .room) in
+    sym (take-append-drop n after) ∙ ap₂ {C = List ℕ} (λ (x y : List ℕ). x ++ y) (sym s) (h .same ∙ ap (λ (k : ℕ). drop k before) (sym l))
 
 module _ {A : Type 0} (test : A → Bool) (n : ℕ) (f : ℕ → A) where
   -- a test that holds of all of them holds of each

@@ -1,7 +1,8 @@
 -- The lists that arrays hold: a plan's states by their marks values, and its transitions by their four fields. Assumes nothing.
 use mathlib.Core.List.{List, [], _∷_, _++_}
-use Prim.Native.Nat.{ℕ, zero, suc}
-use lib.ListN.{getD}
+use Prim.Native.Nat.{ℕ, zero, suc, _≤_}
+use mathlib.Core.Path.{_≡_}
+use lib.ListN.{length, getD, drop}
 use Rattle.graph.specs.Graph.{State, Transition, marked}
 
 -- the list of f 0 up to f (n - 1)
@@ -28,3 +29,12 @@ transitionsOf m from to low high = tabulate m (transitionOf from to low high)
 -- a transition by its four numbers
 abbrev pub transition : ℕ → ℕ → ℕ → ℕ → Transition
 transition from to low high = record { from = from; to = to; low = low; high = high }
+
+-- "later places stay": an array has k places, and every place past them is as it was
+pub record Later (k : ℕ) (before after : List ℕ) : Type 0 where
+  pub room : k ≤ length after
+  pub same : drop k after ≡ drop k before
+
+-- a list at the front of an array, and every later place as it was
+abbrev pub over : List ℕ → List ℕ → List ℕ
+over xs before = xs ++ drop (length xs) before

@@ -3,8 +3,12 @@ ghost use mathlib.Core.Path.{_≡_};
 ghost use mathlib.Core.Bool.{_&&_};
 ghost use Prim.Native.Nat.{_≤_, _<_};
 ghost use lib.Dec.{leb, ltb};
-ghost use Rattle.arrays.specs.Tables.{statesOf, transitionOf, transitionsOf};
+ghost use Rattle.arrays.specs.Tables.{statesOf, transition, transitionOf, transitionsOf};
+ghost use Rattle.rules.specs.Image.{checked as checkedRule};
 ghost use Rattle.rules.specs.Limits.{all, stateCountOk, stateOk, transitionOk};
+ghost use Rattle.rules.specs.Refusal.{outcome};
+use rules::Answer;
+use rules::Refusal;
 
 // Whether a plan may have n states.
 pub fn state_count_ok(n: usize) -> bool
@@ -14,17 +18,32 @@ pub fn state_count_ok(n: usize) -> bool
 }
 
 // Whether both ends of a transition are states of a plan with n of them.
-pub fn ends_ok(n: usize, from: usize, to: usize) -> bool
+fn ends_ok(n: usize, from: usize, to: usize) -> bool
     ensures { λ r. ⌜ r ≡ (ltb from n && ltb to n) ⌝ }
 {
     if from < n { to < n } else { false }
 }
 
 // Whether a low and a high duration are within the limits.
-pub fn durations_ok(low: usize, high: usize) -> bool
+fn durations_ok(low: usize, high: usize) -> bool
     ensures { λ r. ⌜ r ≡ (leb low high && leb high 2047) ⌝ }
 {
     if low <= high { high <= 2047 } else { false }
+}
+
+// The grounds of a transition of a plan with n states, in their order: for every call that is given transitions.
+pub fn checked(n: usize, from: usize, to: usize, low: usize, high: usize) -> Answer
+    ensures { λ r. ⌜ outcome r (transition from to low high) ≡ checkedRule n (transition from to low high) ⌝ }
+{
+    let ends = ends_ok(n, from, to);
+    let durations = durations_ok(low, high);
+    if !ends {
+        return Answer::Refused(Refusal::StateNumber); // 7
+    }
+    if !durations {
+        return Answer::Refused(Refusal::Duration); // 8
+    }
+    Answer::Accepted
 }
 
 // A stored number as a machine word.

@@ -1,14 +1,14 @@
--- Copies into and out of the middle of a list: a turn of the loop that copies, the whole copy, and what stands in each part afterwards.
+-- Copies into and out of the middle of a list: a turn of the loop that copies, the whole copy, a copy behind another one, and a part.
 -- Assumes nothing.
-use mathlib.Core.List.{List, [], _∷_, _++_, append-nil}
-use mathlib.Core.Path.{_≡_, refl, sym, ap, ap₂, _∙_}
-use Prim.Native.Nat.{ℕ, zero, suc, _+_, _-_, _≤_, _<_}
-use native.Mathlib.Nat.{zero-add, add-suc}
+use mathlib.Core.List.{List, _++_, append-nil}
+use mathlib.Core.Path.{_≡_, sym, ap, ap₂, _∙_}
+use Prim.Native.Nat.{ℕ, _+_, _<_}
+use native.Mathlib.Nat.{zero-add}
 use native.Mathlib.Numerals.{add-one}
 use native.Mathlib.Omega.{arith}
-use lib.ListN.{length, getD, take, drop, set, length-drop, drop-of-length-le}
-use lib.Seq.{paste, paste-suc, paste-zero, take-paste, drop-paste, drop-drop, take-all, length-take-le, drop-at, take-at}
-use Rattle.field.proofs.Bits.{within-front, drop-take}
+use lib.ListN.{length, getD, take, drop, set, length-append, drop-of-length-le}
+use lib.Seq.{paste, paste-suc, drop-append-add, drop-drop, take-all, drop-at, take-at}
+use Rattle.arrays.specs.Tables.{over}
 
 -- a turn of the loop that copies to the places from at on
 pub paste-more : (d s : List ℕ) (at i : ℕ) → at + i < length d → i < length s → set (paste d at s i) (at + i) (getD s i 0) ≡ paste d at s (i + 1)
@@ -23,32 +23,16 @@ pub copy-all : (d s : List ℕ) (n : ℕ) → length d ≡ n → paste d 0 s n �
 copy-all d s n e =
     ap {B = List ℕ} (λ (l : List ℕ). take n s ++ l) (drop-of-length-le d {i = 0 + n} (omega (arith, zero-add n))) ∙ append-nil (take n s)
 
--- what stands in each part of a list after a copy of n elements to the places from at on
-module _ (d s : List ℕ) (at n : ℕ) (room : at + n ≤ length d) (whole : length s ≡ n) where
-  head : take (at + n) (paste d at s n) ≡ take at d ++ s
-  head =
-      take-paste d at s n (omega arith) (omega arith)
-      ∙ ap {B = List ℕ} (λ (l : List ℕ). take at d ++ l) (take-all n s (omega arith))
+-- a copy right behind what stands at the front already: both stand at the front
+pub paste-over : (d xs s : List ℕ) (at n : ℕ) → length xs ≡ at → length s ≡ n → paste (over xs d) at s n ≡ over (xs ++ s) d
+paste-over d xs s at n ex es =
+    let r : List ℕ = drop (length xs) d in
+    let l : length (xs ++ s) ≡ at + n = length-append xs s ∙ ap₂ _+_ ex es in
+    let k : drop (at + n) (xs ++ r) ≡ drop (length (xs ++ s)) d =
+    ap (λ (j : ℕ). drop (j + n) (xs ++ r)) (sym ex) ∙ drop-append-add xs r n ∙ drop-drop n (length xs) d ∙ ap (λ (j : ℕ). drop j d) (ap (λ (j : ℕ). j + n) ex ∙ sym l) in
+    ap₂ {C = List ℕ} (λ (x y : List ℕ). x ++ y ++ drop (at + n) (xs ++ r)) (take-at xs r at ex) (take-all n s (omega arith))
+    ∙ ap {B = List ℕ} (λ (x : List ℕ). xs ++ s ++ x) k
 
-  pub part-here : take n (drop at (paste d at s n)) ≡ s
-  part-here =
-      sym (within-front at n (at + n) (paste d at s n) (omega arith))
-      ∙ ap (λ (l : List ℕ). take n (drop at l)) head
-      ∙ ap (λ (l : List ℕ). take n l) (drop-at (take at d) s at (length-take-le at d (omega arith)))
-      ∙ take-all n s (omega arith)
-
-  pub part-before : (b k : ℕ) → b + k ≤ at → take k (drop b (paste d at s n)) ≡ take k (drop b d)
-  part-before b k h =
-      sym (within-front b k at (paste d at s n) h)
-      ∙ ap (λ (l : List ℕ). take k (drop b l))
-      (sym (lib.Seq.take-take at (at + n) (paste d at s n) (omega arith)) ∙ ap (λ (l : List ℕ). take at l) head
-      ∙ take-at (take at d) s at (length-take-le at d (omega arith)))
-      ∙ within-front b k at d h
-
-  pub rest-after : (b : ℕ) → at + n ≤ b → drop b (paste d at s n) ≡ drop b d
-  rest-after b h =
-      let e : at + n + (b - (at + n)) ≡ b = omega arith in
-      part (paste d at s n) e ∙ ap (λ (l : List ℕ). drop (b - (at + n)) l) (drop-paste d at s n (omega arith) (omega arith)) ∙ sym (part d e)
-    where
-      part : (l : List ℕ) → at + n + (b - (at + n)) ≡ b → drop b l ≡ drop (b - (at + n)) (drop (at + n) l)
-      part l e = sym (drop-drop (b - (at + n)) (at + n) l ∙ ap (λ (k : ℕ). drop k l) e)
+-- a part of a list, by what stands before it
+pub part : (a b r : List ℕ) (at n : ℕ) → length a ≡ at → length b ≡ n → take n (drop at (a ++ (b ++ r))) ≡ b
+part a b r at n ea eb = ap (λ (l : List ℕ). take n l) (drop-at a (b ++ r) at ea) ∙ take-at b r n eb

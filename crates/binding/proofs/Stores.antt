@@ -3,136 +3,89 @@
 -- every place as it was; so the promise of the plan's own call is the promise on the slices.
 -- Assumes nothing.
 use mathlib.Core.Bool.{Bool, true, false, _&&_}
-use mathlib.Core.List.{List, [], _∷_, _++_}
-use mathlib.Core.Path.{_≡_, refl, sym, ap, ap₂, _∙_}
-use Prim.Native.Nat.{ℕ, zero, suc, _+_, _-_, _≤_, _<_}
+use mathlib.Core.List.{List, [], _∷_, _++_, append-assoc}
+use mathlib.Core.Path.{_≡_, refl, sym, ap, _∙_}
+use Prim.Native.Nat.{ℕ, _≤_}
 use native.Mathlib.Omega.{arith}
-use lib.Dec.{leb, ltb}
-use lib.ListN.{length, getD, take, drop, set, length-set}
-use lib.Seq.{paste, length-paste, getD-set-same, getD-set-other, drop-set-lt}
 use borrow.Author.Tests.{leb-true}
+use lib.Dec.{leb, ltb}
+use lib.ListN.{length, take, drop, set, length-append}
+use lib.Seq.{paste, take-at}
 use Rattle.graph.specs.Graph.{Graph, states, count}
 use Rattle.rules.specs.declared.Answer.{Answer}
 use Rattle.rules.specs.declared.Answer.the-variants.{Accepted, Refused}
 use Rattle.rules.specs.declared.Refusal.the-variants.{PlanLimits, BufferLength}
+use Rattle.rules.specs.declared.Written.{Written}
 use Rattle.rules.specs.Image.{imageLength}
 use Rattle.rules.specs.Limits.{within}
-use Rattle.rules.specs.Refusal.{Result, accepted, refused, _>>_, refuseIf, number, answerOf, said}
+use Rattle.rules.specs.Refusal.{Result, accepted, refused, _>>_, refuseIf, number, answerOf, said, wrote}
 use Rattle.rules.specs.Rules.{givenPlan, next, writeRule, written}
-use Rattle.rules.proofs.Results.{never, and-true, then-accepted, holds, accepted-as, refused-as}
+use Rattle.rules.proofs.Results.{and-true, then-accepted, holds, accepted-as, refused-as}
 use Rattle.rules.proofs.ReadWrite.{limited}
+use Rattle.arrays.specs.Tables.{over}
 use Rattle.plan.specs.declared.Plan.{Plan}
 use Rattle.plan.specs.declared.Edited.{Edited}
-use Rattle.plan.specs.declared.Written.{Written}
-use Rattle.plan.specs.View.{view}
-use Rattle.plan.specs.Promise.{Edit, Write, wrote}
-use Rattle.binding.specs.Lent.{Roomy, roomy, Slices, slices, hasRoom, planIn, lentPlan, Later, Finished, LentEdit, LentWrite, code, lengthCode}
-use Rattle.binding.proofs.Copies.{part-here, part-before, rest-after}
+use Rattle.plan.specs.View.{view, laid}
+use Rattle.plan.specs.Promise.{Edit, Write, nextValue}
+use Rattle.plan.proofs.Values.{Sized}
+use Rattle.binding.specs.Lent.{Roomy, roomy, Slices, slices, hasRoom, planIn, storing, nextSlices, Finished, LentEdit, LentWrite, code, lengthCode}
+use Rattle.binding.proofs.Copies.{paste-over, part}
 
--- a plan value's arrays have their lengths
-pub record Sized (p : Plan) : Type 0 where
-  pub marks : length (p .marks) ≡ 512
-  pub from : length (p .from) ≡ 2048
-  pub to : length (p .to) ≡ 2048
-  pub low : length (p .low) ≡ 2048
-  pub high : length (p .high) ≡ 2048
+-- the counts set one after the other, and the four fields copied one behind another
+counts-stored : (c : List ℕ) (n k : ℕ) → 2 ≤ length c → set (set c 0 n) 1 k ≡ over (n ∷ k ∷ []) c
+counts-stored [] n k h = absurd (omega arith)
+counts-stored (a ∷ []) n k h = absurd (omega arith)
+counts-stored (a ∷ b ∷ c) n k h = refl
 
-module _ (p : Plan) (z : Sized p) (c m f : List ℕ) (room : Roomy c m f) where
-  F1 : List ℕ
-  F1 = paste f 0 (p .from) 2048
+module _ (p : Plan) (z : Sized p) where
+  two : length (p .from ++ p .to) ≡ 4096
+  two = length-append (p .from) (p .to) ∙ omega (arith, z .from, z .to)
 
-  F2 : List ℕ
-  F2 = paste F1 2048 (p .to) 2048
+  three : length (p .from ++ p .to ++ p .low) ≡ 6144
+  three = length-append (p .from ++ p .to) (p .low) ∙ omega (arith, two, z .low)
 
-  F3 : List ℕ
-  F3 = paste F2 4096 (p .low) 2048
+  fields-stored : (f : List ℕ) → paste (paste (paste (paste f 0 (p .from) 2048) 2048 (p .to) 2048) 4096 (p .low) 2048) 6144 (p .high) 2048
+      ≡ over (p .from ++ p .to ++ p .low ++ p .high) f
+  fields-stored f =
+      ap (λ (l : List ℕ). paste l 6144 (p .high) 2048)
+      (ap (λ (l : List ℕ). paste l 4096 (p .low) 2048)
+      (ap (λ (l : List ℕ). paste l 2048 (p .to) 2048) (paste-over f [] (p .from) 0 2048 refl (z .from)) ∙ paste-over f (p .from) (p .to) 2048 2048 (z .from) (z .to))
+      ∙ paste-over f (p .from ++ p .to) (p .low) 4096 2048 two (z .low))
+      ∙ paste-over f (p .from ++ p .to ++ p .low) (p .high) 6144 2048 three (z .high)
 
-  F4 : List ℕ
-  F4 = paste F3 6144 (p .high) 2048
+  -- a stored plan value is read back whole
+  pub stored-back : (s : Slices) → planIn (storing p s) ≡ p
+  unfolding storing
+  stored-back s =
+      let F = p .from in
+      let T = p .to in
+      let L = p .low in
+      let H = p .high in
+      let r : List ℕ = drop (length (F ++ T ++ L ++ H)) (s .fields) in
+      let at : (k : ℕ) (l : List ℕ) → F ++ T ++ L ++ H ++ r ≡ l → take 2048 (drop k (F ++ T ++ L ++ H ++ r)) ≡ take 2048 (drop k l) =
+      λ k l e. ap (λ (x : List ℕ). take 2048 (drop k x)) e in
+      λ i. record {
+        states = p .states;
+        transitions = p .transitions;
+        marks = take-at (p .marks) (drop (length (p .marks)) (s .marks)) 512 (z .marks) i;
+        from = (at 0 (F ++ (T ++ (L ++ (H ++ r)))) (simp append-assoc) ∙ take-at F (T ++ (L ++ (H ++ r))) 2048 (z .from)) i;
+        to = (at 2048 (F ++ (T ++ (L ++ (H ++ r)))) (simp append-assoc) ∙ part F T (L ++ (H ++ r)) 2048 2048 (z .from) (z .to)) i;
+        low = (at 4096 (F ++ T ++ (L ++ (H ++ r))) (simp append-assoc) ∙ part (F ++ T) L (H ++ r) 4096 2048 two (z .low)) i;
+        high = (at 6144 (F ++ T ++ L ++ (H ++ r)) (simp append-assoc) ∙ part (F ++ T ++ L) H r 6144 2048 three (z .high)) i;
+      }
 
-  h0 : 8192 ≤ length f
-  h0 = room .transitions
-
-  h1 : 8192 ≤ length F1
-  unfolding F1
-  h1 = rw (length-paste f 0 (p .from) 2048 (omega (arith, h0)) (omega (arith, z .from))) h0
-
-  h2 : 8192 ≤ length F2
-  unfolding F2
-  h2 = rw (length-paste F1 2048 (p .to) 2048 (omega (arith, h1)) (omega (arith, z .to))) h1
-
-  h3 : 8192 ≤ length F3
-  unfolding F3
-  h3 = rw (length-paste F2 4096 (p .low) 2048 (omega (arith, h2)) (omega (arith, z .low))) h2
-
-  from-part : take 2048 (drop 0 F4) ≡ p .from
-  unfolding F4 F3 F2 F1
-  from-part =
-      part-before F3 (p .high) 6144 2048 (omega (arith, h3)) (z .high) 0 2048 (omega arith)
-      ∙ part-before F2 (p .low) 4096 2048 (omega (arith, h2)) (z .low) 0 2048 (omega arith)
-      ∙ part-before F1 (p .to) 2048 2048 (omega (arith, h1)) (z .to) 0 2048 (omega arith)
-      ∙ part-here f (p .from) 0 2048 (omega (arith, h0)) (z .from)
-
-  to-part : take 2048 (drop 2048 F4) ≡ p .to
-  unfolding F4 F3 F2
-  to-part =
-      part-before F3 (p .high) 6144 2048 (omega (arith, h3)) (z .high) 2048 2048 (omega arith)
-      ∙ part-before F2 (p .low) 4096 2048 (omega (arith, h2)) (z .low) 2048 2048 (omega arith)
-      ∙ part-here F1 (p .to) 2048 2048 (omega (arith, h1)) (z .to)
-
-  low-part : take 2048 (drop 4096 F4) ≡ p .low
-  unfolding F4 F3
-  low-part =
-      part-before F3 (p .high) 6144 2048 (omega (arith, h3)) (z .high) 4096 2048 (omega arith)
-      ∙ part-here F2 (p .low) 4096 2048 (omega (arith, h2)) (z .low)
-
-  high-part : take 2048 (drop 6144 F4) ≡ p .high
-  unfolding F4
-  high-part = part-here F3 (p .high) 6144 2048 (omega (arith, h3)) (z .high)
-
-  fields-later : drop 8192 F4 ≡ drop 8192 f
-  unfolding F4 F3 F2 F1
-  fields-later =
-      rest-after F3 (p .high) 6144 2048 (omega (arith, h3)) (z .high) 8192 (omega arith)
-      ∙ rest-after F2 (p .low) 4096 2048 (omega (arith, h2)) (z .low) 8192 (omega arith)
-      ∙ rest-after F1 (p .to) 2048 2048 (omega (arith, h1)) (z .to) 8192 (omega arith)
-      ∙ rest-after f (p .from) 0 2048 (omega (arith, h0)) (z .from) 8192 (omega arith)
-
-  C : List ℕ
-  C = set (set c 0 (p .states)) 1 (p .transitions)
-
-  M : List ℕ
-  M = paste m 0 (p .marks) 512
-
-  two : 2 ≤ length c
-  two = room .two
-
-  pub stored : (m′ f′ : List ℕ) → m′ ≡ paste m 0 (p .marks) 512
+  pub stored : (c m f m′ f′ : List ℕ) → Roomy c m f → m′ ≡ paste m 0 (p .marks) 512
       → f′ ≡ paste (paste (paste (paste f 0 (p .from) 2048) 2048 (p .to) 2048) 4096 (p .low) 2048) 6144 (p .high) 2048
-      → (planIn (slices (set (set c 0 (p .states)) 1 (p .transitions)) m′ f′) ≡ p) × Later (slices c m f) (slices (set (set c 0 (p .states)) 1 (p .transitions)) m′ f′)
-  unfolding F4 F3 F2 F1
-  stored m′ f′ em ef =
-      let n = p .states in
-      let k = p .transitions in
-      let s : getD (set (set c 0 n) 1 k) 0 0 ≡ n = getD-set-other (set c 0 n) 1 0 k 0 (omega arith) ∙ getD-set-same c 0 n 0 (omega (arith, two)) in
-      let t : getD (set (set c 0 n) 1 k) 1 0 ≡ k = getD-set-same (set c 0 n) 1 k 0 (omega (arith, two, length-set c 0 n)) in
-      let g : take 512 m′ ≡ p .marks = ap (λ (l : List ℕ). take 512 l) em ∙ part-here m (p .marks) 0 512 (omega (arith, room .states)) (z .marks) in
-      let part : (at : ℕ) (x : List ℕ) → take 2048 (drop at F4) ≡ x → take 2048 (drop at f′) ≡ x = λ at x e. ap (λ (l : List ℕ). take 2048 (drop at l)) ef ∙ e in (
-        λ i. record {
-          states = s i;
-          transitions = t i;
-          marks = g i;
-          from = part 0 (p .from) from-part i;
-          to = part 2048 (p .to) to-part i;
-          low = part 4096 (p .low) low-part i;
-          high = part 6144 (p .high) high-part i;
-        },
-        record {
-          counts = drop-set-lt 2 (set c 0 n) 1 k (omega arith) ∙ drop-set-lt 2 c 0 n (omega arith);
-          marks = ap (λ (l : List ℕ). drop 512 l) em ∙ rest-after m (p .marks) 0 512 (omega (arith, room .states)) (z .marks) 512 (omega arith);
-          fields = ap (λ (l : List ℕ). drop 8192 l) ef ∙ fields-later;
-        },
-      )
+      → (slices (set (set c 0 (p .states)) 1 (p .transitions)) m′ f′ ≡ storing p (slices c m f)) × (planIn (slices (set (set c 0 (p .states)) 1 (p .transitions)) m′ f′) ≡ p)
+  unfolding storing
+  stored c m f m′ f′ room em ef =
+      let e : slices (set (set c 0 (p .states)) 1 (p .transitions)) m′ f′ ≡ storing p (slices c m f) =
+      λ i. record {
+        counts = counts-stored c (p .states) (p .transitions) (room .two) i;
+        marks = (em ∙ paste-over m [] (p .marks) 0 512 refl (z .marks)) i;
+        fields = (ef ∙ fields-stored f) i;
+      } in
+      (e, ap planIn e ∙ stored-back (slices c m f))
 
 -- ---- the promise on the slices
 
@@ -145,46 +98,43 @@ has-room c m f e =
 true-false : {A : Type 0} (b : Bool) → b ≡ true → b ≡ false → A
 true-false b p q = absurd (let z : _≡_ {A = ℕ} 0 1 = cc in omega arith)
 
-same-later : (s : Slices) → Later s s
-same-later s = record { counts = refl; marks = refl; fields = refl }
-
-pub too-short : (s : Slices) (o : Result Graph) → hasRoom s ≡ false → LentEdit s s o 255
-too-short s o e =
+pub too-short : (p : Plan) (s : Slices) (o : Result Graph) → hasRoom s ≡ false → LentEdit p s s o 255
+too-short p s o e =
     record {
       short = λ h. (refl, refl);
       answer = λ h. true-false (hasRoom s) h e;
       plan = λ h. true-false (hasRoom s) h e;
-      kept = λ h k p. refl;
-      later = λ h. same-later s;
+      whole = λ h. true-false (hasRoom s) h e;
     }
 
 code-of : (o : Result Graph) (r : Result (Unit {0})) → r ≡ answerOf o → code r ≡ code o
 code-of (accepted g) r e = ap code e
 code-of (refused k) r e = ap code e
 
-by-answer : (a : Answer) (q : Plan) (s s′ : Slices) (o : Result Graph) (r : ℕ) → hasRoom s ≡ true → said a ≡ answerOf o → ((g : Graph) → o ≡ accepted g → view q ≡ g)
-    → Finished a q s s′ r → LentEdit s s′ o r
-by-answer Accepted q s s′ o r room e v f =
+by-answer : (a : Answer) (p q : Plan) (s s′ : Slices) (o : Result Graph) (r : ℕ) → hasRoom s ≡ true → said a ≡ answerOf o
+    → ((g : Graph) → o ≡ accepted g → (view q ≡ g) × (q ≡ laid p g)) → Finished a q s s′ r → LentEdit p s s′ o r
+by-answer Accepted p q s s′ o r room e v f =
     let g = accepted-as o e in
+    let w = v (g .0) (g .1) in
     record {
       short = λ h. true-false (hasRoom s) room h;
       answer = λ h. f .0 ∙ code-of o (accepted tt) e;
-      plan = λ h. ap view (f .1) ∙ v (g .0) (g .1) ∙ sym (ap (next (view (planIn s))) (g .1));
-      kept = λ h k p. absurd (never tt k (ap answerOf (sym p) ∙ sym e));
-      later = λ h. f .2;
+      plan = λ h. ap view (f .2) ∙ w .0 ∙ sym (ap (next (view (planIn s))) (g .1));
+      whole = λ h. f .1 ∙ ap (λ (x : Plan). storing x s) (w .1) ∙ sym (ap (nextSlices p s) (g .1));
     }
-by-answer (Refused k) q s s′ o r room e v f =
+by-answer (Refused k) p q s s′ o r room e v f =
+    let g = refused-as o (number k) e in
     record {
       short = λ h. true-false (hasRoom s) room h;
       answer = λ h. f .0 ∙ code-of o (refused (number k)) e;
-      plan = λ h. ap (λ (x : Slices). view (planIn x)) (f .1) ∙ ap (next (view (planIn s))) (sym (refused-as o (number k) e));
-      kept = λ h j p. f .1;
-      later = λ h. rw (f .1) (same-later s);
+      plan = λ h. ap (λ (x : Slices). view (planIn x)) (f .1) ∙ ap (next (view (planIn s))) (sym g);
+      whole = λ h. f .1 ∙ sym (ap (nextSlices p s) g);
     }
 
 -- a call of the plan's own whose answer was stored keeps its promise on the slices
-pub finished : (p : Plan) (s s′ : Slices) (o : Result Graph) (e : Edited) (r : ℕ) → hasRoom s ≡ true → Edit p o e → Finished (e .answer) (e .plan) s s′ r → LentEdit s s′ o r
-finished p s s′ o e r room x f = by-answer (e .answer) (e .plan) s s′ o r room (x .answer) (λ g h. x .plan ∙ ap (next (view p)) h) f
+pub finished : (p : Plan) (s s′ : Slices) (o : Result Graph) (e : Edited) (r : ℕ) → hasRoom s ≡ true → Edit p o e → Finished (e .answer) (e .plan) s s′ r → LentEdit p s s′ o r
+finished p s s′ o e r room x f =
+    by-answer (e .answer) p (e .plan) s s′ o r room (x .answer) (λ g h. (x .plan ∙ ap (next (view p)) h, x .whole ∙ ap (nextValue p) h)) f
 
 -- ---- write
 
@@ -198,13 +148,15 @@ write-length g b n e =
     let s : k ≡ n = cc in
     omega (arith, limited g (holds (within g) PlanLimits (p .0)))
 
-pub write-short : (s : Slices) (b : List ℕ) → hasRoom s ≡ false → LentWrite s b b 255
-write-short s b e = record { short = λ h. (refl, refl); answer = λ h. true-false (hasRoom s) h e; buffer = λ h. true-false (hasRoom s) h e }
+pub write-short : (s : Slices) (octets : List ℕ) (o : Result ℕ) (b : List ℕ) → hasRoom s ≡ false → LentWrite s octets o b b 255
+write-short s octets o b e = record { short = λ h. (refl, refl); answer = λ h. true-false (hasRoom s) h e; buffer = λ h. true-false (hasRoom s) h e }
 
-pub write-finished : (p : Plan) (s : Slices) (b b′ : List ℕ) (w : Written) (r : ℕ) → hasRoom s ≡ true → p ≡ planIn s → Write (view p) b b′ w → r ≡ lengthCode (wrote w) → LentWrite s b b′ r
-write-finished p s b b′ w r room h x e =
+-- a call of the plan's own that filled the buffer keeps its promise on the slices
+pub write-finished : (octets : Graph → List ℕ) (o : Graph → Result ℕ) (p : Plan) (s : Slices) (b b′ : List ℕ) (w : Written) (r : ℕ) → hasRoom s ≡ true → p ≡ planIn s
+    → Write (octets (view p)) (o (view p)) b b′ w → r ≡ lengthCode (wrote w) → LentWrite s (octets (view (planIn s))) (o (view (planIn s))) b b′ r
+write-finished octets o p s b b′ w r room h x e =
     record {
       short = λ k. true-false (hasRoom s) room k;
-      answer = λ k. e ∙ ap lengthCode (x .answer) ∙ ap (λ (q : Plan). lengthCode (writeRule (view q) b)) h;
-      buffer = λ k. x .buffer ∙ ap (λ (q : Plan). written (view q) b (writeRule (view q) b)) h;
+      answer = λ k. e ∙ ap lengthCode (x .answer) ∙ ap (λ (q : Plan). lengthCode (o (view q))) h;
+      buffer = λ k. x .buffer ∙ ap (λ (q : Plan). written (octets (view q)) b (o (view q))) h;
     }

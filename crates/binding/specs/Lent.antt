@@ -1,6 +1,6 @@
 -- A plan in three lent slices, and what the calls promise of them. Assumes nothing.
 use mathlib.Core.Bool.{Bool, true, false, _&&_}
-use mathlib.Core.List.{List}
+use mathlib.Core.List.{List, [], _∷_, _++_}
 use mathlib.Core.Path.{_≡_}
 use Prim.Native.Nat.{ℕ, _+_, _≤_}
 use lib.Dec.{leb}
@@ -9,9 +9,11 @@ use Rattle.graph.specs.Graph.{Graph}
 use Rattle.rules.specs.declared.Answer.{Answer}
 use Rattle.rules.specs.declared.Answer.the-variants.{Accepted, Refused}
 use Rattle.rules.specs.Refusal.{Result, accepted, refused, number}
-use Rattle.rules.specs.Rules.{next, writeRule, written}
+use Rattle.rules.specs.Calls.{Call, step}
+use Rattle.rules.specs.Rules.{next, written}
+use Rattle.arrays.specs.Tables.{over}
 use Rattle.plan.specs.declared.Plan.{Plan}
-use Rattle.plan.specs.View.{view}
+use Rattle.plan.specs.View.{view, laid}
 
 -- the three slices have the places of a plan
 abbrev pub roomy : ℕ → ℕ → ℕ → Bool
@@ -58,33 +60,47 @@ hasRoom s = roomy (length (s .counts)) (length (s .marks)) (length (s .fields))
 abbrev pub planIn : Slices → Plan
 planIn s = lentPlan (s .counts) (s .marks) (s .fields)
 
--- the places past a plan's stay
-pub record Later (before after : Slices) : Type 0 where
-  pub counts : drop 2 (after .counts) ≡ drop 2 (before .counts)
-  pub marks : drop 512 (after .marks) ≡ drop 512 (before .marks)
-  pub fields : drop 8192 (after .fields) ≡ drop 8192 (before .fields)
+-- the slices with a plan value stored in a plan's places, and every later place as it was
+unfoldable pub storing : Plan → Slices → Slices
+storing p s =
+    record {
+      counts = over (p .states ∷ p .transitions ∷ []) (s .counts);
+      marks = over (p .marks) (s .marks);
+      fields = over (p .from ++ p .to ++ p .low ++ p .high) (s .fields);
+    }
 
--- what is left in the slices by an answer with a plan value: an accepted one stores the plan, and a refusal leaves every place
+-- what is left in the slices by an answer with a plan value: an accepted one stores it, and a refusal leaves every place
 abbrev pub Finished : Answer → Plan → Slices → Slices → ℕ → Type 0
-Finished Accepted p before after r = (r ≡ 256) × (planIn after ≡ p) × Later before after
+Finished Accepted p before after r = (r ≡ 256) × (after ≡ storing p before) × (planIn after ≡ p)
 Finished (Refused k) p before after r = (r ≡ number k) × (after ≡ before)
 
--- a call on lent slices for which the rules give o: 255 where they are too short, and otherwise the rules' number and plan; a refusal leaves
--- every place, and the places past a plan's stay
-pub record LentEdit (before after : Slices) (o : Result Graph) (r : ℕ) : Type 0 where
+-- the slices after a call that was given the plan value p: the new plan in p's arrays, stored; after a refusal every place as it was
+abbrev pub nextSlices : Plan → Slices → Result Graph → Slices
+nextSlices p before (accepted g) = storing (laid p g) before
+nextSlices p before (refused k) = before
+
+-- a call on lent slices that was given the plan value p and for which the rules give o: 255 where the slices are too short, and otherwise the
+-- rules' number and plan, and every place by a definition
+pub record LentEdit (p : Plan) (before after : Slices) (o : Result Graph) (r : ℕ) : Type 0 where
   pub short : hasRoom before ≡ false → (r ≡ 255) × (after ≡ before)
   pub answer : hasRoom before ≡ true → r ≡ code o
   pub plan : hasRoom before ≡ true → view (planIn after) ≡ next (view (planIn before)) o
-  pub kept : hasRoom before ≡ true → (k : ℕ) → o ≡ refused k → after ≡ before
-  pub later : hasRoom before ≡ true → Later before after
+  pub whole : hasRoom before ≡ true → after ≡ nextSlices p before o
 
--- the number that write answers: 256 plus the image's length
+-- the number that a call answers which fills a lent buffer: 256 plus the octets' number
 abbrev pub lengthCode : Result ℕ → ℕ
 lengthCode (accepted n) = 256 + n
 lengthCode (refused k) = k
 
--- a write of the plan that lent slices hold
-pub record LentWrite (s : Slices) (before after : List ℕ) (r : ℕ) : Type 0 where
+-- a call that puts octets of the plan that lent slices hold at the front of a lent buffer, and for which the rules give o
+pub record LentWrite (s : Slices) (octets : List ℕ) (o : Result ℕ) (before after : List ℕ) (r : ℕ) : Type 0 where
   pub short : hasRoom s ≡ false → (r ≡ 255) × (after ≡ before)
-  pub answer : hasRoom s ≡ true → r ≡ lengthCode (writeRule (view (planIn s)) before)
-  pub buffer : hasRoom s ≡ true → after ≡ written (view (planIn s)) before (writeRule (view (planIn s)) before)
+  pub answer : hasRoom s ≡ true → r ≡ lengthCode o
+  pub buffer : hasRoom s ≡ true → after ≡ written octets before o
+
+-- a list of calls on lent slices, each on what the one before it left there: what the promises say of the numbers that they answer and of the
+-- slices after them
+pub data LentObeyed : Slices → List Call → List ℕ → Slices → Type 0 where
+  none : {s : Slices} → LentObeyed s [] [] s
+  more : {s u : Slices} {call : Call} {calls : List Call} {answers : List ℕ} (t : Slices) (r : ℕ)
+      → LentEdit (planIn s) s t (step (view (planIn s)) call) r → LentObeyed t calls answers u → LentObeyed s (call ∷ calls) (r ∷ answers) u

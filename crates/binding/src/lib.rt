@@ -6,13 +6,14 @@ ghost use Prim.Native.Nat.{_+_, _≤_};
 ghost use lib.ListN.{length, take, drop};
 ghost use lib.Seq.{paste};
 ghost use Rattle.arrays.specs.Tables.{transition};
-ghost use Rattle.plan.specs.View.{view};
-ghost use Rattle.rules.specs.Rules.{freshRule, markRule, joinRule, unjoinRule, readRule};
-ghost use Rattle.binding.specs.Lent.{Roomy, roomy, lentPlan, planIn, slices, Later, Finished, LentEdit, LentWrite};
+ghost use Rattle.plan.specs.View.{view, noPlan};
+ghost use Rattle.rules.specs.Image.{image};
+ghost use Rattle.rules.specs.Rules.{freshRule, markRule, joinRule, unjoinRule, readRule, writeRule};
+ghost use Rattle.binding.specs.Lent.{Roomy, roomy, lentPlan, planIn, slices, storing, Finished, LentEdit, LentWrite};
 use plan::Edited;
 use plan::Plan;
-use plan::Written;
 use rules::Answer;
+use rules::Written;
 
 // Whether three lent slices have the places of a plan.
 fn has_room(counts: usize, marks: usize, fields: usize) -> bool
@@ -96,9 +97,9 @@ fn load(counts: &[usize], marks: &[u8], fields: &[u16]) -> Plan
 // Stores a plan value in three lent slices.
 fn store(plan: Plan, counts: &mut [usize], marks: &mut [u8], fields: &mut [u16])
     requires { ⌜ Roomy (now counts) (now marks) (now fields) ⌝ }
-    ensures { λ r. ⌜ (planIn (slices (now (counts .exit)) (now (marks .exit)) (now (fields .exit))) ≡ plan)
-        × Later (slices (now (counts .entry)) (now (marks .entry)) (now (fields .entry)))
-        (slices (now (counts .exit)) (now (marks .exit)) (now (fields .exit))) ⌝ }
+    ensures { λ r. ⌜ (slices (now (counts .exit)) (now (marks .exit)) (now (fields .exit))
+        ≡ storing plan (slices (now (counts .entry)) (now (marks .entry)) (now (fields .entry))))
+        × (planIn (slices (now (counts .exit)) (now (marks .exit)) (now (fields .exit))) ≡ plan) ⌝ }
 {
     counts[0] = plan.states;
     counts[1] = plan.transitions;
@@ -140,7 +141,7 @@ pub extern "C" fn callplan_fresh(
     marks: &mut [u8],
     fields: &mut [u16],
 ) -> u32
-    ensures { λ r. ⌜ LentEdit
+    ensures { λ r. ⌜ LentEdit noPlan
         (slices (now (counts .entry)) (now (marks .entry)) (now (fields .entry)))
         (slices (now (counts .exit)) (now (marks .exit)) (now (fields .exit)))
         (freshRule n) r ⌝ }
@@ -160,7 +161,7 @@ pub extern "C" fn callplan_mark(
     state: usize,
     value: u32,
 ) -> u32
-    ensures { λ r. ⌜ LentEdit
+    ensures { λ r. ⌜ LentEdit (lentPlan (now (counts .entry)) (now (marks .entry)) (now (fields .entry)))
         (slices (now (counts .entry)) (now (marks .entry)) (now (fields .entry)))
         (slices (now (counts .exit)) (now (marks .exit)) (now (fields .exit)))
         (markRule (view (lentPlan (now (counts .entry)) (now (marks .entry)) (now (fields .entry))))
@@ -188,7 +189,7 @@ pub extern "C" fn callplan_join(
     low: u32,
     high: u32,
 ) -> u32
-    ensures { λ r. ⌜ LentEdit
+    ensures { λ r. ⌜ LentEdit (lentPlan (now (counts .entry)) (now (marks .entry)) (now (fields .entry)))
         (slices (now (counts .entry)) (now (marks .entry)) (now (fields .entry)))
         (slices (now (counts .exit)) (now (marks .exit)) (now (fields .exit)))
         (joinRule (view (lentPlan (now (counts .entry)) (now (marks .entry)) (now (fields .entry))))
@@ -219,7 +220,7 @@ pub extern "C" fn callplan_unjoin(
     fields: &mut [u16],
     number: usize,
 ) -> u32
-    ensures { λ r. ⌜ LentEdit
+    ensures { λ r. ⌜ LentEdit (lentPlan (now (counts .entry)) (now (marks .entry)) (now (fields .entry)))
         (slices (now (counts .entry)) (now (marks .entry)) (now (fields .entry)))
         (slices (now (counts .exit)) (now (marks .exit)) (now (fields .exit)))
         (unjoinRule (view (lentPlan (now (counts .entry)) (now (marks .entry)) (now (fields .entry))))
@@ -244,7 +245,7 @@ pub extern "C" fn callplan_read(
     fields: &mut [u16],
     octets: &[u8],
 ) -> u32
-    ensures { λ r. ⌜ LentEdit
+    ensures { λ r. ⌜ LentEdit (lentPlan (now (counts .entry)) (now (marks .entry)) (now (fields .entry)))
         (slices (now (counts .entry)) (now (marks .entry)) (now (fields .entry)))
         (slices (now (counts .exit)) (now (marks .exit)) (now (fields .exit)))
         (readRule (view (lentPlan (now (counts .entry)) (now (marks .entry)) (now (fields .entry))))
@@ -271,6 +272,8 @@ pub extern "C" fn callplan_write(
 ) -> u32
     ensures { λ r. ⌜ LentWrite
         (slices (now (counts .entry)) (now (marks .entry)) (now (fields .entry)))
+        (image (view (lentPlan (now (counts .entry)) (now (marks .entry)) (now (fields .entry)))))
+        (writeRule (view (lentPlan (now (counts .entry)) (now (marks .entry)) (now (fields .entry)))) (now (buffer .entry)))
         (now (buffer .entry)) (now (buffer .exit)) r ⌝ }
 {
     if !has_room(counts.len(), marks.len(), fields.len()) {

@@ -5,7 +5,7 @@ ghost use lib.ListN.{length};
 ghost use Rattle.field.specs.Field.{Within, fieldAt};
 ghost use Rattle.rules.specs.Refusal.{said, outcome};
 ghost use Rattle.rules.specs.Image.{headerRule, stateCountOf, transitionCountOf, transitionAt, statesIn, transitionsIn};
-ghost use Rattle.arrays.specs.Tables.{statesOf, transitionsOf};
+ghost use Rattle.arrays.specs.Tables.{statesOf, transitionsOf, Later};
 ghost use Rattle.image.specs.Values.{meant};
 use crate::Transition;
 use arrays::limits;
@@ -81,10 +81,11 @@ fn marks_at(octets: &[u8], at: usize) -> u8
     (4 * start + 2 * last + counted) as u8
 }
 
-// Reads the marks values of n states, by number.
+// Reads the marks values of n states, by number; later places stay.
 pub fn states(octets: &[u8], n: usize, marks: &mut [u8; 512]) -> Answer
     requires { ⌜ (n ≤ 512) × (n ≤ length (now marks)) × (4 + n ≤ length (now octets)) ⌝ }
-    ensures { λ r. ⌜ outcome r (statesOf n (now (marks .exit))) ≡ statesIn (now (octets .entry)) n ⌝ }
+    ensures { λ r. ⌜ (outcome r (statesOf n (now (marks .exit))) ≡ statesIn (now (octets .entry)) n)
+        × Later n (now (marks .entry)) (now (marks .exit)) ⌝ }
 {
     let mut i = 0;
     while i < n {
@@ -111,7 +112,7 @@ fn transition_at(octets: &[u8], at: usize) -> Transition
     }
 }
 
-// Reads m transitions of a plan with n states, by number.
+// Reads m transitions of a plan with n states, by number; later places stay.
 pub fn transitions(
     octets: &[u8],
     n: usize,
@@ -123,19 +124,17 @@ pub fn transitions(
 ) -> Answer
     requires { ⌜ (n ≤ 512) × (m ≤ 2048) × (4 + n + 5 * m ≤ length (now octets)) ⌝ }
     requires { ⌜ (m ≤ length (now from)) × (m ≤ length (now to)) × (m ≤ length (now low)) × (m ≤ length (now high)) ⌝ }
-    ensures { λ r. ⌜ outcome r (transitionsOf m (now (from .exit)) (now (to .exit)) (now (low .exit)) (now (high .exit)))
-        ≡ transitionsIn (now (octets .entry)) n m ⌝ }
+    ensures { λ r. ⌜ (outcome r (transitionsOf m (now (from .exit)) (now (to .exit)) (now (low .exit)) (now (high .exit)))
+        ≡ transitionsIn (now (octets .entry)) n m)
+        × Later m (now (from .entry)) (now (from .exit)) × Later m (now (to .entry)) (now (to .exit))
+        × Later m (now (low .entry)) (now (low .exit)) × Later m (now (high .entry)) (now (high .exit)) ⌝ }
 {
     let mut i = 0;
     while i < m {
         let t = transition_at(octets, 32 + 8 * n + 40 * i);
-        let ends = limits::ends_ok(n, t.from, t.to);
-        let durations = limits::durations_ok(t.low, t.high);
-        if !ends {
-            return Answer::Refused(Refusal::StateNumber);
-        }
-        if !durations {
-            return Answer::Refused(Refusal::Duration);
+        let grounds = limits::checked(n, t.from, t.to, t.low, t.high);
+        if let Answer::Refused(r) = grounds {
+            return Answer::Refused(r);
         }
         from[i] = t.from as u16;
         to[i] = t.to as u16;

@@ -1,33 +1,54 @@
--- The plan value after each edit stands for the plan that the edit's rule gives; and a promise is kept by a refusal that hands the plan back,
--- and by an acceptance whose plan value stands for the rule's plan.
+-- The plan value after each edit stands for the plan that the edit's rule gives, and has every place past its counts as it was; so it is that plan
+-- laid over the arrays. A promise is kept by a refusal that hands the plan back, and by an acceptance with such a plan value.
 -- Assumes nothing.
-use mathlib.Core.Bool.{Bool, true, false, not, _&&_}
-use mathlib.Core.List.{List, [], _∷_, _++_}
-use mathlib.Core.Path.{_≡_, refl, sym, ap, ap₂, _∙_}
-use Prim.Native.Nat.{ℕ, zero, suc, _+_, _-_, _≤_, _<_}
+use mathlib.Core.List.{List, [], _++_}
+use mathlib.Core.Path.{_≡_, refl, sym, ap, _∙_}
+use Prim.Native.Nat.{ℕ, suc, _+_, _-_, _≤_, _<_}
 use native.Mathlib.Omega.{arith}
 use lib.ListN.{length, getD, take, drop, set, replicate, length-replicate, getD-replicate, length-append, length-drop, List·getD-append}
-use lib.Seq.{paste, getD-set-same, getD-set-other, getD-take, getD-drop, getD-append-add, length-take-le}
-use Rattle.graph.specs.Graph.{Graph, State, Transition, states, count, marked as state}
+use lib.Seq.{paste, length-paste, drop-paste, getD-set-same, getD-set-other, getD-take, getD-drop, getD-append-add, length-take-le}
+use Rattle.graph.specs.Graph.{Graph, State, Transition, states, marked as state}
 use Rattle.rules.specs.declared.Answer.the-variants.{Accepted, Refused}
 use Rattle.rules.specs.declared.Refusal.{Refusal}
-use Rattle.rules.specs.Refusal.{number, Result, accepted, refused, answerOf, said}
-use Rattle.rules.specs.Rules.{freshGraph, withMark, withTransition, without, next}
-use Rattle.rules.proofs.Results.{never}
+use Rattle.rules.specs.Refusal.{number, Result, accepted, refused}
+use Rattle.rules.specs.Rules.{freshGraph, withMark, withTransition, without}
 use Rattle.plan.specs.declared.Plan.{Plan}
-use Rattle.plan.specs.declared.Edited.{Edited}
-use Rattle.arrays.specs.Tables.{tabulate, stateOf, statesOf, transitionOf, transition}
-use Rattle.plan.specs.View.{view, blankPlan}
+use Rattle.arrays.specs.Tables.{tabulate, stateOf, statesOf, transitionOf, transition, Later}
+use Rattle.plan.specs.View.{view, laid, blankPlan, noPlan}
 use Rattle.plan.specs.Promise.{Edit}
-use Rattle.arrays.proofs.Lists.{tabulate-of, tabulate-set, tabulate-more, tabulate-without, same-transition, transition-other, transition-here}
+use Rattle.plan.proofs.Values.{Sized, states-view, count-view}
+use Rattle.arrays.proofs.Lists.{later-none, later-set, over-front, tabulate-of, tabulate-set, tabulate-more, tabulate-without, same-transition, transition-other, transition-here}
 
 -- ---- promises kept
 
-pub refusal : (p : Plan) (o : Result Graph) (r : Refusal) → o ≡ refused (number r) → Edit p o (record { answer = Refused r; plan = p })
-refusal p o r e = record { answer = rw e; plan = rw e; kept = λ k f. refl }
+-- every place past the counts of the plan value q is as in p
+pub record Past (p q : Plan) : Type 0 where
+  pub marks : Later (q .states) (p .marks) (q .marks)
+  pub from : Later (q .transitions) (p .from) (q .from)
+  pub to : Later (q .transitions) (p .to) (q .to)
+  pub low : Later (q .transitions) (p .low) (q .low)
+  pub high : Later (q .transitions) (p .high) (q .high)
 
-pub acceptance : (p q : Plan) (o : Result Graph) (g : Graph) → o ≡ accepted g → view q ≡ g → Edit p o (record { answer = Accepted; plan = q })
-acceptance p q o g e v = record { answer = rw e; plan = rw e v; kept = λ k f. absurd (never g k (sym f ∙ e)) }
+-- such a plan value is what it stands for, laid over p
+past-laid : (p q : Plan) → Past p q → q ≡ laid p (view q)
+unfolding view laid
+past-laid p q h =
+    let t = transitionOf (q .from) (q .to) (q .low) (q .high) in
+    λ i. record {
+      states = sym (states-view q) i;
+      transitions = sym (count-view q) i;
+      marks = over-front (q .states) (stateOf (q .marks)) (λ (x : State). x .marks) (p .marks) (q .marks) (λ j. refl) (h .marks) i;
+      from = over-front (q .transitions) t (λ (x : Transition). x .from) (p .from) (q .from) (λ j. refl) (h .from) i;
+      to = over-front (q .transitions) t (λ (x : Transition). x .to) (p .to) (q .to) (λ j. refl) (h .to) i;
+      low = over-front (q .transitions) t (λ (x : Transition). x .low) (p .low) (q .low) (λ j. refl) (h .low) i;
+      high = over-front (q .transitions) t (λ (x : Transition). x .high) (p .high) (q .high) (λ j. refl) (h .high) i;
+    }
+
+pub refusal : (p : Plan) (o : Result Graph) (r : Refusal) → o ≡ refused (number r) → Edit p o (record { answer = Refused r; plan = p })
+refusal p o r e = record { answer = rw e; plan = rw e; whole = rw e }
+
+pub acceptance : (p q : Plan) (o : Result Graph) (g : Graph) → o ≡ accepted g → view q ≡ g → Past p q → Edit p o (record { answer = Accepted; plan = q })
+acceptance p q o g e v l = record { answer = rw e; plan = rw e v; whole = rw e (past-laid p q l ∙ ap (laid p) v) }
 
 -- ---- plan values after the edits
 
@@ -37,6 +58,12 @@ view-blank n h =
     ap {B = Graph} (λ (l : List State). record { stateList = l; transitions = [] })
     (tabulate-of (state 0) (replicate n (state 0)) n (stateOf (replicate 512 0)) (length-replicate n (state 0))
     (λ i k. getD-replicate n i (state 0) (state 0) k ∙ ap state (sym (getD-replicate 512 i 0 0 (omega arith)))))
+
+pub past-blank : (n : ℕ) → n ≤ 512 → Past noPlan (blankPlan n)
+past-blank n h =
+    let zeros : Later 0 (replicate 2048 0) (replicate 2048 0) = later-none 0 (replicate 2048 0) (omega arith) in
+    let l : length {A = ℕ} (replicate 512 0) ≡ 512 = length-replicate {A = ℕ} 512 0 in
+    record { marks = later-none n (replicate 512 0) (omega arith); from = zeros; to = zeros; low = zeros; high = zeros }
 
 module _ (p : Plan) where
   -- the plan value with a marks value set
@@ -51,21 +78,44 @@ module _ (p : Plan) where
       (tabulate-set (p .states) k (stateOf (p .marks)) (stateOf (set (p .marks) k value)) (λ i d. ap state (getD-set-other (p .marks) k i value 0 d))
       ∙ ap (λ (v : ℕ). set (statesOf (p .states) (p .marks)) k (state v)) (getD-set-same (p .marks) k value 0 h))
 
+  pub past-marked : Sized p → (k value : ℕ) → k < p .states → p .states ≤ 512 → p .transitions ≤ 2048 → Past p (marked k value)
+  past-marked z k value h hn hm =
+      let same : (l : List ℕ) → length l ≡ 2048 → Later (p .transitions) l l = λ l e. later-none (p .transitions) l (omega arith) in
+      record {
+        marks = later-set (p .states) (p .marks) (p .marks) k value h (later-none (p .states) (p .marks) (omega (arith, z .marks)));
+        from = same (p .from) (z .from);
+        to = same (p .to) (z .to);
+        low = same (p .low) (z .low);
+        high = same (p .high) (z .high);
+      }
+
   -- the plan value with a transition at the end
   abbrev pub joined : ℕ → ℕ → ℕ → ℕ → Plan
   joined f t l h =
       let m = p .transitions in
       record { states = p .states; transitions = m + 1; marks = p .marks; from = set (p .from) m f; to = set (p .to) m t; low = set (p .low) m l; high = set (p .high) m h }
 
-  pub view-joined : (f t l h : ℕ) → p .transitions < length (p .from) → p .transitions < length (p .to) → p .transitions < length (p .low) → p .transitions < length (p .high)
-      → view (joined f t l h) ≡ withTransition (view p) (transition f t l h)
+  pub view-joined : Sized p → (f t l h : ℕ) → p .transitions < 2048 → view (joined f t l h) ≡ withTransition (view p) (transition f t l h)
   unfolding view
-  view-joined f t l h hf ht hl hh =
+  view-joined z f t l h hm =
       let m : ℕ = p .transitions in
       ap {B = Graph} (λ (ts : List Transition). record { stateList = statesOf (p .states) (p .marks); transitions = ts })
       (tabulate-more m (transitionOf (p .from) (p .to) (p .low) (p .high)) (transitionOf (set (p .from) m f) (set (p .to) m t) (set (p .low) m l) (set (p .high) m h)) (transition f t l h)
       (λ i k. transition-other (p .from) (p .to) (p .low) (p .high) m f t l h i (omega arith))
-      (transition-here (p .from) (p .to) (p .low) (p .high) m f t l h hf ht hl hh))
+      (transition-here (p .from) (p .to) (p .low) (p .high) m f t l h (omega (arith, z .from)) (omega (arith, z .to)) (omega (arith, z .low)) (omega (arith, z .high))))
+
+  pub past-joined : Sized p → (f t l h : ℕ) → p .states ≤ 512 → p .transitions < 2048 → Past p (joined f t l h)
+  past-joined z f t l h hn hm =
+      let m : ℕ = p .transitions in
+      let one : (places : List ℕ) (v : ℕ) → length places ≡ 2048 → Later (m + 1) places (set places m v) =
+      λ places v e. later-set (m + 1) places places m v (omega arith) (later-none (m + 1) places (omega arith)) in
+      record {
+        marks = later-none (p .states) (p .marks) (omega (arith, z .marks));
+        from = one (p .from) f (z .from);
+        to = one (p .to) t (z .to);
+        low = one (p .low) l (z .low);
+        high = one (p .high) h (z .high);
+      }
 
   -- the plan value with a transition taken out: each array with the later places moved down by one
   abbrev pub moved : List ℕ → ℕ → List ℕ
@@ -96,10 +146,33 @@ module _ (p : Plan) where
       ∙ ap (λ (j : ℕ). getD (take k xs ++ take n s) j 0) (sym e) ∙ getD-append-add (take k xs) (take n s) (i - k) 0
       ∙ getD-take n s (i - k) 0 (omega arith) ∙ getD-drop (suc k) xs (i - k) 0 ∙ ap (λ (j : ℕ). getD xs j 0) q
 
-  pub view-unjoined : (k : ℕ) → k < p .transitions → p .transitions ≤ length (p .from) → p .transitions ≤ length (p .to) → p .transitions ≤ length (p .low) → p .transitions ≤ length (p .high)
-      → view (unjoined k) ≡ without (view p) k
+  moved-later : (xs : List ℕ) (k : ℕ) → k < p .transitions → p .transitions ≤ length xs → Later (p .transitions - 1) xs (moved xs k)
+  moved-later xs k hk hx =
+      let n : ℕ = p .transitions - suc k in
+      let e : k + n ≡ p .transitions - 1 = omega arith in
+      let ls : length (drop (suc k) xs) ≡ length xs - suc k = length-drop (suc k) xs in
+      record {
+        room = rw (length-paste xs k (drop (suc k) xs) n (omega arith) (omega arith)) (omega arith);
+        same = ap (λ (j : ℕ). drop j (moved xs k)) (sym e) ∙ drop-paste xs k (drop (suc k) xs) n (omega arith) (omega arith) ∙ ap (λ (j : ℕ). drop j xs) e;
+      }
+
+  pub past-unjoined : Sized p → (k : ℕ) → p .states ≤ 512 → k < p .transitions → p .transitions ≤ 2048 → Past p (unjoined k)
+  past-unjoined z k hn hk hm =
+      record {
+        marks = later-none (p .states) (p .marks) (omega (arith, z .marks));
+        from = moved-later (p .from) k hk (omega (arith, z .from));
+        to = moved-later (p .to) k hk (omega (arith, z .to));
+        low = moved-later (p .low) k hk (omega (arith, z .low));
+        high = moved-later (p .high) k hk (omega (arith, z .high));
+      }
+
+  pub view-unjoined : Sized p → (k : ℕ) → k < p .transitions → p .transitions ≤ 2048 → view (unjoined k) ≡ without (view p) k
   unfolding view
-  view-unjoined k h hf ht hl hh =
+  view-unjoined z k h hm =
+      let hf : p .transitions ≤ length (p .from) = omega (arith, z .from) in
+      let ht : p .transitions ≤ length (p .to) = omega (arith, z .to) in
+      let hl : p .transitions ≤ length (p .low) = omega (arith, z .low) in
+      let hh : p .transitions ≤ length (p .high) = omega (arith, z .high) in
       ap {B = Graph} (λ (ts : List Transition). record { stateList = statesOf (p .states) (p .marks); transitions = ts })
       (tabulate-without (transition 0 0 0 0) (p .transitions) k (transitionOf (p .from) (p .to) (p .low) (p .high))
       (transitionOf (moved (p .from) k) (moved (p .to) k) (moved (p .low) k) (moved (p .high) k)) h

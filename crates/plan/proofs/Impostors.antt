@@ -1,28 +1,26 @@
 -- The impostors that document 01 lists for this half: each one's answer breaks a promise. One small case shows each: a plan of one state, and the
 -- plan and the octets of "Plans with known figures".
 -- Assumes nothing.
-use mathlib.Core.Bool.{Bool, true, false}
 use mathlib.Core.List.{List, [], _∷_, _++_}
-use mathlib.Core.Path.{_≡_, refl, sym, ap, _∙_}
+use mathlib.Core.Path.{_≡_, sym, ap, _∙_}
 use Prim.Native.Nat.{ℕ}
 use native.Mathlib.Omega.{arith}
 use lib.ListN.{getD, replicate}
 use Rattle.graph.specs.Graph.{Graph, state}
 use Rattle.graph.specs.Known.{plan, P1}
-use Rattle.rules.specs.declared.Answer.{Answer}
 use Rattle.rules.specs.declared.Answer.the-variants.{Accepted, Refused}
 use Rattle.rules.specs.declared.Refusal.{Refusal}
-use Rattle.rules.specs.Calls.{Call, mark, run}
-use Rattle.rules.specs.Image.{image, readImage}
+use Rattle.rules.specs.declared.Written.{Written}
+use Rattle.rules.specs.Calls.{mark, run}
+use Rattle.rules.specs.Image.{image}
 use Rattle.rules.specs.Limits.{within, all}
-use Rattle.rules.specs.Refusal.{Result, accepted, refused, number, answerOf, said}
-use Rattle.rules.specs.Rules.{freshGraph, markRule, readRule, writeRule, written, next}
+use Rattle.rules.specs.Refusal.{accepted, number, answerOf, said}
+use Rattle.rules.specs.Rules.{freshGraph, markRule, readRule, writeRule, next}
 use Rattle.rules.proofs.Results.{never}
 use Rattle.rules.proofs.Basic.{octets, image-of-plan}
 use Rattle.rules.proofs.Vectors.{plan-in-octets}
 use Rattle.plan.specs.declared.Edited.{Edited}
 use Rattle.plan.specs.declared.Plan.{Plan}
-use Rattle.plan.specs.declared.Written.{Written}
 use Rattle.plan.specs.Promise.{Edit, Write, Obeyed}
 use Rattle.plan.specs.View.{view}
 use Rattle.plan.proofs.Promises.{obeyed-run}
@@ -50,7 +48,7 @@ leaves-the-plan p e ep ee x =
     omega arith
 
 -- "and the buffer empty": it answers a write of the known plan, and the buffer stays as it was
-pub leaves-the-buffer : (w : Written) → Write (P1 .plan) (replicate 28 0) (replicate 28 0) w → ⊥
+pub leaves-the-buffer : (w : Written) → Write (image (P1 .plan)) (writeRule (P1 .plan) (replicate 28 0)) (replicate 28 0) (replicate 28 0) w → ⊥
 unfolding writeRule within all octets
 leaves-the-buffer w x =
     let b : _≡_ {A = List ℕ} (replicate 28 0) (octets ++ []) = x .buffer ∙ ap {B = List ℕ} (λ (l : List ℕ). l ++ []) image-of-plan in

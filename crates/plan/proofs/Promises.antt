@@ -1,13 +1,13 @@
--- What follows from the promises alone, of whatever keeps them. A list of calls gives the answers and the plan that the rules give from the
+-- What follows from the promises alone, of whatever keeps them. A refused call hands back the plan value, and the promise leaves no place of it free.
+-- A list of calls gives the answers and the plan that the rules give from the
 -- calls' arguments: each call's promise is one step of the rules, so the list is a run of them. What write puts reads back as the plan, and what
 -- read accepts writes back as the octets: the rules say so of images, and the promises equate the calls with the rules. And the plan value
 -- beside a refused fresh is refused by 0 in every call.
 -- Assumes nothing.
-use mathlib.Core.Bool.{Bool, true, false, not}
-use mathlib.Core.List.{List, [], _∷_, _++_, map}
+use mathlib.Core.Bool.{true, false}
+use mathlib.Core.List.{List, _∷_, _++_, map}
 use mathlib.Core.Path.{_≡_, refl, sym, ap, ap₂, _∙_}
-use Prim.Native.Nat.{ℕ, zero, suc, _+_, _≤_, _<_}
-use native.Mathlib.Omega.{arith}
+use Prim.Native.Nat.{ℕ, _≤_}
 use borrow.Author.Tests.{le-ltb}
 use lib.Dec.{ltb}
 use lib.ListN.{length, take, drop}
@@ -16,23 +16,32 @@ use Rattle.graph.specs.Graph.{Graph, states, count}
 use Rattle.field.specs.Field.{Octets}
 use Rattle.rules.specs.declared.Answer.{Answer}
 use Rattle.rules.specs.declared.Answer.the-variants.{Accepted, Refused}
-use Rattle.rules.specs.declared.Refusal.{Refusal}
+use Rattle.rules.specs.declared.Written.{Written}
+use Rattle.rules.specs.declared.Written.the-variants.{Length, Refused as NotWritten}
 use Rattle.rules.specs.declared.Refusal.the-variants.{PlanLimits, BufferLength}
 use Rattle.rules.specs.Calls.{Call, mark, join, unjoin, read, step, run, runFresh}
 use Rattle.rules.specs.Image.{image, imageLength, readImage}
 use Rattle.rules.specs.Limits.{within, stateCountOk}
-use Rattle.rules.specs.Refusal.{Result, accepted, refused, _>>_, refuseIf, number, answerOf, said}
+use Rattle.rules.specs.Refusal.{Result, accepted, refused, _>>_, refuseIf, number, answerOf, said, wrote}
 use Rattle.rules.specs.Rules.{givenPlan, freshGraph, freshRule, markRule, joinRule, unjoinRule, readRule, writeRule, written, next}
 use Rattle.rules.proofs.Basic.{fresh-done}
 use Rattle.rules.proofs.Results.{never, then-accepted, holds, accepted-as}
 use Rattle.rules.proofs.ReadWrite.{length-image, read-image, image-read, read-within}
 use Rattle.plan.specs.declared.Edited.{Edited}
 use Rattle.plan.specs.declared.Plan.{Plan}
-use Rattle.plan.specs.declared.Written.{Written}
-use Rattle.plan.specs.declared.Written.the-variants.{Length, Refused as NotWritten}
-use Rattle.plan.specs.Promise.{Edit, Write, wrote, Obeyed, none, more}
+use Rattle.plan.specs.Promise.{Edit, Write, nextValue, Obeyed, none, more}
 use Rattle.plan.specs.View.{view, noPlan}
 use Rattle.plan.proofs.Values.{within-view}
+
+-- ---- one call
+
+-- "Any refused event: the plan stays": the very value that was passed in
+pub refused-keeps : (p : Plan) (o : Result Graph) (r : Edited) (k : ℕ) → Edit p o r → o ≡ refused k → r .plan ≡ p
+refused-keeps p o r k x e = x .whole ∙ ap (nextValue p) e
+
+-- two that keep the promise leave the same in every place, those past the counts too
+pub same-value : (p : Plan) (o : Result Graph) (r r′ : Edited) → Edit p o r → Edit p o r′ → r .plan ≡ r′ .plan
+same-value p o r r′ x y = x .whole ∙ sym (y .whole)
 
 -- ---- a list of calls
 
@@ -80,20 +89,21 @@ accepted-write g b n e =
     (holds (within g) PlanLimits (p .0), cc)
 
 -- every plan written reads back as that plan, over any old plan that is within the limits
-pub write-then-read : (p old : Plan) (before after : List ℕ) (n : ℕ) (e : Edited) → within (view old) ≡ true → Write (view p) before after (Length n)
+pub write-then-read : (p old : Plan) (before after : List ℕ) (n : ℕ) (e : Edited) → within (view old) ≡ true
+    → Write (image (view p)) (writeRule (view p) before) before after (Length n)
     → Edit old (readRule (view old) (take n after)) e → (e .answer ≡ Accepted) × (view (e .plan) ≡ view p)
 unfolding readRule
 write-then-read p old before after n e h w x =
     let g : Graph = view p in
     let a = accepted-write g before n (sym (w .answer)) in
-    let b : after ≡ image g ++ drop n before = w .buffer ∙ ap (written g before) (sym (w .answer)) in
+    let b : after ≡ image g ++ drop n before = w .buffer ∙ ap (written (image g) before) (sym (w .answer)) in
     let o : take n after ≡ image g = ap (λ (l : List ℕ). take n l) b ∙ take-at (image g) (drop n before) n (length-image g ∙ a .1) in
     let r : readRule (view old) (take n after) ≡ accepted g = rw (h, o) (read-image g (a .0)) in
     (accepted-answer (e .answer) (x .answer ∙ ap answerOf r), x .plan ∙ ap (next (view old)) r)
 
 -- every image read writes back as those octets, into any buffer that has room
 pub read-then-write : (old : Plan) (octets : List ℕ) (e : Edited) (before after : List ℕ) (w : Written) → Octets octets → Edit old (readRule (view old) octets) e
-    → e .answer ≡ Accepted → Write (view (e .plan)) before after w → length octets ≤ length before → (w ≡ Length (length octets)) × (after ≡ octets ++ drop (length octets) before)
+    → e .answer ≡ Accepted → Write (image (view (e .plan))) (writeRule (view (e .plan)) before) before after w → length octets ≤ length before → (w ≡ Length (length octets)) × (after ≡ octets ++ drop (length octets) before)
 unfolding readRule writeRule
 read-then-write old octets e before after w ho x a y room =
     let m = accepted-as (readRule (view old) octets) (ap said (sym a) ∙ x .answer) in
@@ -105,7 +115,7 @@ read-then-write old octets e before after w ho x a y room =
     let l : ltb (length before) (length octets) ≡ false = le-ltb (length before) (length octets) room in
     let u : writeRule (view (e .plan)) before ≡ accepted (length octets) = ap (λ (x : Graph). writeRule x before) s ∙ rw (read-within octets g r, k, l) in (
       length-answer w (length octets) (y .answer ∙ u),
-      y .buffer ∙ ap (written (view (e .plan)) before) u ∙ ap {B = List ℕ} (λ (x : Graph). image x ++ drop (length octets) before) s
+      y .buffer ∙ ap (written (image (view (e .plan))) before) u ∙ ap {B = List ℕ} (λ (x : Graph). image x ++ drop (length octets) before) s
           ∙ ap {B = List ℕ} (λ (x : List ℕ). x ++ drop (length octets) before) i,
     )
 

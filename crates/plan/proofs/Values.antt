@@ -1,13 +1,13 @@
 -- Plan values and what they stand for: the counts are the lists' lengths, so the limits of the plan are those of the counts and the arrays.
 -- Assumes nothing.
-use mathlib.Core.Bool.{Bool, true, false, _&&_}
-use mathlib.Core.List.{List, [], _∷_, _++_}
-use mathlib.Core.Path.{_≡_, refl, sym, ap, ap₂, _∙_}
-use Prim.Native.Nat.{ℕ, zero, suc, _+_, _-_, _*_, _≤_, _<_}
+use mathlib.Core.Bool.{true, false, _&&_}
+use mathlib.Core.List.{List, _++_}
+use mathlib.Core.Path.{_≡_, sym, ap₂, _∙_}
+use Prim.Native.Nat.{ℕ, _+_, _*_, _≤_}
 use native.Mathlib.Omega.{arith}
-use lib.ListN.{length, getD, drop}
+use lib.ListN.{length, drop}
 use Rattle.field.specs.Field.{Field, Octets, putAll}
-use Rattle.graph.specs.Graph.{Graph, Transition, states, count}
+use Rattle.graph.specs.Graph.{states, count}
 use Rattle.rules.specs.Image.{image, imageLength, headerFields, stateFields, transitionFields, fieldsOfEach}
 use Rattle.rules.proofs.ReadWrite.{put-image}
 use Rattle.rules.specs.Limits.{all, within, stateCountOk, transitionCountOk, stateOk, transitionOk}
@@ -15,6 +15,14 @@ use Rattle.plan.specs.declared.Plan.{Plan}
 use Rattle.arrays.specs.Tables.{stateOf, statesOf, transitionOf, transitionsOf}
 use Rattle.plan.specs.View.{view}
 use Rattle.arrays.proofs.Lists.{length-tabulate}
+
+-- a plan value's arrays have their lengths
+pub record Sized (p : Plan) : Type 0 where
+  pub marks : length (p .marks) ≡ 512
+  pub from : length (p .from) ≡ 2048
+  pub to : length (p .to) ≡ 2048
+  pub low : length (p .low) ≡ 2048
+  pub high : length (p .high) ≡ 2048
 
 pub states-view : (p : Plan) → states (view p) ≡ p .states
 unfolding view

@@ -7,13 +7,12 @@ use Rattle.graph.specs.Graph.{Graph}
 use Rattle.rules.specs.declared.Answer.{Answer}
 use Rattle.rules.specs.declared.Refusal.{Refusal}
 use Rattle.rules.specs.Calls.{Call, step}
-use Rattle.rules.specs.Refusal.{Result, accepted, refused, number, answerOf, said}
-use Rattle.rules.specs.Rules.{next, writeRule, written}
+use Rattle.rules.specs.declared.Written.{Written}
+use Rattle.rules.specs.Refusal.{Result, accepted, refused, answerOf, said, wrote}
+use Rattle.rules.specs.Rules.{next, written}
 use Rattle.plan.specs.declared.Plan.{Plan}
 use Rattle.plan.specs.declared.Edited.{Edited}
-use Rattle.plan.specs.declared.Written.{Written}
-use Rattle.plan.specs.declared.Written.the-variants.{Length, Refused}
-use Rattle.plan.specs.View.{view}
+use Rattle.plan.specs.View.{view, laid}
 
 -- what a call returns: a refusal with the plan as it was, or the plan that it made
 abbrev pub refusing : Plan → Refusal → Edited
@@ -22,22 +21,22 @@ refusing p r = record { answer = Answer.Refused r; plan = p }
 abbrev pub accepting : Plan → Edited
 accepting p = record { answer = Answer.Accepted; plan = p }
 
--- a call that was given the plan p and for which the rules give o: its answer and the plan afterwards are the rules', and a refusal returns
--- the very plan value that was passed in
+-- the plan value after a call: the new plan, with every place past its counts as it was; "Any refused event: the plan stays", to the last place
+abbrev pub nextValue : Plan → Result Graph → Plan
+nextValue p (accepted g) = laid p g
+nextValue p (refused k) = p
+
+-- a call that was given the plan p and for which the rules give o: its answer and the plan afterwards are the rules', and so is every place of
+-- the plan value
 pub record Edit (p : Plan) (o : Result Graph) (r : Edited) : Type 0 where
   pub answer : said (r .answer) ≡ answerOf o
   pub plan : view (r .plan) ≡ next (view p) o
-  pub kept : (k : ℕ) → o ≡ refused k → r .plan ≡ p
+  pub whole : r .plan ≡ nextValue p o
 
--- what an answer of write says
-abbrev pub wrote : Written → Result ℕ
-wrote (Length n) = accepted n
-wrote (Refused r) = refused (number r)
-
--- a write of the plan g to a buffer: its answer and the buffer afterwards are the rules'
-pub record Write (g : Graph) (before after : List ℕ) (r : Written) : Type 0 where
-  pub answer : wrote r ≡ writeRule g before
-  pub buffer : after ≡ written g before (writeRule g before)
+-- a call that puts octets at the front of a lent buffer and for which the rules give o: its answer and the buffer afterwards are the rules'
+pub record Write (octets : List ℕ) (o : Result ℕ) (before after : List ℕ) (r : Written) : Type 0 where
+  pub answer : wrote r ≡ o
+  pub buffer : after ≡ written octets before o
 
 -- a list of calls, each handed the plan value that the one before it returned: what the promises say of its answers and of the last plan value
 pub data Obeyed : Plan → List Call → List Answer → Plan → Type 0 where

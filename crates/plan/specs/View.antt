@@ -1,14 +1,28 @@
 -- What a plan value means: the lists that its arrays and counts stand for. What stands in the arrays past the counts is no part of the plan.
 -- Document 01, "The plan and its edits" and "Choosing the form by place". Assumes nothing.
+use mathlib.Core.List.{map}
 use Prim.Native.Nat.{ℕ}
 use lib.ListN.{replicate}
-use Rattle.graph.specs.Graph.{Graph}
-use Rattle.arrays.specs.Tables.{statesOf, transitionsOf}
+use Rattle.graph.specs.Graph.{Graph, State, Transition, states, count}
+use Rattle.arrays.specs.Tables.{statesOf, transitionsOf, over}
 use Rattle.plan.specs.declared.Plan.{Plan}
 
 -- the plan that a plan value stands for, whatever the value is
 unfoldable pub view : Plan → Graph
 view p = record { stateList = statesOf (p .states) (p .marks); transitions = transitionsOf (p .transitions) (p .from) (p .to) (p .low) (p .high) }
+
+-- the plan value for g with the arrays of p: the marks and fields of g from the front on, and every later place as in p
+unfoldable pub laid : Plan → Graph → Plan
+laid p g =
+    record {
+      states = states g;
+      transitions = count g;
+      marks = over (map (λ (s : State). s .marks) (g .stateList)) (p .marks);
+      from = over (map (λ (t : Transition). t .from) (g .transitions)) (p .from);
+      to = over (map (λ (t : Transition). t .to) (g .transitions)) (p .to);
+      low = over (map (λ (t : Transition). t .low) (g .transitions)) (p .low);
+      high = over (map (λ (t : Transition). t .high) (g .transitions)) (p .high);
+    }
 
 -- the plan value with n states and all else zero
 abbrev pub blankPlan : ℕ → Plan

@@ -1,7 +1,8 @@
 // The call plan: its edits and its image. Every call takes the plan by value, refuses bad input by its row of the table, and returns a plan.
 ghost use mathlib.Core.Path.{_≡_};
 ghost use Rattle.rules.specs.Limits.{within as withinLimits};
-ghost use Rattle.rules.specs.Rules.{freshRule, markRule, joinRule, unjoinRule, readRule};
+ghost use Rattle.rules.specs.Image.{image};
+ghost use Rattle.rules.specs.Rules.{freshRule, markRule, joinRule, unjoinRule, readRule, writeRule};
 ghost use Rattle.arrays.specs.Tables.{transition};
 ghost use Rattle.plan.specs.View.{view, blankPlan, noPlan};
 ghost use Rattle.plan.specs.Promise.{Edit, Write, refusing, accepting};
@@ -11,6 +12,7 @@ use image::reading;
 use image::writing;
 use rules::Answer;
 use rules::Refusal;
+use rules::Written;
 
 // A plan: the two counts, a marks value for each state, and four fields for each transition. Places past the counts hold no part of it.
 pub struct Plan {
@@ -27,12 +29,6 @@ pub struct Plan {
 pub struct Edited {
     pub answer: Answer,
     pub plan: Plan,
-}
-
-// The answer of write: the image's length, or a refusal.
-pub enum Written {
-    Length(usize),
-    Refused(Refusal),
 }
 
 // Whether a plan value is within the limits of a plan.
@@ -107,10 +103,11 @@ pub fn fresh(n: usize) -> Edited
 pub fn mark(plan: Plan, state: usize, value: usize) -> Edited
     ensures { λ r. ⌜ Edit plan (markRule (view plan) state value) r ⌝ }
 {
-    if !within(plan) {
-        return refuse(plan, Refusal::PlanLimits);
-    }
+    let sound = within(plan);
     let n = plan.states;
+    if !sound {
+        return refuse(plan, Refusal::PlanLimits); // 0: the plan
+    }
     if n <= state {
         return refuse(plan, Refusal::StateNumber); // 7: the state
     }
@@ -131,16 +128,12 @@ pub fn join(plan: Plan, from: usize, to: usize, low: usize, high: usize) -> Edit
     }
     let n = plan.states;
     let m = plan.transitions;
-    let ends = limits::ends_ok(n, from, to);
-    let durations = limits::durations_ok(low, high);
-    if !ends {
-        return refuse(plan, Refusal::StateNumber); // 7: from or to
-    }
-    if !durations {
-        return refuse(plan, Refusal::Duration); // 8: low or high
+    let grounds = limits::checked(n, from, to, low, high);
+    if let Answer::Refused(r) = grounds {
+        return refuse(plan, r);
     }
     if 2048 <= m {
-        return refuse(plan, Refusal::ListFull); // 9: the list
+        return refuse(plan, Refusal::ListFull);
     }
     let mut joined = plan;
     joined.from[m] = from as u16;
@@ -193,19 +186,16 @@ pub fn read(plan: Plan, octets: &[u8]) -> Edited
     }
     let n = reading::state_count(octets);
     let m = reading::transition_count(octets);
-    let mut marks = [0u8; 512];
+    let mut marks = plan.marks;
     let marked = reading::states(octets, n, &mut marks);
     if let Answer::Refused(r) = marked {
         return refuse(plan, r);
     }
-    let mut from = [0u16; 2048];
-    let mut to = [0u16; 2048];
-    let mut low = [0u16; 2048];
-    let mut high = [0u16; 2048];
+    let mut from = plan.from;
+    let mut to = plan.to;
+    let mut low = plan.low;
+    let mut high = plan.high;
     let listed = reading::transitions(octets, n, m, &mut from, &mut to, &mut low, &mut high);
-    if let Answer::Refused(r) = listed {
-        return refuse(plan, r);
-    }
     let image = Plan {
         states: n,
         transitions: m,
@@ -215,12 +205,16 @@ pub fn read(plan: Plan, octets: &[u8]) -> Edited
         low,
         high,
     };
-    accept(image)
+    match listed {
+        Answer::Accepted => accept(image),
+        Answer::Refused(r) => refuse(plan, r), // the old plan
+    }
 }
 
 // Puts the image at the front of the buffer, and returns its length.
 pub fn write(plan: Plan, buffer: &mut [u8]) -> Written
-    ensures { λ r. ⌜ Write (view plan) (now (buffer .entry)) (now (buffer .exit)) r ⌝ }
+    ensures { λ r. ⌜ Write (image (view plan)) (writeRule (view plan) (now (buffer .entry)))
+        (now (buffer .entry)) (now (buffer .exit)) r ⌝ }
 {
     if !within(plan) {
         return Written::Refused(Refusal::PlanLimits);

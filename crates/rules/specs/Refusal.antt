@@ -6,6 +6,7 @@ use Prim.Native.Nat.{ℕ, zero, suc}
 use Rattle.rules.specs.declared.Answer.{Answer}
 use Rattle.rules.specs.declared.Answer.the-variants.{Accepted, Refused}
 use Rattle.rules.specs.declared.Refusal.{Refusal}
+use Rattle.rules.specs.declared.Written.{Written}
 use Rattle.rules.specs.declared.Refusal.the-variants.{PlanLimits, ImageShort, ImageLong, Version, StateCount, TransitionCount}
 use Rattle.rules.specs.declared.Refusal.the-variants.{SpareBits, StateNumber, Duration, ListFull, TransitionNumber, BufferLength}
 use Rattle.rules.specs.declared.Refusal.the-variants.{MarksValue, FigureSize}
@@ -62,6 +63,11 @@ answerOf (refused k) = refused k
 abbrev pub said : Answer → Result (Unit {0})
 said Accepted = accepted tt
 said (Refused r) = refused (number r)
+
+-- the same, of an answer with a number of octets
+abbrev pub wrote : Written → Result ℕ
+wrote (Written.Length n) = accepted n
+wrote (Written.Refused r) = refused (number r)
 
 -- what an answer of the code says of what it made
 abbrev pub outcome : {A : Type 0} → Answer → A → Result A

@@ -83,7 +83,8 @@ abbrev pub next : Graph → Result Graph → Graph
 next g (accepted g′) = g′
 next g (refused k) = g
 
--- the lent buffer after a write: "later octets stay", and a refusal leaves all
-abbrev pub written : Graph → List ℕ → Result ℕ → List ℕ
-written g buffer (accepted n) = image g ++ drop n buffer
-written g buffer (refused k) = buffer
+-- the lent buffer after a call that puts octets "at the front of the lent buffer and returns" their number: "later octets stay", and a
+-- refusal leaves all
+abbrev pub written : List ℕ → List ℕ → Result ℕ → List ℕ
+written octets buffer (accepted n) = octets ++ drop n buffer
+written octets buffer (refused k) = buffer

@@ -1,4 +1,4 @@
-// The grounds on which a call is refused, and the answer of a call that edits a plan. The rules themselves are definitions, in specs/.
+// The grounds on which a call is refused, and the answers of calls that edit a plan or fill a lent buffer. The rules themselves are definitions, in specs/.
 
 ghost use mathlib.Core.Path.{_≡_};
 ghost use Rattle.rules.specs.Refusal.{number as numberOf};
@@ -38,6 +38,12 @@ pub enum Refusal {
 // The answer of a call that makes or changes a plan.
 pub enum Answer {
     Accepted,
+    Refused(Refusal),
+}
+
+// The answer of a call that fills the front of a lent buffer: how many octets it put there, or a refusal.
+pub enum Written {
+    Length(usize),
     Refused(Refusal),
 }
 

@@ -1,23 +1,12 @@
 -- `binding::callplan_fresh` meets its contract: what the plan's own call promises, on the slices.
 -- Assumes nothing.
-use Prim.Native.Nat.{ℕ, _+_, _≤_}
-use mathlib.Core.Bool.{Bool, true, false}
-use mathlib.Core.List.{List}
-use mathlib.Core.Path.{_≡_, refl, sym, ap, _∙_, subst}
-use native.Mathlib.Omega.{arith}
+use mathlib.Core.Path.{sym, _∙_}
 use borrow.Author.Needs.{needs}
 use borrow.Author.Tests.{not-true, not-false}
-use lib.ListN.{length}
-use lib.Seq.{paste}
-use Rattle.plan.specs.declared.Plan.{Plan}
-use Rattle.plan.specs.declared.Edited.{Edited}
-use Rattle.plan.specs.Promise.{Edit}
-use Rattle.plan.specs.View.{view, noPlan}
-use Rattle.rules.specs.declared.Answer.{Answer}
-use Rattle.rules.specs.Rules.{freshRule, markRule, joinRule, unjoinRule, readRule}
-use Rattle.arrays.specs.Tables.{transition}
-use Rattle.binding.specs.Lent.{Slices, slices, planIn, hasRoom, Finished, LentEdit}
-use Rattle.binding.proofs.Stores.{Sized, stored, has-room, too-short, finished}
+use Rattle.plan.specs.View.{noPlan}
+use Rattle.rules.specs.Rules.{freshRule}
+use Rattle.binding.specs.Lent.{slices}
+use Rattle.binding.proofs.Stores.{has-room, too-short, finished}
 use Rattle.binding.proofs.callplan_fresh.Statement.{statement}
 use Rattle.binding.proofs.callplan_fresh.Tie as tie
 use Rattle.binding.proofs.callplan_fresh.Reads as reads
@@ -32,7 +21,7 @@ has-room-requires c κs = search needs
 returns : tie.Need-returns
 returns c =
     let a = c .before .before .before .before .before .args in
-    too-short (slices (a .counts .now) (a .marks .now) (a .fields .now)) (freshRule (a .n)) (sym (c .before .has-room .ensures) ∙ not-true _ (c .if1 .taken))
+    too-short noPlan (slices (a .counts .now) (a .marks .now) (a .fields .now)) (freshRule (a .n)) (sym (c .before .has-room .ensures) ∙ not-true _ (c .if1 .taken))
 
 fresh-requires : tie.Need-fresh-requires
 fresh-requires c κs = search needs

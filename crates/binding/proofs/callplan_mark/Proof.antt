@@ -1,23 +1,14 @@
 -- `binding::callplan_mark` meets its contract: what the plan's own call promises, on the slices.
 -- Assumes nothing.
-use Prim.Native.Nat.{ℕ, _+_, _≤_}
-use mathlib.Core.Bool.{Bool, true, false}
-use mathlib.Core.List.{List}
-use mathlib.Core.Path.{_≡_, refl, sym, ap, _∙_, subst}
-use native.Mathlib.Omega.{arith}
+use mathlib.Core.Path.{sym, _∙_, subst}
 use borrow.Author.Needs.{needs}
 use borrow.Author.Tests.{not-true, not-false}
-use lib.ListN.{length}
-use lib.Seq.{paste}
 use Rattle.plan.specs.declared.Plan.{Plan}
-use Rattle.plan.specs.declared.Edited.{Edited}
 use Rattle.plan.specs.Promise.{Edit}
-use Rattle.plan.specs.View.{view, noPlan}
-use Rattle.rules.specs.declared.Answer.{Answer}
-use Rattle.rules.specs.Rules.{freshRule, markRule, joinRule, unjoinRule, readRule}
-use Rattle.arrays.specs.Tables.{transition}
-use Rattle.binding.specs.Lent.{Slices, slices, planIn, hasRoom, Finished, LentEdit}
-use Rattle.binding.proofs.Stores.{Sized, stored, has-room, too-short, finished}
+use Rattle.plan.specs.View.{view}
+use Rattle.rules.specs.Rules.{markRule}
+use Rattle.binding.specs.Lent.{Slices, slices, planIn}
+use Rattle.binding.proofs.Stores.{has-room, too-short, finished}
 use Rattle.binding.proofs.callplan_mark.Statement.{statement}
 use Rattle.binding.proofs.callplan_mark.Tie as tie
 use Rattle.binding.proofs.callplan_mark.Reads as reads
@@ -34,7 +25,7 @@ returns : tie.Need-returns
 returns c =
     let a = c .before .before .before .before .before .args in
     let q = planIn (slices (a .counts .now) (a .marks .now) (a .fields .now)) in
-    too-short (slices (a .counts .now) (a .marks .now) (a .fields .now)) (markRule (view q) (a .state) (a .value)) (sym (c .before .has-room .ensures) ∙ not-true _ (c .if1 .taken))
+    too-short q (slices (a .counts .now) (a .marks .now) (a .fields .now)) (markRule (view q) (a .state) (a .value)) (sym (c .before .has-room .ensures) ∙ not-true _ (c .if1 .taken))
 
 load-requires : tie.Need-load-requires
 load-requires c κs = has-room (c .before .before .before .before .before .before .before .before .args .counts .now) (c .before .before .before .before .before .before .before .before .args .marks .now) (c .before .before .before .before .before .before .before .before .args .fields .now) (sym (c .before .before .before .before .has-room .ensures) ∙ not-false _ (c .before .before .before .if1 .left))

@@ -1,24 +1,16 @@
 -- `binding::callplan_write` meets its contract: what the plan's own call promises, on the slices.
 -- Assumes nothing.
-use Prim.Native.Nat.{ℕ, _+_, _≤_}
-use mathlib.Core.Bool.{Bool, true, false}
-use mathlib.Core.List.{List}
-use mathlib.Core.Path.{_≡_, refl, sym, ap, _∙_, subst}
+use mathlib.Core.Path.{sym, ap, _∙_}
 use native.Mathlib.Omega.{arith}
 use borrow.Author.Needs.{needs}
 use borrow.Author.Tests.{not-true, not-false}
-use lib.ListN.{length}
-use lib.Seq.{paste}
-use Rattle.plan.specs.declared.Plan.{Plan}
-use Rattle.plan.specs.declared.Edited.{Edited}
-use Rattle.plan.specs.Promise.{Edit}
-use Rattle.plan.specs.View.{view, noPlan}
-use Rattle.rules.specs.declared.Answer.{Answer}
-use Rattle.rules.specs.Rules.{freshRule, markRule, joinRule, unjoinRule, readRule}
-use Rattle.arrays.specs.Tables.{transition}
-use Rattle.binding.specs.Lent.{Slices, slices, planIn, hasRoom, Finished, LentEdit}
-use Rattle.plan.specs.Promise.{wrote}
-use Rattle.plan.specs.declared.Written.{Written}
+use Rattle.plan.specs.View.{view}
+use Rattle.graph.specs.Graph.{Graph}
+use Rattle.rules.specs.Rules.{writeRule}
+use Rattle.binding.specs.Lent.{slices, planIn}
+use Rattle.rules.specs.Image.{image}
+use Rattle.rules.specs.Refusal.{wrote}
+use Rattle.rules.specs.declared.Written.{Written}
 use Rattle.binding.specs.Lent.{lengthCode}
 use Rattle.binding.proofs.Stores.{has-room, write-length, write-short, write-finished}
 use Rattle.binding.proofs.callplan_write.Statement.{statement}
@@ -36,7 +28,8 @@ has-room-requires c κs = search needs
 returns : tie.Need-returns
 returns c =
     let a = c .before .before .before .before .before .before .args in
-    write-short (slices (a .counts .now) (a .marks .now) (a .fields .now)) (a .buffer .now) (sym (c .before .has-room .ensures) ∙ not-true _ (c .if1 .taken))
+    let g = view (planIn (slices (a .counts .now) (a .marks .now) (a .fields .now))) in
+    write-short (slices (a .counts .now) (a .marks .now) (a .fields .now)) (image g) (writeRule g (a .buffer .now)) (a .buffer .now) (sym (c .before .has-room .ensures) ∙ not-true _ (c .if1 .taken))
 
 load-requires : tie.Need-load-requires
 load-requires c κs = has-room (c .before .before .before .before .before .before .args .counts .now) (c .before .before .before .before .before .before .args .marks .now) (c .before .before .before .before .before .before .args .fields .now) (sym (c .before .has-room .ensures) ∙ not-false _ (c .if1 .left))
@@ -69,7 +62,7 @@ same-length c = search needs
 returns-2 : tie.Need-returns-2
 returns-2 c =
     let a = c .before .before .before .before .before .before .before .before .before .before .before .before .before .before .args in
-    write-finished (c .before .before .before .before .before .before .before .load .result) (slices (a .counts .now) (a .marks .now) (a .fields .now)) (a .buffer .now) _ (c .before .before .before .before .before .write .result) _ (sym (c .before .before .before .before .before .before .before .before .before .has-room .ensures) ∙ not-false _ (c .before .before .before .before .before .before .before .before .if1 .left)) (c .before .before .before .before .before .before .before .load .ensures) (c .before .before .before .before .before .write .ensures)
+    write-finished image (λ (g : Graph). writeRule g (a .buffer .now)) (c .before .before .before .before .before .before .before .load .result) (slices (a .counts .now) (a .marks .now) (a .fields .now)) (a .buffer .now) _ (c .before .before .before .before .before .write .result) _ (sym (c .before .before .before .before .before .before .before .before .before .has-room .ensures) ∙ not-false _ (c .before .before .before .before .before .before .before .before .if1 .left)) (c .before .before .before .before .before .before .before .load .ensures) (c .before .before .before .before .before .write .ensures)
     (ap (λ (w : Written). lengthCode (wrote w)) (sym (c .before .written .given .1)))
 
 same-length-2 : tie.Need-same-length-2
@@ -78,7 +71,7 @@ same-length-2 c = search needs
 returns-3 : tie.Need-returns-3
 returns-3 c =
     let a = c .before .before .before .before .before .before .before .before .before .before .before .before .before .before .before .args in
-    write-finished (c .before .before .before .before .before .before .before .before .load .result) (slices (a .counts .now) (a .marks .now) (a .fields .now)) (a .buffer .now) _ (c .before .before .before .before .before .before .write .result) _ (sym (c .before .before .before .before .before .before .before .before .before .before .has-room .ensures) ∙ not-false _ (c .before .before .before .before .before .before .before .before .before .if1 .left)) (c .before .before .before .before .before .before .before .before .load .ensures) (c .before .before .before .before .before .before .write .ensures)
+    write-finished image (λ (g : Graph). writeRule g (a .buffer .now)) (c .before .before .before .before .before .before .before .before .load .result) (slices (a .counts .now) (a .marks .now) (a .fields .now)) (a .buffer .now) _ (c .before .before .before .before .before .before .write .result) _ (sym (c .before .before .before .before .before .before .before .before .before .before .has-room .ensures) ∙ not-false _ (c .before .before .before .before .before .before .before .before .before .if1 .left)) (c .before .before .before .before .before .before .before .before .load .ensures) (c .before .before .before .before .before .before .write .ensures)
     (c .number .ensures ∙ ap (λ (w : Written). lengthCode (wrote w)) (sym (c .before .before .written2 .given .1)))
 
 pub callplan-write-spec : {M : Type 1} → statement M

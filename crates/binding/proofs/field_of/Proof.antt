@@ -1,13 +1,13 @@
 -- `binding::field_of` meets its contract. The invariant: the places up to i are the slice's from at on.
 -- Assumes nothing.
-use Prim.Native.Nat.{ℕ, _+_, _-_, _≤_, _<_}
+use Prim.Native.Nat.{ℕ, _-_, _≤_}
 use mathlib.Core.List.{List}
 use mathlib.Core.Path.{_≡_, refl, sym, ap, ap₂, _∙_}
 use native.Mathlib.Omega.{arith}
 use borrow.Author.Needs.{needs}
-use lib.ListN.{length, getD, take, drop, set, replicate, length-set, length-drop}
+use lib.ListN.{length, drop, set, replicate, length-set, length-drop}
 use lib.Seq.{paste, paste-zero, getD-drop}
-use Rattle.binding.proofs.Copies.{copy-more, copy-all, paste-more}
+use Rattle.binding.proofs.Copies.{copy-more, copy-all}
 use Rattle.binding.proofs.field_of.Statement.{statement}
 use Rattle.binding.proofs.field_of.Tie as tie
 use Rattle.binding.proofs.field_of.Reads as reads

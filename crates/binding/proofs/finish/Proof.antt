@@ -1,23 +1,8 @@
 -- `binding::finish` meets its contract: the answer says whether the plan is stored.
 -- Assumes nothing.
-use Prim.Native.Nat.{ℕ, _+_, _≤_}
-use mathlib.Core.Bool.{Bool, true, false}
-use mathlib.Core.List.{List}
-use mathlib.Core.Path.{_≡_, refl, sym, ap, _∙_, subst}
-use native.Mathlib.Omega.{arith}
+use mathlib.Core.Path.{_≡_, refl}
 use borrow.Author.Needs.{needs}
-use borrow.Author.Tests.{not-true, not-false}
-use lib.ListN.{length}
-use lib.Seq.{paste}
-use Rattle.plan.specs.declared.Plan.{Plan}
-use Rattle.plan.specs.declared.Edited.{Edited}
-use Rattle.plan.specs.Promise.{Edit}
-use Rattle.plan.specs.View.{view, noPlan}
 use Rattle.rules.specs.declared.Answer.{Answer}
-use Rattle.rules.specs.Rules.{freshRule, markRule, joinRule, unjoinRule, readRule}
-use Rattle.arrays.specs.Tables.{transition}
-use Rattle.binding.specs.Lent.{Slices, slices, planIn, hasRoom, Finished, LentEdit}
-use Rattle.binding.proofs.Stores.{Sized, stored, has-room, too-short, finished}
 use Rattle.binding.proofs.finish.Statement.{statement}
 use Rattle.binding.proofs.finish.Tie as tie
 use Rattle.binding.proofs.finish.Reads as reads

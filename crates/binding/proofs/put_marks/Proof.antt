@@ -1,13 +1,13 @@
 -- `binding::put_marks` meets its contract. The invariant: the places up to i are the marks'.
 -- Assumes nothing.
-use Prim.Native.Nat.{ℕ, _+_, _-_, _≤_, _<_}
+use Prim.Native.Nat.{ℕ, _-_, _≤_}
 use mathlib.Core.List.{List}
-use mathlib.Core.Path.{_≡_, refl, sym, ap, ap₂, _∙_}
+use mathlib.Core.Path.{_≡_, ap, _∙_}
 use native.Mathlib.Omega.{arith}
 use borrow.Author.Needs.{needs}
-use lib.ListN.{length, getD, take, drop, set, replicate, length-set, length-drop}
-use lib.Seq.{paste, paste-zero, getD-drop}
-use Rattle.binding.proofs.Copies.{copy-more, copy-all, paste-more}
+use lib.ListN.{length, getD, set, length-set}
+use lib.Seq.{paste, paste-zero}
+use Rattle.binding.proofs.Copies.{copy-more}
 use Rattle.binding.proofs.put_marks.Statement.{statement}
 use Rattle.binding.proofs.put_marks.Tie as tie
 use Rattle.binding.proofs.put_marks.Reads as reads

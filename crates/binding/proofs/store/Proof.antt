@@ -1,23 +1,12 @@
 -- `binding::store` meets its contract: each part is copied to its own places.
 -- Assumes nothing.
-use Prim.Native.Nat.{ℕ, _+_, _≤_}
-use mathlib.Core.Bool.{Bool, true, false}
+use Prim.Native.Nat.{ℕ}
 use mathlib.Core.List.{List}
-use mathlib.Core.Path.{_≡_, refl, sym, ap, _∙_, subst}
-use native.Mathlib.Omega.{arith}
+use mathlib.Core.Path.{ap, _∙_}
 use borrow.Author.Needs.{needs}
-use borrow.Author.Tests.{not-true, not-false}
-use lib.ListN.{length}
 use lib.Seq.{paste}
-use Rattle.plan.specs.declared.Plan.{Plan}
-use Rattle.plan.specs.declared.Edited.{Edited}
-use Rattle.plan.specs.Promise.{Edit}
-use Rattle.plan.specs.View.{view, noPlan}
-use Rattle.rules.specs.declared.Answer.{Answer}
-use Rattle.rules.specs.Rules.{freshRule, markRule, joinRule, unjoinRule, readRule}
-use Rattle.arrays.specs.Tables.{transition}
-use Rattle.binding.specs.Lent.{Slices, slices, planIn, hasRoom, Finished, LentEdit}
-use Rattle.binding.proofs.Stores.{Sized, stored, has-room, too-short, finished}
+use Rattle.plan.proofs.Values.{Sized}
+use Rattle.binding.proofs.Stores.{stored}
 use Rattle.binding.proofs.store.Statement.{statement}
 use Rattle.binding.proofs.store.Tie as tie
 use Rattle.binding.proofs.store.Reads as reads
@@ -65,7 +54,7 @@ returns c =
     let p = a .plan in
     let z : Sized p = sized (c .before .before .before .before .before .before .before .before .before .before .before .before .before .before .before .before .before .before .before .before .before .before .before .before .before .before .before .before) in
     let P : List ℕ → ℕ → List ℕ → List ℕ = λ d at s. paste d at s 2048 in
-    stored p z (a .counts .now) (a .marks .now) (a .fields .now) (c .before .before .before .before .before .before .before .before .before .before .before .before .before .before .before .before .before .before .before .before .before .before .before .before .before .before .before .before .pre) (c .before .before .before .before .before .before .before .before .before .before .before .before .before .before .before .before .before .before .put-marks .last .0) (c .before .before .put-field4 .last .0)
+    stored p z (a .counts .now) (a .marks .now) (a .fields .now) (c .before .before .before .before .before .before .before .before .before .before .before .before .before .before .before .before .before .before .put-marks .last .0) (c .before .before .put-field4 .last .0) (c .before .before .before .before .before .before .before .before .before .before .before .before .before .before .before .before .before .before .before .before .before .before .before .before .before .before .before .before .pre)
     (c .before .before .before .before .before .before .before .before .before .before .before .before .before .before .before .before .before .before .put-marks .ensures)
     (c .before .before .put-field4 .ensures
     ∙ ap (λ (d : List ℕ). P d 6144 (p .high))

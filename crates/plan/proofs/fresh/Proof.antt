@@ -1,23 +1,17 @@
 -- `plan::fresh` meets its contract: a refusal hands back the plan value with no states, and an accepted plan stands for the rule's.
 -- Assumes nothing.
-use Prim.Native.Nat.{ℕ, _+_, _-_, _≤_, _<_}
-use mathlib.Core.Bool.{Bool, true, false, not, _&&_}
-use mathlib.Core.Path.{_≡_, refl, sym, ap, _∙_}
-use native.Mathlib.Omega.{arith}
+use Prim.Native.Nat.{_≤_}
+use mathlib.Core.Bool.{true, false}
+use mathlib.Core.Path.{_≡_, sym, _∙_}
 use borrow.Author.Needs.{needs}
-use borrow.Author.Tests.{le-leb, lt-leb, leb-true, ltb-true, not-true, not-false}
-use lib.Dec.{leb, ltb}
-use lib.ListN.{length}
-use Rattle.rules.specs.declared.Refusal.the-variants.{PlanLimits, StateCount, StateNumber, Duration, ListFull, TransitionNumber, MarksValue}
-use Rattle.rules.specs.Limits.{within, stateCountOk, endsOk, durationsOk}
-use Rattle.rules.specs.Refusal.{Result, accepted, refused}
-use Rattle.rules.specs.Rules.{freshRule, markRule, joinRule, unjoinRule, freshGraph, withMark, withTransition, without}
+use borrow.Author.Tests.{leb-true, not-true, not-false}
+use lib.Dec.{leb}
+use Rattle.rules.specs.declared.Refusal.the-variants.{StateCount}
+use Rattle.rules.specs.Limits.{stateCountOk}
+use Rattle.rules.specs.Rules.{freshRule, freshGraph}
 use Rattle.rules.proofs.Results.{and-true}
-use Rattle.rules.proofs.ReadWrite.{limited}
-use Rattle.arrays.specs.Tables.{transition}
-use Rattle.plan.specs.View.{view, blankPlan, noPlan}
-use Rattle.plan.proofs.Edits.{refusal, acceptance, view-blank, marked, view-marked, joined, view-joined, unjoined, view-unjoined}
-use Rattle.plan.proofs.Values.{states-view, count-view}
+use Rattle.plan.specs.View.{blankPlan, noPlan}
+use Rattle.plan.proofs.Edits.{refusal, acceptance, view-blank, past-blank}
 use Rattle.plan.proofs.fresh.Statement.{statement}
 use Rattle.plan.proofs.fresh.Tie as tie
 use Rattle.plan.proofs.fresh.Reads as reads
@@ -55,8 +49,9 @@ unfolding freshRule
 returns-2 c =
     let n = c .before .before .before .before .args .n in
     let s : stateCountOk n ≡ true = sym (c .before .before .before .state-count-ok .ensures) ∙ not-false _ (c .before .before .if1 .left) in
+    let h : n ≤ 512 = leb-true n 512 (and-true (leb 1 n) (leb n 512) s .1) in
     rw (c .accept .ensures)
-    (rw (c .before .blank2 .ensures) (acceptance noPlan (blankPlan n) (freshRule n) (freshGraph n) (rw s) (view-blank n (leb-true n 512 (and-true (leb 1 n) (leb n 512) s .1)))))
+    (rw (c .before .blank2 .ensures) (acceptance noPlan (blankPlan n) (freshRule n) (freshGraph n) (rw s) (view-blank n h) (past-blank n h)))
 
 pub fresh-spec : {M : Type 1} → statement M
 fresh-spec =

@@ -1,20 +1,18 @@
 -- `plan::mark` meets its contract: each test is the next ground of the rule, in the rule's order.
 -- Assumes nothing.
-use Prim.Native.Nat.{ℕ, _+_, _-_, _≤_, _<_}
-use mathlib.Core.Bool.{Bool, true, false, not, _&&_}
-use mathlib.Core.Path.{_≡_, refl, sym, ap, _∙_}
+use Prim.Native.Nat.{_≤_}
+use mathlib.Core.Bool.{true, false}
+use mathlib.Core.Path.{_≡_, sym, _∙_}
 use native.Mathlib.Omega.{arith}
 use borrow.Author.Needs.{needs}
-use borrow.Author.Tests.{le-leb, lt-leb, leb-true, ltb-true, not-true, not-false}
-use lib.ListN.{length}
+use borrow.Author.Tests.{le-leb, lt-leb, not-true, not-false}
 use Rattle.rules.specs.declared.Refusal.the-variants.{PlanLimits, StateNumber, MarksValue}
 use Rattle.rules.specs.Limits.{within}
-use Rattle.rules.specs.Refusal.{Result, accepted, refused}
 use Rattle.rules.specs.Rules.{markRule, withMark}
 use Rattle.rules.proofs.ReadWrite.{limited}
 use Rattle.plan.specs.View.{view}
-use Rattle.plan.proofs.Edits.{refusal, acceptance, marked, view-marked}
-use Rattle.plan.proofs.Values.{states-view}
+use Rattle.plan.proofs.Edits.{refusal, acceptance, marked, view-marked, past-marked}
+use Rattle.plan.proofs.Values.{Sized, states-view, count-view}
 use Rattle.plan.proofs.mark.Statement.{statement}
 use Rattle.plan.proofs.mark.Tie as tie
 use Rattle.plan.proofs.mark.Reads as reads
@@ -72,6 +70,10 @@ element-write-marked c =
 accept-requires : tie.Need-accept-requires
 accept-requires c κs = search needs
 
+-- the arrays of a plan value have their lengths
+sized : (c : tie.Start) → Sized (c .args .plan)
+sized c = record { marks = search needs; from = search needs; to = search needs; low = search needs; high = search needs }
+
 returns-4 : tie.Need-returns-4
 unfolding markRule
 returns-4 c =
@@ -79,11 +81,14 @@ returns-4 c =
     let state = c .before .before .before .before .before .args .state in
     let value = c .before .before .before .before .before .args .value in
     let w : within (view p) ≡ true = sym (c .before .before .before .before .within .ensures) ∙ not-false _ (c .before .before .before .if1 .left) in
-    let l : length (p .marks) ≡ 512 = search needs in
+    let z = sized (c .before .before .before .before .before) in
+    let l = limited (view p) w in
+    let n : p .states ≤ 512 = omega (arith, l, states-view p) in
     rw (c .accept .ensures)
     (acceptance p (marked p state value) (markRule (view p) state value) (withMark (view p) state value)
     (rw (w, states-view p, lt-leb (p .states) state (c .before .before .if2 .left), le-leb value 7 (c .before .if3 .left)))
-    (view-marked p state value (omega (arith, limited (view p) w, states-view p))))
+    (view-marked p state value (omega (arith, z .marks)))
+    (past-marked p z state value (c .before .before .if2 .left) n (omega (arith, l, count-view p))))
 
 pub mark-spec : {M : Type 1} → statement M
 mark-spec =

@@ -2,29 +2,26 @@
 -- each refusal is handed on with the plan as it was.
 -- Assumes nothing.
 use mathlib.Core.List.{List}
-use Rattle.graph.specs.Graph.{Graph, Transition}
+use Rattle.graph.specs.Graph.{State, Transition}
 use Rattle.arrays.specs.Tables.{statesOf, transitionsOf}
 use Rattle.rules.proofs.ReadWrite.{Header, accepted-header}
-use Prim.Native.Nat.{ℕ, _+_, _-_, _≤_, _<_}
-use mathlib.Core.Bool.{Bool, true, false, not, _&&_}
+use Prim.Native.Nat.{ℕ}
+use mathlib.Core.Bool.{true, false}
 use mathlib.Core.Path.{_≡_, refl, sym, ap, _∙_}
 use native.Mathlib.Omega.{arith}
 use borrow.Author.Needs.{needs}
-use borrow.Author.Tests.{le-leb, lt-leb, leb-true, ltb-true, not-true, not-false}
-use lib.Dec.{leb, ltb}
-use lib.ListN.{length}
-use Rattle.rules.specs.declared.Refusal.the-variants.{PlanLimits, StateCount, StateNumber, Duration, ListFull, TransitionNumber, MarksValue}
-use Rattle.rules.specs.Limits.{within, stateCountOk, endsOk, durationsOk}
-use Rattle.rules.specs.Refusal.{Result, accepted, refused}
+use borrow.Author.Tests.{not-true, not-false}
+use Rattle.rules.specs.declared.Refusal.the-variants.{PlanLimits}
+use Rattle.rules.specs.Limits.{within}
+use Rattle.rules.specs.Refusal.{accepted, refused}
 use Rattle.rules.specs.declared.Answer.{Answer}
-use Rattle.rules.specs.declared.Answer.the-variants.{Accepted, Refused}
 use Rattle.rules.specs.Refusal.{number, said, outcome}
 use Rattle.rules.specs.Rules.{readRule}
-use Rattle.rules.specs.Image.{headerRule, statesIn, transitionsIn, readImage, stateCountOf, transitionCountOf, imageLength}
-use Rattle.rules.proofs.Results.{and-true}
+use Rattle.rules.specs.Image.{headerRule, statesIn, transitionsIn, readImage, stateCountOf, transitionCountOf}
+use Rattle.plan.specs.declared.Plan.{Plan}
 use Rattle.plan.specs.View.{view}
 use Rattle.plan.proofs.Edits.{refusal, acceptance}
-use Rattle.plan.proofs.Values.{states-view, count-view}
+use Rattle.plan.proofs.Values.{Sized}
 use Rattle.plan.proofs.read.Statement.{statement}
 use Rattle.plan.proofs.read.Tie as tie
 use Rattle.plan.proofs.read.Reads as reads
@@ -40,6 +37,10 @@ use Rattle.plan.proofs.refuse.Reads as refuse-reads
 
 within-requires : tie.Need-within-requires
 within-requires c κs = search needs
+
+-- the arrays of a plan value have their lengths
+sized : (c : tie.Start) → Sized (c .args .plan)
+sized c = record { marks = search needs; from = search needs; to = search needs; low = search needs; high = search needs }
 
 refuse-requires : tie.Need-refuse-requires
 refuse-requires c κs = search needs
@@ -66,56 +67,86 @@ unfolding readRule readImage
 returns-2 c =
     let p = c .before .before .before .before .before .before .before .before .args .plan in
     let os = c .before .before .before .before .before .before .before .before .args .octets .now in
+    let r = c .before .before .head .given .0 .0 in
     let w : within (view p) ≡ true = sym (c .before .before .before .before .before .before .within .ensures) ∙ not-false _ (c .before .before .before .before .before .if1 .left) in
-    let h : headerRule os ≡ refused (number (c .before .before .head .given .0 .0)) = sym (c .before .before .before .before .header .ensures) ∙ ap said (c .before .before .head .given .1) in
-    rw (c .refuse2 .ensures)
-    (refusal p (readRule (view p) os) (c .before .before .head .given .0 .0) (rw (w, h)))
+    let h : headerRule os ≡ refused (number r) = sym (c .before .before .before .before .header .ensures) ∙ ap said (c .before .before .head .given .1) in
+    rw (c .refuse2 .ensures) (refusal p (readRule (view p) os) r (rw (w, h)))
 
 enum-told : tie.Need-enum-told
 enum-told c = search needs
 
-head : (c : tie.After-enum-told) → (headerRule (c .before .before .before .before .before .before .args .octets .now) ≡ accepted tt) × Header (c .before .before .before .before .before .before .args .octets .now)
+-- what is known once the header is accepted
+record Head (p : Plan) (os : List ℕ) : Type 0 where
+  sound : within (view p) ≡ true
+  rule : headerRule os ≡ accepted tt
+  header : Header os
+
+head : (c : tie.After-enum-told) → Head (c .before .before .before .before .before .before .args .plan) (c .before .before .before .before .before .before .args .octets .now)
 head c =
     let os = c .before .before .before .before .before .before .args .octets .now in
     let h : headerRule os ≡ accepted tt = sym (c .before .before .header .ensures) ∙ ap said (c .enum-told .given .1) in
-    (h, accepted-header os h)
+    record { sound = sym (c .before .before .before .before .within .ensures) ∙ not-false _ (c .before .before .before .if1 .left); rule = h; header = accepted-header os h }
 
 state-count-requires : tie.Need-state-count-requires
-state-count-requires c κs = omega (arith, head c .1 .long)
+state-count-requires c κs = omega (arith, head c .header .long)
 
 transition-count-requires : tie.Need-transition-count-requires
-transition-count-requires c κs = omega (arith, head (c .before) .1 .long)
+transition-count-requires c κs = omega (arith, head (c .before) .header .long)
 
 states-requires : tie.Need-states-requires
-states-requires c κs = omega (arith, head (c .before .before .before) .1, c .before .before .state-count .ensures, c .before .transition-count .ensures)
+states-requires c κs =
+    omega (arith, head (c .before .before .before .before) .header, c .before .before .before .state-count .ensures, c .before .before .transition-count .ensures, sized (c .before .before .before .before .before .before .before .before .before .before) .marks)
 
 enum-known-marked : tie.Need-enum-known-marked
 enum-known-marked c = search needs
+
+-- the rule once the states were read: they are accepted as the array has them, or refused
+module _ (p : Plan) (os : List ℕ) (h : Head p os) (n m : ℕ) (en : n ≡ stateCountOf os) (em : m ≡ transitionCountOf os) where
+  by-states : (r : ℕ) → statesIn os n ≡ refused r → readRule (view p) os ≡ refused r
+  unfolding readRule readImage
+  by-states r s = rw (h .sound, h .rule, ← en, s)
+
+  by-transitions : (states : List State) (r : ℕ) → statesIn os n ≡ accepted states → transitionsIn os n m ≡ refused r → readRule (view p) os ≡ refused r
+  unfolding readRule readImage
+  by-transitions states r s t = rw (h .sound, h .rule, ← en, ← em, s, t)
+
+  by-both : (states : List State) (ts : List Transition) → statesIn os n ≡ accepted states → transitionsIn os n m ≡ accepted ts
+      → readRule (view p) os ≡ accepted (record { stateList = states; transitions = ts })
+  unfolding readRule readImage
+  by-both states ts s t = rw (h .sound, h .rule, ← en, ← em, s, t)
 
 refuse-requires-3 : tie.Need-refuse-requires-3
 refuse-requires-3 c κs = search needs
 
 returns-3 : tie.Need-returns-3
-unfolding readRule readImage
 returns-3 c =
-    let p = c .before .before .before .before .before .before .before .before .before .before .before .before .before .before .args .plan in
-    let os = c .before .before .before .before .before .before .before .before .before .before .before .before .before .before .args .octets .now in
-    let n = c .before .before .before .before .before .before .before .state-count .result in
-    let m = c .before .before .before .before .before .before .transition-count .result in
-    let w : within (view p) ≡ true = sym (c .before .before .before .before .before .before .before .before .before .before .before .before .within .ensures) ∙ not-false _ (c .before .before .before .before .before .before .before .before .before .before .before .if1 .left) in
-    let h : headerRule os ≡ accepted tt = head (c .before .before .before .before .before .before .before .before) .0 in
-    let en : stateCountOf os ≡ n = sym (c .before .before .before .before .before .before .before .state-count .ensures) in
-    let em : transitionCountOf os ≡ m = sym (c .before .before .before .before .before .before .transition-count .ensures) in
+    let a = c .before .before .before .before .before .before .before .before .before .before .before .before .before .before .before .args in
+    let n = c .before .before .before .before .before .before .before .before .state-count .result in
     let r = c .before .before .marked .given .0 .0 in
-    let s : statesIn os n ≡ refused (number r) = sym (c .before .before .before .before .states .ensures) ∙ ap (λ (x : Answer). outcome x (statesOf n (c .before .before .before .before .states .last .1 .1 .0))) (c .before .before .marked .given .1) in
+    let s : statesIn (a .octets .now) n ≡ refused (number r) =
+    sym (c .before .before .before .before .states .ensures .0) ∙ ap (λ (x : Answer). outcome x (statesOf n (c .before .before .before .before .states .last .1 .1 .0))) (c .before .before .marked .given .1) in
     rw (c .refuse3 .ensures)
-    (refusal p (readRule (view p) os) r (rw (w, h, en, s)))
+    (refusal (a .plan) (readRule (view (a .plan)) (a .octets .now)) r
+    (by-states (a .plan) (a .octets .now) (head (c .before .before .before .before .before .before .before .before .before)) n (c .before .before .before .before .before .before .before .transition-count .result) (c .before .before .before .before .before .before .before .before .state-count .ensures) (c .before .before .before .before .before .before .before .transition-count .ensures) (number r) s))
 
 enum-told-2 : tie.Need-enum-told-2
 enum-told-2 c = search needs
 
 transitions-requires : tie.Need-transitions-requires
-transitions-requires c κs = omega (arith, head (c .before .before .before .before .before .before .before .before .before .before) .1, c .before .before .before .before .before .before .before .before .before .state-count .ensures, c .before .before .before .before .before .before .before .before .transition-count .ensures)
+transitions-requires c κs =
+    let z = sized (c .before .before .before .before .before .before .before .before .before .before .before .before .before .before .before .before .before .before .before .before .before) in
+    omega (arith, head (c .before .before .before .before .before .before .before .before .before .before .before .before .before .before .before) .header, c .before .before .before .before .before .before .before .before .before .before .before .before .before .before .state-count .ensures, c .before .before .before .before .before .before .before .before .before .before .before .before .before .transition-count .ensures, z .from, z .to, z .low, z .high)
+
+-- the states are accepted as the array has them
+marked : (c : tie.After-enum-told2) → statesIn (c .before .before .before .before .before .before .before .before .before .before .before .before .before .args .octets .now) (c .before .before .before .before .before .before .state-count .result) ≡ accepted (statesOf (c .before .before .before .before .before .before .state-count .result) (c .before .before .states .last .1 .1 .0))
+marked c =
+    sym (c .before .before .states .ensures .0) ∙ ap (λ (x : Answer). outcome x (statesOf (c .before .before .before .before .before .before .state-count .result) (c .before .before .states .last .1 .1 .0))) (c .enum-told2 .given .1)
+
+enum-told-3 : tie.Need-enum-told-3
+enum-told-3 c = search needs
+
+accept-requires : tie.Need-accept-requires
+accept-requires c κs = search needs
 
 enum-known-listed : tie.Need-enum-known-listed
 enum-known-listed c = search needs
@@ -124,46 +155,32 @@ refuse-requires-4 : tie.Need-refuse-requires-4
 refuse-requires-4 c κs = search needs
 
 returns-4 : tie.Need-returns-4
-unfolding readRule readImage
+unfolding view
 returns-4 c =
-    let p = c .before .before .before .before .before .before .before .before .before .before .before .before .before .before .before .before .before .before .before .before .before .args .plan in
-    let os = c .before .before .before .before .before .before .before .before .before .before .before .before .before .before .before .before .before .before .before .before .before .args .octets .now in
-    let n = c .before .before .before .before .before .before .before .before .before .before .before .before .before .before .state-count .result in
-    let m = c .before .before .before .before .before .before .before .before .before .before .before .before .before .transition-count .result in
-    let w : within (view p) ≡ true = sym (c .before .before .before .before .before .before .before .before .before .before .before .before .before .before .before .before .before .before .before .within .ensures) ∙ not-false _ (c .before .before .before .before .before .before .before .before .before .before .before .before .before .before .before .before .before .before .if1 .left) in
-    let h : headerRule os ≡ accepted tt = head (c .before .before .before .before .before .before .before .before .before .before .before .before .before .before .before) .0 in
-    let en : stateCountOf os ≡ n = sym (c .before .before .before .before .before .before .before .before .before .before .before .before .before .before .state-count .ensures) in
-    let em : transitionCountOf os ≡ m = sym (c .before .before .before .before .before .before .before .before .before .before .before .before .before .transition-count .ensures) in
-    let ms = statesOf n (c .before .before .before .before .before .before .before .before .before .before .before .states .last .1 .1 .0) in
-    let s : statesIn os n ≡ accepted ms = sym (c .before .before .before .before .before .before .before .before .before .before .before .states .ensures) ∙ ap (λ (x : Answer). outcome x ms) (c .before .before .before .before .before .before .before .before .before .enum-told2 .given .1) in
-    let r = c .before .before .listed .given .0 .0 in
-    let t : transitionsIn os n m ≡ refused (number r) = sym (c .before .before .before .before .transitions .ensures) ∙ ap (λ (x : Answer). outcome x (transitionsOf m (c .before .before .before .before .transitions .last .1 .1 .1 .0) (c .before .before .before .before .transitions .last .1 .1 .1 .1 .0) (c .before .before .before .before .transitions .last .1 .1 .1 .1 .1 .0) (c .before .before .before .before .transitions .last .1 .1 .1 .1 .1 .1 .0))) (c .before .before .listed .given .1) in
-    rw (c .refuse4 .ensures)
-    (refusal p (readRule (view p) os) r (rw (w, h, en, em, s, t)))
-
-enum-told-3 : tie.Need-enum-told-3
-enum-told-3 c = search needs
-
-accept-requires : tie.Need-accept-requires
-accept-requires c κs = search needs
+    let a = c .before .before .before .before .before .before .before .before .before .before .before .before .before .before .before .before .before .before .before .before .before .before .before .before .before .args in
+    let n = c .before .before .before .before .before .before .before .before .before .before .before .before .before .before .before .before .before .before .state-count .result in
+    let m = c .before .before .before .before .before .before .before .before .before .before .before .before .before .before .before .before .before .transition-count .result in
+    let e = c .before .before .before .transitions .ensures in
+    let ms = statesOf n (c .before .before .before .before .before .before .before .before .before .before .before .before .before .before .states .last .1 .1 .0) in
+    let ts = transitionsOf m (c .before .before .before .transitions .last .1 .1 .1 .0) (c .before .before .before .transitions .last .1 .1 .1 .1 .0) (c .before .before .before .transitions .last .1 .1 .1 .1 .1 .0) (c .before .before .before .transitions .last .1 .1 .1 .1 .1 .1 .0) in
+    let t : transitionsIn (a .octets .now) n m ≡ accepted ts = sym (e .0) ∙ ap (λ (x : Answer). outcome x ts) (c .before .enum-told3 .given .1) in
+    rw (c .accept .ensures)
+    (acceptance (a .plan) _ (readRule (view (a .plan)) (a .octets .now)) (record { stateList = ms; transitions = ts })
+    (by-both (a .plan) (a .octets .now) (head (c .before .before .before .before .before .before .before .before .before .before .before .before .before .before .before .before .before .before .before)) n m (c .before .before .before .before .before .before .before .before .before .before .before .before .before .before .before .before .before .before .state-count .ensures) (c .before .before .before .before .before .before .before .before .before .before .before .before .before .before .before .before .before .transition-count .ensures) ms ts (marked (c .before .before .before .before .before .before .before .before .before .before .before .before)) t)
+    refl
+    (record { marks = c .before .before .before .before .before .before .before .before .before .before .before .before .before .before .states .ensures .1; from = e .1; to = e .2; low = e .3; high = e .4 }))
 
 returns-5 : tie.Need-returns-5
-unfolding readRule readImage view
 returns-5 c =
-    let p = c .before .before .before .before .before .before .before .before .before .before .before .before .before .before .before .before .before .before .before .before .args .plan in
-    let os = c .before .before .before .before .before .before .before .before .before .before .before .before .before .before .before .before .before .before .before .before .args .octets .now in
-    let n = c .before .before .before .before .before .before .before .before .before .before .before .before .before .state-count .result in
-    let m = c .before .before .before .before .before .before .before .before .before .before .before .before .transition-count .result in
-    let w : within (view p) ≡ true = sym (c .before .before .before .before .before .before .before .before .before .before .before .before .before .before .before .before .before .before .within .ensures) ∙ not-false _ (c .before .before .before .before .before .before .before .before .before .before .before .before .before .before .before .before .before .if1 .left) in
-    let h : headerRule os ≡ accepted tt = head (c .before .before .before .before .before .before .before .before .before .before .before .before .before .before) .0 in
-    let en : stateCountOf os ≡ n = sym (c .before .before .before .before .before .before .before .before .before .before .before .before .before .state-count .ensures) in
-    let em : transitionCountOf os ≡ m = sym (c .before .before .before .before .before .before .before .before .before .before .before .before .transition-count .ensures) in
-    let ms = statesOf n (c .before .before .before .before .before .before .before .before .before .before .states .last .1 .1 .0) in
-    let s : statesIn os n ≡ accepted ms = sym (c .before .before .before .before .before .before .before .before .before .before .states .ensures) ∙ ap (λ (x : Answer). outcome x ms) (c .before .before .before .before .before .before .before .before .enum-told2 .given .1) in
-    let ts = transitionsOf m (c .before .before .before .transitions .last .1 .1 .1 .0) (c .before .before .before .transitions .last .1 .1 .1 .1 .0) (c .before .before .before .transitions .last .1 .1 .1 .1 .1 .0) (c .before .before .before .transitions .last .1 .1 .1 .1 .1 .1 .0) in
-    let t : transitionsIn os n m ≡ accepted ts = sym (c .before .before .before .transitions .ensures) ∙ ap (λ (x : Answer). outcome x ts) (c .before .enum-told3 .given .1) in
-    rw (c .accept .ensures)
-    (acceptance p _ (readRule (view p) os) (record { stateList = ms; transitions = ts }) (rw (w, h, en, em, s, t)) refl)
+    let a = c .before .before .before .before .before .before .before .before .before .before .before .before .before .before .before .before .before .before .before .before .before .before .before .before .before .before .args in
+    let n = c .before .before .before .before .before .before .before .before .before .before .before .before .before .before .before .before .before .before .before .state-count .result in
+    let m = c .before .before .before .before .before .before .before .before .before .before .before .before .before .before .before .before .before .before .transition-count .result in
+    let r = c .before .before .listed .given .0 .0 in
+    let ts = transitionsOf m (c .before .before .before .before .transitions .last .1 .1 .1 .0) (c .before .before .before .before .transitions .last .1 .1 .1 .1 .0) (c .before .before .before .before .transitions .last .1 .1 .1 .1 .1 .0) (c .before .before .before .before .transitions .last .1 .1 .1 .1 .1 .1 .0) in
+    let t : transitionsIn (a .octets .now) n m ≡ refused (number r) = sym (c .before .before .before .before .transitions .ensures .0) ∙ ap (λ (x : Answer). outcome x ts) (c .before .before .listed .given .1) in
+    rw (c .refuse4 .ensures)
+    (refusal (a .plan) (readRule (view (a .plan)) (a .octets .now)) r
+    (by-transitions (a .plan) (a .octets .now) (head (c .before .before .before .before .before .before .before .before .before .before .before .before .before .before .before .before .before .before .before .before)) n m (c .before .before .before .before .before .before .before .before .before .before .before .before .before .before .before .before .before .before .before .state-count .ensures) (c .before .before .before .before .before .before .before .before .before .before .before .before .before .before .before .before .before .before .transition-count .ensures) (statesOf n (c .before .before .before .before .before .before .before .before .before .before .before .before .before .before .before .states .last .1 .1 .0)) (number r) (marked (c .before .before .before .before .before .before .before .before .before .before .before .before .before)) t))
 
 pub read-spec : {M : Type 1} → statement M
 read-spec =
@@ -185,9 +202,9 @@ read-spec =
     returns-3
     enum-told-2
     transitions-requires
+    enum-told-3
+    accept-requires
     enum-known-listed
     refuse-requires-4
     returns-4
-    enum-told-3
-    accept-requires
     returns-5)

@@ -1,23 +1,18 @@
 -- `plan::unjoin` meets its contract: each test is the next ground of the rule, in the rule's order, and each array has its later places moved down.
 -- Assumes nothing.
-use Prim.Native.Nat.{ℕ, _+_, _-_, _≤_, _<_}
-use mathlib.Core.Bool.{Bool, true, false, not, _&&_}
-use mathlib.Core.Path.{_≡_, refl, sym, ap, _∙_}
+use Prim.Native.Nat.{_-_, _≤_, _<_}
+use mathlib.Core.Bool.{true, false}
+use mathlib.Core.Path.{_≡_, sym, ap, _∙_, subst}
 use native.Mathlib.Omega.{arith}
 use borrow.Author.Needs.{needs}
-use borrow.Author.Tests.{le-leb, lt-leb, leb-true, ltb-true, not-true, not-false}
-use lib.Dec.{leb, ltb}
-use lib.ListN.{length}
-use Rattle.rules.specs.declared.Refusal.the-variants.{PlanLimits, StateCount, StateNumber, Duration, ListFull, TransitionNumber, MarksValue}
-use Rattle.rules.specs.Limits.{within, stateCountOk, endsOk, durationsOk}
-use Rattle.rules.specs.Refusal.{Result, accepted, refused}
-use Rattle.rules.specs.Rules.{freshRule, markRule, joinRule, unjoinRule, freshGraph, withMark, withTransition, without}
-use Rattle.rules.proofs.Results.{and-true}
+use borrow.Author.Tests.{le-leb, lt-leb, not-true, not-false}
+use Rattle.rules.specs.declared.Refusal.the-variants.{PlanLimits, TransitionNumber}
+use Rattle.rules.specs.Limits.{within}
+use Rattle.rules.specs.Rules.{unjoinRule, without}
 use Rattle.rules.proofs.ReadWrite.{limited}
-use Rattle.arrays.specs.Tables.{transition}
-use Rattle.plan.specs.View.{view, blankPlan, noPlan}
-use Rattle.plan.proofs.Edits.{refusal, acceptance, view-blank, marked, view-marked, joined, view-joined, unjoined, view-unjoined}
-use Rattle.plan.proofs.Values.{states-view, count-view}
+use Rattle.plan.specs.View.{view}
+use Rattle.plan.proofs.Edits.{Past, refusal, acceptance, unjoined, view-unjoined, past-unjoined}
+use Rattle.plan.proofs.Values.{Sized, states-view, count-view}
 use Rattle.plan.proofs.unjoin.Statement.{statement}
 use Rattle.plan.proofs.unjoin.Tie as tie
 use Rattle.plan.proofs.unjoin.Reads as reads
@@ -34,8 +29,8 @@ refuse-requires : tie.Need-refuse-requires
 refuse-requires c κs = search needs
 
 -- the arrays of a plan value have their lengths
-lengths : (c : tie.Start) → (length (c .args .plan .from) ≡ 2048) × (length (c .args .plan .to) ≡ 2048) × (length (c .args .plan .low) ≡ 2048) × (length (c .args .plan .high) ≡ 2048)
-lengths c = (search needs, search needs, search needs, search needs)
+sized : (c : tie.Start) → Sized (c .args .plan)
+sized c = record { marks = search needs; from = search needs; to = search needs; low = search needs; high = search needs }
 
 returns : tie.Need-returns
 unfolding unjoinRule
@@ -66,16 +61,16 @@ room c =
     (omega arith, omega (arith, limited (view p) w, count-view p))
 
 without-requires : tie.Need-without-requires
-without-requires c κs = room c
+without-requires c κs = omega (arith, room c)
 
 without-requires-2 : tie.Need-without-requires-2
-without-requires-2 c κs = room (c .before)
+without-requires-2 c κs = omega (arith, room (c .before))
 
 without-requires-3 : tie.Need-without-requires-3
-without-requires-3 c κs = room (c .before .before)
+without-requires-3 c κs = omega (arith, room (c .before .before))
 
 without-requires-4 : tie.Need-without-requires-4
-without-requires-4 c κs = room (c .before .before .before)
+without-requires-4 c κs = omega (arith, room (c .before .before .before))
 
 accept-requires : tie.Need-accept-requires
 accept-requires c κs = search needs
@@ -87,13 +82,15 @@ returns-3 c =
     let k = c .before .before .before .before .before .before .before .before .before .before .before .before .before .args .number in
     let w : within (view p) ≡ true = sym (c .before .before .before .before .before .before .before .before .before .before .before .before .within .ensures) ∙ not-false _ (c .before .before .before .before .before .before .before .before .before .before .before .if1 .left) in
     let r = room (c .before .before .before .before .before) in
-    let z = lengths (c .before .before .before .before .before .before .before .before .before .before .before .before .before) in
+    let z = sized (c .before .before .before .before .before .before .before .before .before .before .before .before .before) in
+    let n : p .states ≤ 512 = omega (arith, limited (view p) w, states-view p) in
     let e : record { states = p .states; transitions = p .transitions - 1; marks = p .marks; from = c .before .before .before .before .without .result; to = c .before .before .before .without2 .result; low = c .before .before .without3 .result; high = c .before .without4 .result } ≡ unjoined p k =
     λ i. record { states = p .states; transitions = p .transitions - 1; marks = p .marks; from = c .before .before .before .before .without .ensures i; to = c .before .before .before .without2 .ensures i; low = c .before .before .without3 .ensures i; high = c .before .without4 .ensures i } in
     rw (c .accept .ensures)
     (acceptance p _ (unjoinRule (view p) k) (without (view p) k)
     (rw (w, count-view p, lt-leb (p .transitions) k (r .0)))
-    (ap view e ∙ view-unjoined p k (r .0) (omega arith) (omega arith) (omega arith) (omega arith)))
+    (ap view e ∙ view-unjoined p z k (r .0) (r .1))
+    (subst (Past p) (sym e) (past-unjoined p z k n (r .0) (r .1))))
 
 pub unjoin-spec : {M : Type 1} → statement M
 unjoin-spec =

@@ -1,20 +1,19 @@
 -- `plan::write` meets its contract: two grounds, in the rule's order, and then the fields of the header, the states and the transitions put one
 -- after another, which are the image.
 -- Assumes nothing.
-use Prim.Native.Nat.{ℕ, _+_, _-_, _*_, _≤_, _<_}
-use mathlib.Core.Bool.{Bool, true, false, not, _&&_}
-use mathlib.Core.List.{List, _++_}
-use mathlib.Core.Path.{_≡_, refl, sym, ap, _∙_}
+use Prim.Native.Nat.{ℕ, _+_, _*_}
+use mathlib.Core.Bool.{true, false}
+use mathlib.Core.List.{List}
+use mathlib.Core.Path.{_≡_, sym, ap, _∙_}
 use native.Mathlib.Omega.{arith}
 use borrow.Author.Needs.{needs}
 use borrow.Author.Tests.{lt-ltb, le-ltb, not-true, not-false}
-use lib.Dec.{leb, ltb}
-use lib.ListN.{length, drop}
+use lib.Dec.{ltb}
+use lib.ListN.{length}
 use Rattle.field.specs.Field.{putAll}
-use Rattle.graph.specs.Graph.{states, count}
+use Rattle.graph.specs.Graph.{states}
 use Rattle.rules.specs.Limits.{all, within, transitionOk}
-use Rattle.rules.specs.Image.{image, imageLength, headerFields, stateFields, transitionFields, fieldsOfEach}
-use Rattle.rules.specs.Refusal.{Result, accepted, refused}
+use Rattle.rules.specs.Image.{headerFields, stateFields, transitionFields, fieldsOfEach}
 use Rattle.rules.specs.Rules.{writeRule}
 use Rattle.rules.proofs.ReadWrite.{limited}
 use Rattle.arrays.specs.Tables.{statesOf, transitionsOf}

@@ -1,24 +1,22 @@
--- `image::reading::states` meets its contract. The invariant: every state passed is accepted, with the marks value that stands at its place.
+-- `image::reading::states` meets its contract. The invariant: every state passed is accepted, with the marks value that stands at its place, and
+-- no later place was touched.
 -- Assumes nothing.
-use mathlib.Core.List.{List}
-use lib.ListN.{length-set}
-use Rattle.rules.specs.declared.Refusal.the-variants.{SpareBits}
-use Rattle.rules.specs.Refusal.{refuseIf, _>>_}
-use Prim.Native.Nat.{ℕ, _+_, _-_, _*_, _≤_, _<_}
-use mathlib.Core.Bool.{Bool, true, false, not, _&&_}
-use mathlib.Core.Path.{_≡_, refl, sym, ap, ap₂, _∙_, subst}
+use Prim.Native.Nat.{ℕ, _+_, _-_, _≤_, _<_}
+use mathlib.Core.Bool.{true, false}
+use mathlib.Core.Path.{_≡_, sym, ap, _∙_}
 use native.Mathlib.Omega.{arith}
-use borrow.Author.Needs.{needs}
-use borrow.Author.Tests.{lt-ltb, le-ltb, le-leb, lt-leb, leb-true, eq-eqb, ne-eqb, not-true, not-false}
-use lib.Dec.{leb, ltb, eqb}
-use lib.ListN.{length, getD, set}
+use borrow.Author.Tests.{eq-eqb, ne-eqb}
+use lib.Dec.{eqb}
+use lib.ListN.{getD, set}
 use Rattle.field.specs.Field.{fieldAt}
 use Rattle.graph.specs.Graph.{State, marked}
 use Rattle.arrays.specs.Tables.{stateOf}
-use Rattle.rules.specs.Refusal.{Result, accepted, refused, outcome}
+use Rattle.rules.specs.Refusal.{Result, accepted}
 use Rattle.rules.specs.Image.{stateAt, statePlace, statesIn}
 use lib.Seq.{getD-set-same, getD-set-other}
 use borrow.Author.Count.{below-none, below-more}
+use Rattle.arrays.specs.Tables.{Later}
+use Rattle.arrays.proofs.Lists.{later-none, later-set}
 use Rattle.rules.proofs.Order.{collect-refused}
 use Rattle.image.proofs.Collect.{collect-accepted}
 use Rattle.image.proofs.reading.states.Statement.{statement}
@@ -29,13 +27,13 @@ use Rattle.image.proofs.reading.marks_at.Reads as marks-at-reads
 use Rattle.image.proofs.reading.word.Reads as word-reads
 
 abbrev Inv-loop : tie.InvT-loop
-Inv-loop octets n marks₀ i₀ marks i = (i ≤ n) × (length marks ≡ length marks₀) × ((k : ℕ) → k < i → stateAt octets (statePlace k) ≡ accepted (stateOf marks k))
+Inv-loop octets n marks₀ i₀ marks i = (i ≤ n) × Later n marks₀ marks × ((k : ℕ) → k < i → stateAt octets (statePlace k) ≡ accepted (stateOf marks k))
 
 abbrev μ-loop : tie.MeasureT-loop
 μ-loop octets n marks₀ i₀ marks i = n - i
 
 loop-holds : tie.Need-loop-holds Inv-loop μ-loop
-loop-holds c = (omega arith, search needs, below-none _)
+loop-holds c = (omega arith, later-none _ _ (omega arith), below-none _)
 
 mul-at : tie.Need-mul-at Inv-loop μ-loop
 mul-at c = omega arith
@@ -55,7 +53,7 @@ returns c =
     let os = c .before .before .before .before .before .args .octets .now in
     let l = c .before .before .before .loop in
     let s : eqb (fieldAt os (statePlace (l .i) + 3) 5) 0 ≡ false = ne-eqb _ 0 (λ e. c .if1 .taken (c .before .word .ensures ∙ e)) in
-    sym (collect-refused (λ (k : ℕ). stateAt os (statePlace k)) (c .before .before .before .before .before .args .n) (l .i) 6 (stateOf (l .marks)) (omega arith) (l .inv .2) (rw s))
+    (sym (collect-refused (λ (k : ℕ). stateAt os (statePlace k)) (c .before .before .before .before .before .args .n) (l .i) 6 (stateOf (l .marks)) (omega arith) (l .inv .2) (rw s)), l .inv .1)
 
 marks-at-requires : tie.Need-marks-at-requires Inv-loop μ-loop
 marks-at-requires c κs = record { some = omega arith; most = omega arith; inside = omega arith; near = omega arith }
@@ -75,10 +73,9 @@ loop-again c =
     let l = c .before .before .before .before .loop in
     let s : eqb (fieldAt os (statePlace (l .i) + 3) 5) 0 ≡ true = eq-eqb _ 0 (sym (c .before .before .word .ensures) ∙ c .before .if1 .left) in
     let v = c .marks-at .result in
-    let r : length (l .marks) ≡ length (c .before .before .before .before .before .before .args .marks .now) = l .inv .1 in
     let here : getD (set (l .marks) (l .i) v) (l .i) 0 ≡ v = getD-set-same (l .marks) (l .i) v 0 (omega arith) in (
       omega arith,
-      length-set (l .marks) (l .i) v ∙ l .inv .1,
+      later-set _ _ (l .marks) (l .i) v (omega arith) (l .inv .1),
       below-more _ _
           (λ k h. l .inv .2 k h ∙ ap {B = Result State} (λ (x : ℕ). accepted (marked x)) (sym (getD-set-other (l .marks) (l .i) k v 0 (omega arith))))
           (rw (s, here, c .marks-at .ensures)),
@@ -89,7 +86,7 @@ unfolding statesIn
 returns-2 c =
     let os = c .before .before .before .args .octets .now in
     let l = c .before .loop in
-    sym (collect-accepted (λ (k : ℕ). stateAt os (statePlace k)) (c .before .before .before .args .n) (stateOf (l .marks)) (λ k h. l .inv .2 k (omega arith)))
+    (sym (collect-accepted (λ (k : ℕ). stateAt os (statePlace k)) (c .before .before .before .args .n) (stateOf (l .marks)) (λ k h. l .inv .2 k (omega arith))), l .inv .1)
 
 pub states-spec : {M : Type 1} → statement M
 states-spec =

@@ -1,45 +1,39 @@
--- `image::reading::transitions` meets its contract. The invariant: every transition passed is accepted, and stands at its place of the arrays.
+-- `image::reading::transitions` meets its contract. The invariant: every transition passed is accepted, and stands at its place of the arrays,
+-- and no later place was touched.
 -- Assumes nothing.
-use Prim.Native.Nat.{ℕ, _+_, _-_, _*_, _≤_, _<_}
-use mathlib.Core.Bool.{Bool, true, false, not, _&&_}
-use mathlib.Core.Path.{_≡_, refl, sym, ap, ap₂, _∙_, subst}
+use Prim.Native.Nat.{ℕ, _-_, _≤_, _<_}
+use mathlib.Core.Path.{_≡_, sym, ap, _∙_}
 use native.Mathlib.Omega.{arith}
 use borrow.Author.Needs.{needs}
-use borrow.Author.Tests.{lt-ltb, le-ltb, le-leb, lt-leb, leb-true, eq-eqb, ne-eqb, not-true, not-false}
-use lib.Dec.{leb, ltb, eqb}
-use lib.ListN.{length, getD, set}
-use mathlib.Core.List.{List}
+use lib.ListN.{length, set}
 use borrow.Author.Count.{below-none, below-more}
-use lib.ListN.{length-set}
 use Rattle.graph.specs.Graph.{Transition}
-use Rattle.rules.specs.Refusal.{Result, accepted, refused, outcome}
-use Rattle.rules.specs.Limits.{endsOk, durationsOk, transitionOk}
+use Rattle.rules.specs.declared.Answer.{Answer}
+use Rattle.rules.specs.Refusal.{Result, accepted, refused, number, outcome}
 use Rattle.rules.specs.Image.{transitionAt, transitionPlace, transitionsIn, checked}
-use Rattle.rules.proofs.Results.{both-true}
-use Rattle.rules.proofs.ReadWrite.{Bounded, bounded}
-use Rattle.arrays.specs.Tables.{transition, transitionOf}
+use Rattle.rules.proofs.ReadWrite.{Bounded, bounded, ok-checked}
+use Rattle.arrays.specs.Tables.{transitionOf, Later}
 use Rattle.image.specs.Values.{meant}
-use Rattle.arrays.proofs.Lists.{transition-other, transition-here}
+use Rattle.arrays.proofs.Lists.{transition-other, transition-here, later-none, later-set}
 use Rattle.rules.proofs.Order.{collect-refused}
 use Rattle.image.proofs.Collect.{collect-accepted}
 use Rattle.image.proofs.reading.transitions.Statement.{statement}
 use Rattle.image.proofs.reading.transitions.Tie as tie
 use Rattle.image.proofs.reading.transitions.Reads as reads
 use Rattle.image.proofs.reading.transitions.Lts as lts
-use Rattle.arrays.proofs.limits.durations_ok.Reads as durations-ok-reads
-use Rattle.arrays.proofs.limits.ends_ok.Reads as ends-ok-reads
+use Rattle.arrays.proofs.limits.checked.Reads as checked-reads
 use Rattle.image.proofs.reading.transition_at.Reads as transition-at-reads
 
 abbrev Inv-loop : tie.InvT-loop
 Inv-loop octets n m from₀ to₀ low₀ high₀ i₀ from to low high i =
-    (i ≤ m) × (length from ≡ length from₀) × (length to ≡ length to₀) × (length low ≡ length low₀) × (length high ≡ length high₀)
+    (i ≤ m) × Later m from₀ from × Later m to₀ to × Later m low₀ low × Later m high₀ high
     × ((k : ℕ) → k < i → checked n (transitionAt octets (transitionPlace n k)) ≡ accepted (transitionOf from to low high k))
 
 abbrev μ-loop : tie.MeasureT-loop
 μ-loop octets n m from₀ to₀ low₀ high₀ i₀ from to low high i = m - i
 
 loop-holds : tie.Need-loop-holds Inv-loop μ-loop
-loop-holds c = (omega arith, search needs, search needs, search needs, search needs, below-none _)
+loop-holds c = (omega arith, later-none _ _ (omega arith), later-none _ _ (omega arith), later-none _ _ (omega arith), later-none _ _ (omega arith), below-none _)
 
 mul-transition-at : tie.Need-mul-transition-at Inv-loop μ-loop
 mul-transition-at c = omega arith
@@ -56,39 +50,42 @@ add-transition-at-2 c = omega arith
 transition-at-requires : tie.Need-transition-at-requires Inv-loop μ-loop
 transition-at-requires c κs = omega arith
 
-ends-ok-requires : tie.Need-ends-ok-requires Inv-loop μ-loop
-ends-ok-requires c κs = tt
+checked-requires : tie.Need-checked-requires Inv-loop μ-loop
+checked-requires c κs = tt
 
-durations-ok-requires : tie.Need-durations-ok-requires Inv-loop μ-loop
-durations-ok-requires c κs = tt
+enum-known-grounds : tie.Need-enum-known-grounds Inv-loop μ-loop
+enum-known-grounds c = search needs
 
 returns : tie.Need-returns Inv-loop μ-loop
 unfolding transitionsIn
 returns c =
-    let a = c .before .before .before .before .before .before .before .args in
-    let l = c .before .before .before .before .before .loop in
-    let os = a .octets .now in
-    let t = transitionAt os (transitionPlace (a .n) (l .i)) in
-    let e : endsOk (a .n) t ≡ false = ap (endsOk (a .n)) (sym (c .before .before .before .transition-at .ensures)) ∙ sym (c .before .before .ends-ok .ensures) ∙ not-true _ (c .if1 .taken) in
-    sym (collect-refused (λ (k : ℕ). checked (a .n) (transitionAt os (transitionPlace (a .n) k))) (a .m) (l .i) 7 (transitionOf (l .from) (l .to) (l .low) (l .high)) (omega arith) (l .inv .5) (rw e))
-
-returns-2 : tie.Need-returns-2 Inv-loop μ-loop
-unfolding transitionsIn
-returns-2 c =
     let a = c .before .before .before .before .before .before .before .before .args in
     let l = c .before .before .before .before .before .before .loop in
     let os = a .octets .now in
-    let t = transitionAt os (transitionPlace (a .n) (l .i)) in
-    let e : endsOk (a .n) t ≡ true = ap (endsOk (a .n)) (sym (c .before .before .before .before .transition-at .ensures)) ∙ sym (c .before .before .before .ends-ok .ensures) ∙ not-false _ (c .before .if1 .left) in
-    let d : durationsOk t ≡ false = ap durationsOk (sym (c .before .before .before .before .transition-at .ensures)) ∙ sym (c .before .before .durations-ok .ensures) ∙ not-true _ (c .if2 .taken) in
-    sym (collect-refused (λ (k : ℕ). checked (a .n) (transitionAt os (transitionPlace (a .n) k))) (a .m) (l .i) 8 (transitionOf (l .from) (l .to) (l .low) (l .high)) (omega arith) (l .inv .5) (rw (e, d)))
+    let v = c .before .before .before .before .transition-at .result in
+    let r = c .before .grounds .given .0 .0 in
+    let e : checked (a .n) (transitionAt os (transitionPlace (a .n) (l .i))) ≡ refused (number r) =
+    ap (checked (a .n)) (sym (c .before .before .before .before .transition-at .ensures)) ∙ sym (c .before .before .before .checked .ensures) ∙ ap (λ (x : Answer). outcome x (meant v)) (c .before .grounds .given .1) in (
+      sym (collect-refused (λ (k : ℕ). checked (a .n) (transitionAt os (transitionPlace (a .n) k))) (a .m) (l .i) (number r) (transitionOf (l .from) (l .to) (l .low) (l .high)) (omega arith) (l .inv .5) e),
+      l .inv .1,
+      l .inv .2,
+      l .inv .3,
+      l .inv .4,
+    )
 
--- the numbers that are stored are within the limits
-numbers : (c : tie.After-struct-known Inv-loop μ-loop) → Bounded (c .before .before .before .before .before .before .before .before .before .args .n) (meant (c .before .before .before .before .before .transition-at .result))
+enum-told : tie.Need-enum-told Inv-loop μ-loop
+enum-told c = search needs
+
+-- the transition that was read is accepted, so its numbers are within the limits
+accepts : (c : tie.After-enum-told Inv-loop μ-loop) → checked (c .before .before .before .before .before .before .before .args .n) (meant (c .before .before .before .transition-at .result)) ≡ accepted (meant (c .before .before .before .transition-at .result))
+accepts c =
+    let v = c .before .before .before .transition-at .result in
+    sym (c .before .before .checked .ensures) ∙ ap (λ (x : Answer). outcome x (meant v)) (c .enum-told .given .1)
+
+numbers : (c : tie.After-struct-known Inv-loop μ-loop) → Bounded (c .before .before .before .before .before .before .before .before .args .n) (meant (c .before .before .before .before .transition-at .result))
 numbers c =
-    let n = c .before .before .before .before .before .before .before .before .before .args .n in
-    let t = meant (c .before .before .before .before .before .transition-at .result) in
-    bounded n t (both-true (endsOk n t) (durationsOk t) (sym (c .before .before .before .before .ends-ok .ensures) ∙ not-false _ (c .before .before .if1 .left)) (sym (c .before .before .before .durations-ok .ensures) ∙ not-false _ (c .before .if2 .left)))
+    let t = meant (c .before .before .before .before .transition-at .result) in
+    bounded (c .before .before .before .before .before .before .before .before .args .n) t (ok-checked (c .before .before .before .before .before .before .before .before .args .n) t t (accepts (c .before)) .1)
 
 cast-from : tie.Need-cast-from Inv-loop μ-loop
 cast-from c = omega (arith, numbers c)
@@ -134,35 +131,38 @@ loop-less c = omega arith
 
 loop-again : tie.Need-loop-again Inv-loop μ-loop
 loop-again c =
-    let a = c .before .before .before .before .before .before .before .before .before .before .before .before .args in
-    let l = c .before .before .before .before .before .before .before .before .before .before .loop in
-    let os = a .octets .now in
-    let t = transitionAt os (transitionPlace (a .n) (l .i)) in
-    let e : endsOk (a .n) t ≡ true = ap (endsOk (a .n)) (sym (c .before .before .before .before .before .before .before .before .transition-at .ensures)) ∙ sym (c .before .before .before .before .before .before .before .ends-ok .ensures) ∙ not-false _ (c .before .before .before .before .before .if1 .left) in
-    let d : durationsOk t ≡ true = ap durationsOk (sym (c .before .before .before .before .before .before .before .before .transition-at .ensures)) ∙ sym (c .before .before .before .before .before .before .durations-ok .ensures) ∙ not-false _ (c .before .before .before .before .if2 .left) in
-    let r = c .before .before .before .before .before .before .before .before .transition-at .result in
-    let here : transitionOf (set (l .from) (l .i) (r .from)) (set (l .to) (l .i) (r .to)) (set (l .low) (l .i) (r .low)) (set (l .high) (l .i) (r .high)) (l .i) ≡ t =
-    transition-here (l .from) (l .to) (l .low) (l .high) (l .i) (r .from) (r .to) (r .low) (r .high) (omega arith) (omega arith) (omega arith) (omega arith)
-    ∙ c .before .before .before .before .before .before .before .before .transition-at .ensures in (
+    let a = c .before .before .before .before .before .before .before .before .before .before .before .args in
+    let l = c .before .before .before .before .before .before .before .before .before .loop in
+    let r = c .before .before .before .before .before .before .before .transition-at .result in
+    let t = c .before .before .before .before .before .before .before .transition-at .ensures in
+    let z : (l .i < length (l .from)) × (l .i < length (l .to)) × (l .i < length (l .low)) × (l .i < length (l .high)) =
+    (omega (arith, l .inv .1 .room), omega (arith, l .inv .2 .room), omega (arith, l .inv .3 .room), omega (arith, l .inv .4 .room)) in
+    let here : transitionOf (set (l .from) (l .i) (r .from)) (set (l .to) (l .i) (r .to)) (set (l .low) (l .i) (r .low)) (set (l .high) (l .i) (r .high)) (l .i) ≡ meant r =
+    transition-here (l .from) (l .to) (l .low) (l .high) (l .i) (r .from) (r .to) (r .low) (r .high) (z .0) (z .1) (z .2) (z .3) in (
       omega arith,
-      length-set (l .from) (l .i) (r .from) ∙ l .inv .1,
-      length-set (l .to) (l .i) (r .to) ∙ l .inv .2,
-      length-set (l .low) (l .i) (r .low) ∙ l .inv .3,
-      length-set (l .high) (l .i) (r .high) ∙ l .inv .4,
+      later-set _ _ (l .from) (l .i) (r .from) (omega arith) (l .inv .1),
+      later-set _ _ (l .to) (l .i) (r .to) (omega arith) (l .inv .2),
+      later-set _ _ (l .low) (l .i) (r .low) (omega arith) (l .inv .3),
+      later-set _ _ (l .high) (l .i) (r .high) (omega arith) (l .inv .4),
       below-more _ _
           (λ k h. l .inv .5 k h
           ∙ ap {B = Result Transition} (λ (x : Transition). accepted x)
           (sym (transition-other (l .from) (l .to) (l .low) (l .high) (l .i) (r .from) (r .to) (r .low) (r .high) k (omega arith))))
-          (rw (e, d) (ap {B = Result Transition} (λ (x : Transition). accepted x) (sym here))),
+          (ap (checked (a .n)) (sym t) ∙ accepts (c .before .before .before .before) ∙ ap {B = Result Transition} (λ (x : Transition). accepted x) (sym here)),
     )
 
-returns-3 : tie.Need-returns-3 Inv-loop μ-loop
+returns-2 : tie.Need-returns-2 Inv-loop μ-loop
 unfolding transitionsIn
-returns-3 c =
+returns-2 c =
     let a = c .before .before .before .args in
     let l = c .before .loop in
-    let os = a .octets .now in
-    sym (collect-accepted (λ (k : ℕ). checked (a .n) (transitionAt os (transitionPlace (a .n) k))) (a .m) (transitionOf (l .from) (l .to) (l .low) (l .high)) (λ k h. l .inv .5 k (omega arith)))
+    let os = a .octets .now in (
+      sym (collect-accepted (λ (k : ℕ). checked (a .n) (transitionAt os (transitionPlace (a .n) k))) (a .m) (transitionOf (l .from) (l .to) (l .low) (l .high)) (λ k h. l .inv .5 k (omega arith))),
+      l .inv .1,
+      l .inv .2,
+      l .inv .3,
+      l .inv .4,
+    )
 
 pub transitions-spec : {M : Type 1} → statement M
 transitions-spec =
@@ -176,10 +176,10 @@ transitions-spec =
     mul-transition-at-2
     add-transition-at-2
     transition-at-requires
-    ends-ok-requires
-    durations-ok-requires
+    checked-requires
+    enum-known-grounds
     returns
-    returns-2
+    enum-told
     cast-from
     mul-from
     element-write-from
@@ -195,4 +195,4 @@ transitions-spec =
     add-i
     loop-less
     loop-again
-    returns-3)
+    returns-2)

@@ -1,0 +1,81 @@
+-- A list of calls on lent slices is a run of the rules, from the promises alone. A call leaves the slices as long as they were, so what has room for a
+-- plan keeps it; each call's promise is then one step of the rules, and its number that of the rules' answer. From a fresh plan on this is what
+-- demand 3 says of the list.
+-- Assumes nothing.
+use mathlib.Core.Bool.{true, _&&_}
+use mathlib.Core.List.{List, [], _∷_, _++_, map}
+use mathlib.Core.Path.{_≡_, refl, ap, ap₂, _∙_}
+use Prim.Native.Nat.{ℕ, _≤_}
+use native.Mathlib.Omega.{arith}
+use borrow.Author.Tests.{le-leb}
+use lib.Dec.{leb}
+use lib.ListN.{length, drop, length-append, length-drop}
+use Rattle.graph.specs.Graph.{Graph}
+use Rattle.rules.specs.Calls.{Call, step, run, runFresh}
+use Rattle.rules.specs.Limits.{stateCountOk}
+use Rattle.rules.specs.Refusal.{Result, accepted, refused, answerOf}
+use Rattle.rules.specs.Rules.{freshGraph, freshRule, next}
+use Rattle.rules.proofs.Basic.{fresh-done}
+use Rattle.rules.proofs.Results.{both-true}
+use Rattle.arrays.specs.Tables.{over}
+use Rattle.plan.specs.declared.Plan.{Plan}
+use Rattle.plan.specs.View.{view, laid, noPlan}
+use Rattle.binding.specs.Lent.{Roomy, Slices, hasRoom, planIn, storing, nextSlices, LentEdit, LentObeyed, none, more, code}
+use Rattle.binding.proofs.Stores.{has-room}
+
+-- ---- room
+
+over-long : (k : ℕ) (xs ys : List ℕ) → k ≤ length ys → k ≤ length (over xs ys)
+over-long k xs ys h = omega (arith, length-append xs (drop (length xs) ys), length-drop (length xs) ys)
+
+room-of : (s : Slices) → Roomy (s .counts) (s .marks) (s .fields) → hasRoom s ≡ true
+room-of s r =
+    both-true (leb 2 (length (s .counts))) (leb 512 (length (s .marks)) && leb 8192 (length (s .fields))) (le-leb 2 (length (s .counts)) (r .two))
+    (both-true (leb 512 (length (s .marks))) (leb 8192 (length (s .fields))) (le-leb 512 (length (s .marks)) (r .states)) (le-leb 8192 (length (s .fields)) (r .transitions)))
+
+next-room : (p : Plan) (s : Slices) (o : Result Graph) → hasRoom s ≡ true → hasRoom (nextSlices p s o) ≡ true
+unfolding storing
+next-room p s (accepted g) h =
+    let r = has-room (s .counts) (s .marks) (s .fields) h in
+    let q = laid p g in
+    room-of (nextSlices p s (accepted g))
+    (record {
+      two = over-long 2 (q .states ∷ q .transitions ∷ []) (s .counts) (r .two);
+      states = over-long 512 (q .marks) (s .marks) (r .states);
+      transitions = over-long 8192 (q .from ++ q .to ++ q .low ++ q .high) (s .fields) (r .transitions);
+    })
+next-room p s (refused k) h = h
+
+-- slices that have room for a plan have it after the call
+pub room-kept : (p : Plan) (s t : Slices) (o : Result Graph) (r : ℕ) → hasRoom s ≡ true → LentEdit p s t o r → hasRoom t ≡ true
+room-kept p s t o r h x = ap hasRoom (x .whole h) ∙ next-room p s o h
+
+-- ---- a list of calls
+
+code-answer : {A : Type 0} (o : Result A) → code o ≡ code (answerOf o)
+code-answer (accepted a) = refl
+code-answer (refused k) = refl
+
+pub lent-run : {s u : Slices} {calls : List Call} {answers : List ℕ} → hasRoom s ≡ true → LentObeyed s calls answers u
+    → (answers ≡ map code (run (view (planIn s)) calls .answers)) × (view (planIn u) ≡ run (view (planIn s)) calls .last)
+unfolding run
+lent-run h none = (refl, refl)
+lent-run h (more {s} {u} {call} {calls} {answers} t r x rest) =
+    let o : Result Graph = step (view (planIn s)) call in
+    let l = lent-run (room-kept (planIn s) s t o r h x) rest in (
+      ap₂ {C = List ℕ} (λ (a : ℕ) (as′ : List ℕ). a ∷ as′) (x .answer h ∙ code-answer o) (l .0 ∙ ap (λ (g : Graph). map code (run g calls .answers)) (x .plan h)),
+      l .1 ∙ ap (λ (g : Graph). run g calls .last) (x .plan h),
+    )
+
+-- "They start from the plan of a fresh with any n from 1 to 512": fresh answers 256, and the list is the run from its plan
+pub lent-fresh-run : (n : ℕ) {s t u : Slices} {calls : List Call} {answers : List ℕ} (r : ℕ) → hasRoom s ≡ true → stateCountOk n ≡ true
+    → LentEdit noPlan s t (freshRule n) r → LentObeyed t calls answers u
+    → (r ≡ 256) × (answers ≡ map code (runFresh n calls .answers)) × (view (planIn u) ≡ runFresh n calls .last)
+lent-fresh-run n {s} {t} {u} {calls} {answers} r h k x o =
+    let f : freshRule n ≡ accepted (freshGraph n) = fresh-done n k in
+    let v : view (planIn t) ≡ freshGraph n = x .plan h ∙ ap (next (view (planIn s))) f in
+    let l = lent-run (room-kept noPlan s t (freshRule n) r h x) o in (
+      x .answer h ∙ ap code f,
+      l .0 ∙ ap (λ (g : Graph). map code (run g calls .answers)) v,
+      l .1 ∙ ap (λ (g : Graph). run g calls .last) v,
+    )
