@@ -22,7 +22,9 @@ fn main() {
         eprintln!("The proved library is not at {}.", archive.display());
         eprintln!("Run `rt staticlib binding` at the root of the repository to make it,");
         eprintln!("or name the folder that has libbinding.a in RT_STATICLIB_DIR.");
-        eprintln!("`cargo test --offline --no-default-features` does without the library.");
+        eprintln!(
+            "`cargo test --release --offline --no-default-features` does without the library."
+        );
         exit(1);
     }
     println!("cargo:rustc-link-search=native={}", folder.display());

@@ -166,12 +166,12 @@ fn every_call_stays_within_128_kib() {
 #[cfg(feature = "quotations")]
 fn quotations() -> Vec<(&'static str, usize)> {
     let of_figure = |figure: Figure| {
-        let depth = most(|lent, _| lent.quote(figure, &mut vec![0; MAX_STATES], &mut vec![0; OUT]));
+        let depth = most(|lent, _| lent.quote(figure, &mut vec![0; MAX_STATES], &mut [0; OUT]));
         (figure.name(), depth)
     };
     let mut depths = FIGURES.map(of_figure).to_vec();
-    let record = most(|lent, _| lent.record(&mut vec![0; RECORD_OCTETS]));
-    let quote = most(|_, plan| quote(&encode(plan), &mut vec![0; WALKS], &mut vec![0; 4 * OUT]));
+    let record = most(|lent, _| lent.record(&mut [0; RECORD_OCTETS]));
+    let quote = most(|_, plan| quote(&encode(plan), &mut vec![0; WALKS], &mut [0; 4 * OUT]));
     depths.extend([("record", record), ("quote", quote)]);
     depths
 }
