@@ -55,6 +55,14 @@ leaves-the-buffer w x =
     let n : _≡_ {A = ℕ} 0 16 = ap (λ (l : List ℕ). getD l 0 0) b in
     omega arith
 
+-- one that touches a later octet: it puts the known octets, and clears the one behind them
+pub touches-a-later-octet : (w : Written) → Write (image (P1 .plan)) (writeRule (P1 .plan) (replicate 29 1)) (replicate 29 1) (octets ++ (0 ∷ [])) w → ⊥
+unfolding writeRule within all octets
+touches-a-later-octet w x =
+    let b : _≡_ {A = List ℕ} (octets ++ (0 ∷ [])) (octets ++ (1 ∷ [])) = x .buffer ∙ ap {B = List ℕ} (λ (l : List ℕ). l ++ (1 ∷ [])) image-of-plan in
+    let n : _≡_ {A = ℕ} 0 1 = ap (λ (l : List ℕ). getD l 28 0) b in
+    omega arith
+
 -- "one that turns all images away": it refuses the known octets
 pub turns-images-away : (p : Plan) (e : Edited) (r : Refusal) → view p ≡ freshGraph 1 → e .answer ≡ Refused r → Edit p (readRule (view p) octets) e → ⊥
 turns-images-away p e r ep ea x = never tt (number r) (ap said (sym ea) ∙ x .answer ∙ ap answerOf (known-read p ep))

@@ -1,8 +1,8 @@
--- What follows from the promises alone, of whatever keeps them. A refused call hands back the plan value, and the promise leaves no place of it free.
--- A list of calls gives the answers and the plan that the rules give from the
--- calls' arguments: each call's promise is one step of the rules, so the list is a run of them. What write puts reads back as the plan, and what
--- read accepts writes back as the octets: the rules say so of images, and the promises equate the calls with the rules. And the plan value
--- beside a refused fresh is refused by 0 in every call.
+-- What follows from the promises alone, of whatever keeps them. A refused call hands the plan value back, and after an accepted one every place past
+-- the counts is as it was: both are in the one equation of the whole value. A list of calls gives the answers and the plan that the rules give
+-- from the calls' arguments: each call's promise is one step of the rules, so the list is a run of them. What write puts reads back as the plan,
+-- and what read accepts writes back as the octets: the rules say so of images, and the promises equate the calls with the rules. And the plan
+-- value beside a refused fresh is refused by 0 in every call.
 -- Assumes nothing.
 use mathlib.Core.Bool.{true, false}
 use mathlib.Core.List.{List, _∷_, _++_, map}
@@ -10,9 +10,9 @@ use mathlib.Core.Path.{_≡_, refl, sym, ap, ap₂, _∙_}
 use Prim.Native.Nat.{ℕ, _≤_}
 use borrow.Author.Tests.{le-ltb}
 use lib.Dec.{ltb}
-use lib.ListN.{length, take, drop}
-use lib.Seq.{take-at}
-use Rattle.graph.specs.Graph.{Graph, states, count}
+use lib.ListN.{length, take, drop, length-map}
+use lib.Seq.{take-at, drop-at}
+use Rattle.graph.specs.Graph.{Graph, State, Transition, states, count}
 use Rattle.field.specs.Field.{Octets}
 use Rattle.rules.specs.declared.Answer.{Answer}
 use Rattle.rules.specs.declared.Answer.the-variants.{Accepted, Refused}
@@ -27,10 +27,11 @@ use Rattle.rules.specs.Rules.{givenPlan, freshGraph, freshRule, markRule, joinR
 use Rattle.rules.proofs.Basic.{fresh-done}
 use Rattle.rules.proofs.Results.{never, then-accepted, holds, accepted-as}
 use Rattle.rules.proofs.ReadWrite.{length-image, read-image, image-read, read-within}
+use Rattle.arrays.specs.Tables.{over}
 use Rattle.plan.specs.declared.Edited.{Edited}
 use Rattle.plan.specs.declared.Plan.{Plan}
 use Rattle.plan.specs.Promise.{Edit, Write, nextValue, Obeyed, none, more}
-use Rattle.plan.specs.View.{view, noPlan}
+use Rattle.plan.specs.View.{view, laid, noPlan}
 use Rattle.plan.proofs.Values.{within-view}
 
 -- ---- one call
@@ -42,6 +43,24 @@ refused-keeps p o r k x e = x .whole ∙ ap (nextValue p) e
 -- two that keep the promise leave the same in every place, those past the counts too
 pub same-value : (p : Plan) (o : Result Graph) (r r′ : Edited) → Edit p o r → Edit p o r′ → r .plan ≡ r′ .plan
 same-value p o r r′ x y = x .whole ∙ sym (y .whole)
+
+-- after an accepted call every place past the counts of the new plan is as it was
+pub places-stay : (p : Plan) (o : Result Graph) (r : Edited) (g : Graph) → Edit p o r → o ≡ accepted g
+    → (drop (states g) (r .plan .marks) ≡ drop (states g) (p .marks)) × (drop (count g) (r .plan .from) ≡ drop (count g) (p .from))
+    × (drop (count g) (r .plan .to) ≡ drop (count g) (p .to)) × (drop (count g) (r .plan .low) ≡ drop (count g) (p .low))
+    × (drop (count g) (r .plan .high) ≡ drop (count g) (p .high))
+unfolding laid
+places-stay p o r g x e = rw (x .whole ∙ ap (nextValue p) e) (
+  behind (λ (s : State). s .marks) (g .stateList) (p .marks),
+  behind (λ (t : Transition). t .from) (g .transitions) (p .from),
+  behind (λ (t : Transition). t .to) (g .transitions) (p .to),
+  behind (λ (t : Transition). t .low) (g .transitions) (p .low),
+  behind (λ (t : Transition). t .high) (g .transitions) (p .high),
+)
+  where
+    behind : {A : Type 0} (part : A → ℕ) (l : List A) (before : List ℕ) → drop (length l) (over (map part l) before) ≡ drop (length l) before
+    behind part l before =
+        drop-at (map part l) (drop (length (map part l)) before) (length l) (length-map l part) ∙ ap (λ (k : ℕ). drop k before) (length-map l part)
 
 -- ---- a list of calls
 
