@@ -1,0 +1,172 @@
+-- A route read off values, transition by transition. What is kept (`Tracing`): the transitions written so far are a walk through unfinished states
+-- that differ, with a rank no lower than that of the state reached; and what they weigh, with the value of the state reached, is the value of the
+-- first state. A transition that accounts for the value of the state reached makes the walk one longer (`traced-turn`): where it leads is a final
+-- state, which none before is, or one of a lower rank than all before. k + 1 states that differ are at most n (`traced-fits`). At a final state the
+-- value is the close, and the walk is the route (`traced-all`). Assumes nothing.
+use mathlib.Core.Bool.{Bool, true, false, true≢false}
+use mathlib.Core.List.{List, [], _∷_, _++_}
+use mathlib.Core.Logic.{_⊎_, inl, inr, _≢_}
+use mathlib.Core.Path.{_≡_, refl, sym, ap, _∙_}
+use Prim.Native.Nat.{ℕ, zero, suc, _+_, _≤_, _<_}
+use native.Mathlib.Nat.{le-refl}
+use native.Mathlib.Numerals.{add-one}
+use native.Mathlib.Omega.{arith}
+use lib.ListN.{length, set, take, drop, length-set}
+use lib.Seq.{getD-set-same, getD-set-other, take-suc-set, drop-set-lt, drop-drop}
+use Rattle.graph.specs.Route.{delay}
+use Rattle.graph.proofs.Build.{delay-snoc}
+use Rattle.graph.proofs.Repeat.{pigeonhole}
+use Rattle.search.specs.Arrays.{at, FinalIn, UnfinishedIn, finalMark, Ends, Leaves}
+use Rattle.search.specs.Route.{Accounts, along, Steps, Leading, Traced}
+use Rattle.search.proofs.Places.{same-or-not}
+
+-- a store at place k leaves the first k + 1 states, and the next one is where the stored transition leads
+module _ (to : List ℕ) (s k t : ℕ) (walk : List ℕ) where
+  pub along-before : (i : ℕ) → i ≤ k → along to s (set walk k t) i ≡ along to s walk i
+  along-before zero h = refl
+  along-before (suc i) h = ap (at to) (getD-set-other walk k i t 0 (omega arith))
+
+  pub along-next : k < length walk → along to s (set walk k t) (suc k) ≡ at to t
+  along-next h = ap (at to) (getD-set-same walk k t 0 h)
+
+-- the places past the store
+pub later-more : (k t : ℕ) (before walk : List ℕ) → drop k walk ≡ drop k before → drop (suc k) (set walk k t) ≡ drop (suc k) before
+later-more k t before walk e =
+    let q : k + 1 ≡ suc k = add-one k in
+    drop-set-lt (suc k) walk k t (le-refl (suc k)) ∙ rw (← q) (sym (drop-drop 1 k walk) ∙ ap (λ (l : List ℕ). drop 1 l) e ∙ drop-drop 1 k before)
+
+module _ (n m : ℕ) (marks from to : List ℕ) where
+  -- a walk of k transitions through states that differ has fewer than n
+  pub steps-fit : (s k : ℕ) (ts : List ℕ) → Steps n m marks from to s ts k → k < n
+  steps-fit s k ts w = pigeonhole n (along to s ts) (suc k) (λ i j l h e. w .apart i j l (omega arith) e) (λ i h. w .below i (omega arith))
+
+  -- one transition more, to a state that is new
+  pub steps-more : (s k t : ℕ) (walk : List ℕ) → k < length walk → Steps n m marks from to s walk k → UnfinishedIn marks (along to s walk k)
+      → Leaves m from (along to s walk k) t → at to t < n → ((i : ℕ) → i ≤ k → along to s walk i ≡ at to t → ⊥)
+      → Steps n m marks from to s (set walk k t) (suc k)
+  steps-more s k t walk h w u l b new = record { below = below; unfinished = unfinished; leaves = leaves; apart = apart }
+    where
+      here : at (set walk k t) k ≡ t
+      here = getD-set-same walk k t 0 h
+
+      below : (i : ℕ) → i ≤ suc k → along to s (set walk k t) i < n
+      below i q = go (same-or-not i (suc k))
+        where
+          go : (i ≡ suc k) ⊎ (i ≢ suc k) → along to s (set walk k t) i < n
+          go (inl e) = rw (e, along-next to s k t walk h) b
+          go (inr d) = rw (along-before to s k t walk i (omega (arith, d))) (w .below i (omega (arith, d)))
+
+      unfinished : (i : ℕ) → i < suc k → UnfinishedIn marks (along to s (set walk k t) i)
+      unfinished i q = rw (along-before to s k t walk i (omega arith)) (go (same-or-not i k))
+        where
+          go : (i ≡ k) ⊎ (i ≢ k) → UnfinishedIn marks (along to s walk i)
+          go (inl e) = rw e u
+          go (inr d) = w .unfinished i (omega (arith, d))
+
+      leaves : (i : ℕ) → i < suc k → Leaves m from (along to s (set walk k t) i) (at (set walk k t) i)
+      leaves i q = rw (along-before to s k t walk i (omega arith)) (go (same-or-not i k))
+        where
+          go : (i ≡ k) ⊎ (i ≢ k) → Leaves m from (along to s walk i) (at (set walk k t) i)
+          go (inl e) = rw (e, here) l
+          go (inr d) = rw (getD-set-other walk k i t 0 d) (w .leaves i (omega (arith, d)))
+
+      apart : (i j : ℕ) → i < j → j ≤ suc k → along to s (set walk k t) i ≡ along to s (set walk k t) j → ⊥
+      apart i j l q e = go (same-or-not j (suc k))
+        where
+          first : along to s walk i ≡ along to s (set walk k t) j
+          first = sym (along-before to s k t walk i (omega arith)) ∙ e
+
+          go : (j ≡ suc k) ⊎ (j ≢ suc k) → ⊥
+          go (inl p) = new i (omega arith) (first ∙ ap (along to s (set walk k t)) p ∙ along-next to s k t walk h)
+          go (inr d) = w .apart i j l (omega (arith, d)) (first ∙ along-before to s k t walk j (omega (arith, d)))
+
+  module _ (weight close value : List ℕ) where
+    pub record Tracing (s x k : ℕ) (before walk : List ℕ) : Type 0 where
+      pub inside : ℕ → Bool
+      pub rank : ℕ → ℕ
+      pub leading : Leading n m marks from to weight close value inside rank
+      pub last : along to s walk k ≡ x
+      pub within : UnfinishedIn marks x → inside x ≡ true
+      pub falls : UnfinishedIn marks x → (i : ℕ) → i ≤ k → rank x ≤ rank (along to s walk i)
+      pub steps : Steps n m marks from to s walk k
+      pub costs : delay (at weight) (take k walk) + at value x ≡ at value s
+      pub later : drop k walk ≡ drop k before
+
+    pub traced-first : (inside : ℕ → Bool) (rank : ℕ → ℕ) (s : ℕ) (walk : List ℕ) → s < n → Leading n m marks from to weight close value inside rank
+        → (UnfinishedIn marks s → inside s ≡ true) → Tracing s s 0 walk walk
+    traced-first inside rank s walk h leading within = record {
+      inside = inside;
+      rank = rank;
+      leading = leading;
+      last = refl;
+      within = within;
+      falls = falls;
+      steps = record {
+        below = below;
+        unfinished = λ i q. absurd (omega arith);
+        leaves = λ i q. absurd (omega arith);
+        apart = λ i j l q e. omega arith;
+      };
+      costs = omega arith;
+      later = refl;
+    }
+      where
+        below : (i : ℕ) → i ≤ 0 → along to s walk i < n
+        below zero q = h
+        below (suc i) q = absurd (omega arith)
+
+        falls : UnfinishedIn marks s → (i : ℕ) → i ≤ 0 → rank s ≤ rank (along to s walk i)
+        falls u zero q = le-refl (rank s)
+        falls u (suc i) q = absurd (omega arith)
+
+    module _ (s x k : ℕ) (before walk : List ℕ) (a : Tracing s x k before walk) where
+      pub traced-fits : k < n
+      traced-fits = steps-fit s k walk (a .steps)
+
+      pub traced-below : x < n
+      traced-below = rw (a .last) at (a .steps .below k (le-refl k))
+
+      pub traced-all : FinalIn marks x → Traced n m marks from to weight close value s k before walk
+      traced-all f = record {
+        steps = a .steps;
+        ends = rw (a .last) f;
+        costs = rw (a .last, ← a .leading .at-final x traced-below f) (a .costs);
+        fits = traced-fits;
+        later = a .later;
+      }
+
+      module _ (t : ℕ) (room : k < length walk) (u : UnfinishedIn marks x) (l : Leaves m from x t) (b : at to t < n)
+          (q : Accounts to weight value x t) where
+        onward : UnfinishedIn marks (at to t) → (a .inside (at to t) ≡ true) × (a .rank (at to t) < a .rank x)
+        onward = a .leading .onward x traced-below (a .within u) u t l q
+
+        new : (i : ℕ) → i ≤ k → along to s walk i ≡ at to t → ⊥
+        new i h e = go (finalMark (at marks (at to t))) refl
+          where
+            all-unfinished : (same-or-not : (i ≡ k) ⊎ (i ≢ k)) → UnfinishedIn marks (along to s walk i)
+            all-unfinished (inl p) = rw (p, a .last) u
+            all-unfinished (inr d) = a .steps .unfinished i (omega (arith, d))
+
+            go : (f : Bool) → finalMark (at marks (at to t)) ≡ f → ⊥
+            go true p = true≢false (sym p ∙ ap (λ (y : ℕ). finalMark (at marks y)) (sym e) ∙ all-unfinished (same-or-not i k))
+            go false p = omega (arith, onward p .1, a .falls u i h, ap (a .rank) e)
+
+        pub traced-turn : Tracing s (at to t) (suc k) before (set walk k t)
+        traced-turn = record {
+          inside = a .inside;
+          rank = a .rank;
+          leading = a .leading;
+          last = along-next to s k t walk room;
+          within = λ v. onward v .0;
+          falls = falls;
+          steps = steps-more s k t walk room (a .steps) (rw (a .last) u) (rw (a .last) l) b new;
+          costs = rw (take-suc-set walk k t room, delay-snoc (at weight) (take k walk) t) (omega (arith, a .costs, q));
+          later = later-more k t before walk (a .later);
+        }
+          where
+            falls : UnfinishedIn marks (at to t) → (i : ℕ) → i ≤ suc k → a .rank (at to t) ≤ a .rank (along to s (set walk k t) i)
+            falls v i h = go (same-or-not i (suc k))
+              where
+                go : (i ≡ suc k) ⊎ (i ≢ suc k) → a .rank (at to t) ≤ a .rank (along to s (set walk k t) i)
+                go (inl p) = rw (p, along-next to s k t walk room) (le-refl (a .rank (at to t)))
+                go (inr d) = rw (along-before to s k t walk i (omega (arith, d))) (omega (arith, onward v .1, a .falls u i (omega (arith, d))))
