@@ -5,16 +5,7 @@ use Prim.Native.Nat.{ℕ, _≤_}
 use lib.ListN.{take, drop}
 use Rattle.graph.specs.Graph.{Graph, states}
 use Rattle.graph.specs.Route.{Cost}
-use Rattle.graph.specs.Figure.{Figure, number, NONE, STRANDED, ENDLESS, Shown}
-use Rattle.search.specs.declared.Figure.{Figure as Answered}
-use Rattle.search.specs.declared.Figure.the-variants.{Number, None, Stranded, Endless}
-
--- the kinds and numbers of document 01
-abbrev pub figure : Answered → Figure
-figure (Number k) = number k
-figure None = NONE
-figure Stranded = STRANDED
-figure Endless = ENDLESS
+use Rattle.graph.specs.Figure.{Figure, Shown}
 
 -- the figure f is the one that `Is` says, and the walk of k places at the front of the lent places is what 01 asks for it, with j; "later places stay"
 pub record Quoted (Is : Figure → Type 0) (g : Graph) (c : Cost) (f : Figure) (k j : ℕ) (before after : List ℕ) : Type 0 where

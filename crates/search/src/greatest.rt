@@ -8,16 +8,17 @@ ghost use Rattle.search.specs.Arrays.{at, Ends, Holds, costOf};
 ghost use Rattle.search.specs.Chain.{Chains};
 ghost use Rattle.search.specs.Explored.{table, Sized, Ranked, NoDeadEnd, Reached};
 ghost use Rattle.search.specs.Keys.{far, heaviest};
-ghost use Rattle.search.specs.Quoted.{figure as figureOf, Quoted};
+ghost use Rattle.rules.specs.Quotations.{meant};
+ghost use Rattle.search.specs.Quoted.{Quoted};
 ghost use Rattle.search.specs.Values.{Largest, Ordered, Valued, Farthest};
 use arrays::limits::wide;
+use rules::Figure;
+use rules::Quote;
 use crate::explore;
 use crate::hunt;
 use crate::is_start;
 use crate::route;
 use crate::tree;
-use crate::Figure;
-use crate::Quote;
 use crate::Reach;
 
 // The greatest that a transition out of a state weighs with the value behind it.

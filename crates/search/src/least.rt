@@ -12,14 +12,15 @@ ghost use Rattle.search.specs.Arrays.{at, Ends, Holds, costOf, Below};
 ghost use Rattle.search.specs.Chain.{Chains};
 ghost use Rattle.search.specs.Explored.{sumTo};
 ghost use Rattle.search.specs.Keys.{far, heaviest, Weighed, Keys, Settled, SettledBy, Offered, Relaxed, Nearest};
-ghost use Rattle.search.specs.Quoted.{figure as figureOf, Quoted};
-use crate::Figure;
-use crate::Quote;
+ghost use Rattle.rules.specs.Quotations.{meant};
+ghost use Rattle.search.specs.Quoted.{Quoted};
 use crate::is_final;
 use crate::is_start;
 use crate::nearest;
 use crate::route;
 use arrays::limits::wide;
+use rules::Figure;
+use rules::Quote;
 
 // Above every key that is known.
 const FAR: u32 = 4_000_000_000;
@@ -304,7 +305,7 @@ pub fn least(
     requires { ⌜ Chains (now to) m (now into) (now «into_link») × Chains (now from) m (now out) (now «out_link») ⌝ }
     ensures { λ r. ⌜ ((g : Graph) → Holds g n m (now (marks .entry)) (now (from .entry)) (now (to .entry))
         → Quoted (IsLeast g (costOf (now (weight .entry)) (now (close .entry)))) g (costOf (now (weight .entry)) (now (close .entry)))
-        (figureOf (r .figure)) (r .k) (r .j) (now (walk .entry)) (now (walk .exit))) ⌝ }
+        (meant (r .figure)) (r .k) (r .j) (now (walk .entry)) (now (walk .exit))) ⌝ }
 {
     let mut key = [FAR; 512];
     spread(n, m, marks, from, to, weight, close, into, into_link, &mut key);

@@ -1,36 +1,16 @@
 // Searches over lent arrays, any cost: the least and the greatest cost of a route, with a walk that shows it. A graph is lent as its marks values
 // and its transitions' ends, a cost as a weight for each transition and a close for each state.
 pub mod chain;
-
-
-
+pub mod explore;
 pub mod greatest;
 pub mod hunt;
 pub mod least;
 pub mod nearest;
-pub mod explore;
-
 pub mod route;
 pub mod tree;
 
-
 ghost use mathlib.Core.Path.{_≡_};
 ghost use Rattle.search.specs.Arrays.{startMark, finalMark};
-
-// A figure by document 01: its number or kind.
-pub enum Figure {
-    Number(u32),
-    None,
-    Stranded,
-    Endless,
-}
-
-// A figure with the walk that was written for it: k transitions, and the place j for Endless.
-pub struct Quote {
-    pub figure: Figure,
-    pub k: usize,
-    pub j: usize,
-}
 
 // What the search from the starts found: no start; a loop, from a stack of so many states back to a place on it; a dead end; or neither, with so
 // many states left.
