@@ -15,3 +15,4 @@ pub mod Searched
 pub mod Filling
 -- From arrays to the graph.
 pub mod Held
+pub mod LeastFigure

@@ -22,7 +22,7 @@ fn accounting(
     value: &[u32; 512],
 ) -> usize
     requires { ⌜ (s < 512) × (m ≤ 2048) × Chains (now from) m (now head) (now link) ⌝ }
-    requires { ⌜ ((t : ℕ) → t < m → (at (now to) t < 512) × (at (now weight) t ≤ heaviest)) × ((x : ℕ) → at (now value) x ≤ far) ⌝ }
+    requires { ⌜ ((t : ℕ) → t < m → (at (now to) t < 512) × (at (now weight) t ≤ heaviest) × (at (now value) (at (now to) t) ≤ far)) ⌝ }
     requires { ⌜ ((t : ℕ) × Leaves m (now from) s t × Accounts (now to) (now weight) (now value) s t) ⌝ }
     ensures { λ r. ⌜ Leaves m (now (from .entry)) s r × Accounts (now (to .entry)) (now (weight .entry)) (now (value .entry)) s r ⌝ }
 {
@@ -52,7 +52,7 @@ pub fn trace(
     walk: &mut [u16],
 ) -> usize
     requires { ⌜ (s < n) × (n ≤ length (now walk)) × Ends n m (now from) (now to) × Chains (now from) m (now head) (now link) ⌝ }
-    requires { ⌜ ((t : ℕ) → t < m → at (now weight) t ≤ heaviest) × ((x : ℕ) → at (now value) x ≤ far) ⌝ }
+    requires { ⌜ ((t : ℕ) → t < m → (at (now weight) t ≤ heaviest) × (at (now value) (at (now to) t) ≤ far)) ⌝ }
     requires { ⌜ ((inside : ℕ → Bool) × (rank : ℕ → ℕ)
         × Leading n m (now marks) (now from) (now to) (now weight) (now close) (now value) inside rank
         × (UnfinishedIn (now marks) s → inside s ≡ true)) ⌝ }

@@ -82,7 +82,7 @@ mul-if1-3 c =
     let a = c .before .before .before .before .before .before .before .before .args in
     let t = c .before .before .before .before .before .loop .t in
     let l = c .before .before .before .before .before .loop .inv .1 (c .before .before .before .before .loop-test .taken) in
-    let b = c .before .before .before .before .before .before .before .before .pre .1 .0 .0 t (l .0) .0 in
+    let b = c .before .before .before .before .before .before .before .before .pre .1 .0 t (l .0) .0 in
     let e : c .wide2 .result ≡ at (a .to .now) t = c .wide2 .ensures in
     omega arith
 
@@ -92,7 +92,7 @@ element-copy-out-if1-3 c =
     let a = c .before .before .before .before .before .before .before .before .args in
     let t = c .before .before .before .before .before .loop .t in
     let l = c .before .before .before .before .before .loop .inv .1 (c .before .before .before .before .loop-test .taken) in
-    let b = c .before .before .before .before .before .before .before .before .pre .1 .0 .0 t (l .0) .0 in
+    let b = c .before .before .before .before .before .before .before .before .pre .1 .0 t (l .0) .0 in
     let e : c .wide2 .result ≡ at (a .to .now) t = c .wide2 .ensures in
     omega arith
 
@@ -101,9 +101,9 @@ add-if1 : tie.Need-add-if1 Inv-loop μ-loop
 add-if1 c =
     let t = c .before .before .before .before .before .before .loop .t in
     let l = c .before .before .before .before .before .before .loop .inv .1 (c .before .before .before .before .before .loop-test .taken) in
-    let b = c .before .before .before .before .before .before .before .before .before .pre .1 .0 .0 t (l .0) .1 in
-    let v = c .before .before .before .before .before .before .before .before .before .pre .1 .0 .1 (c .before .wide2 .result) in
-    omega arith
+    let b = c .before .before .before .before .before .before .before .before .before .pre .1 .0 t (l .0) in
+    let v = ap (at (c .before .before .before .before .before .before .before .before .before .args .value .now)) (c .before .wide2 .ensures) in
+    omega (arith, b .1, b .2)
 
 -- src/route.rt:35:18
 mul-wide-3 : tie.Need-mul-wide-3 Inv-loop μ-loop

@@ -60,7 +60,7 @@ accounting-requires c κs =
     let p = c .before .before .before .before .before .pre in
     let e = p .0 .2 in
     ((omega (arith, e .states), e .count, p .0 .3),
-    ((λ t q. (omega (arith, e .arrives t q, e .states), p .1 .0 .0 t q), p .1 .0 .1),
+    ((λ t q. (omega (arith, e .arrives t q, e .states), p .1 .0 t q .0, p .1 .0 t q .1)),
     i .leading .accounted (l .x) h (i .within u) u))
 
 -- src/route.rt:66:19
