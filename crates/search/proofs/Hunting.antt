@@ -8,7 +8,9 @@ use Prim.Native.Nat.{ℕ, zero, suc, _≤_, _<_}
 use native.Mathlib.Omega.{arith}
 use Rattle.search.specs.Arrays.{at, StartIn, UnfinishedIn, Ends, Leaves}
 use Rattle.search.specs.Chain.{First, Chains}
-use Rattle.search.specs.Explored.{Rooted, NoDeadEnd}
+use Rattle.search.specs.declared.Reach.{Reach}
+use Rattle.search.specs.declared.Reach.the-variants.{NoStart, Looped, DeadEnd, Ends as Over}
+use Rattle.search.specs.Explored.{Table, Rooted, NoDeadEnd, Explored, Reached}
 
 module _ (m : ℕ) (marks from to head via : List ℕ) where
   -- a transition to an unfinished state that has a transition
@@ -37,3 +39,11 @@ module _ (n m : ℕ) (marks from to head link rank via : List ℕ) (ends : Ends 
           let y = at from (at via s) in
           let there = looked y (ends .leaves (at via s) l) p .behind (at via s) l refl (rw e u) in
           first-of s h (rw e at there)
+
+-- what the search found where it did not come to its end, there is no hunt for
+pub reached-early : (n m : ℕ) (marks from to : List ℕ) (a : Table) (r : Reach) → ((k : ℕ) → r ≡ Over k → ⊥) → Explored n m marks from to a r
+    → Reached n m marks from to a r
+reached-early n m marks from to a NoStart d e = e
+reached-early n m marks from to a (Looped d j) n′ e = e
+reached-early n m marks from to a (DeadEnd s) d e = absurd e
+reached-early n m marks from to a (Over k) d e = absurd (d k refl)

@@ -16,3 +16,4 @@ pub mod Filling
 -- From arrays to the graph.
 pub mod Held
 pub mod LeastFigure
+pub mod GreatestFigure

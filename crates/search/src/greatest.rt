@@ -4,7 +4,8 @@ ghost use Prim.Native.Nat.{ℕ, _≤_, _<_};
 ghost use lib.ListN.{length};
 ghost use Rattle.graph.specs.Graph.{Graph};
 ghost use Rattle.graph.specs.Figure.{IsGreatest};
-ghost use Rattle.search.specs.Arrays.{at, Ends, Holds, costOf};
+ghost use mathlib.Core.List.{List};
+ghost use Rattle.search.specs.Arrays.{at, StartIn, Ends, Holds, costOf};
 ghost use Rattle.search.specs.Chain.{Chains};
 ghost use Rattle.search.specs.Explored.{table, Sized, Ranked, NoDeadEnd, Reached};
 ghost use Rattle.search.specs.Keys.{far, heaviest};
@@ -95,4 +96,67 @@ fn farthest_start(n: usize, marks: &[u8; 512], value: &[u32; 512]) -> usize
         s += 1;
     }
     best
+}
+
+// What the starts reach: no start, a loop, a dead end, or neither. The arrays of the search are zero before it.
+pub fn reach(
+    n: usize,
+    m: usize,
+    marks: &[u8; 512],
+    from: &[u16; 2048],
+    to: &[u16; 2048],
+    head: &[u16; 512],
+    link: &[u16; 2048],
+    rank: &mut [u16; 512],
+    cursor: &mut [u16; 512],
+    stack: &mut [u16; 512],
+    order: &mut [u16; 512],
+    via: &mut [u16; 512],
+) -> Reach
+    requires { ⌜ Ends n m (now from) (now to) × Chains (now from) m (now head) (now link) × ((s : ℕ) → at (now rank) s ≡ 0) ⌝ }
+    requires { ⌜ Sized (table (now rank) (now cursor) (now stack) (now order) (now via)) ⌝ }
+    ensures { λ r. ⌜ Reached n m (now (marks .entry)) (now (from .entry)) (now (to .entry))
+        (table (now (rank .exit)) (now (cursor .exit)) (now (stack .exit)) (now (order .exit)) (now (via .exit))) r ⌝ }
+{
+    let found = explore::explore(n, m, marks, from, to, head, link, rank, cursor, stack, order, via);
+    let Reach::Ends(left) = found else {
+        return found;
+    };
+    let dead = hunt::hunt(n, m, marks, from, to, head, link, rank, via);
+    if dead < 512 {
+        return Reach::DeadEnd(dead);
+    }
+    Reach::Ends(left)
+}
+
+// The greatest cost of a route, where neither a loop nor a dead end is reached, and a route that attains it.
+fn number(
+    done: usize,
+    n: usize,
+    m: usize,
+    marks: &[u8; 512],
+    from: &[u16; 2048],
+    to: &[u16; 2048],
+    head: &[u16; 512],
+    link: &[u16; 2048],
+    rank: &[u16; 512],
+    order: &[u16; 512],
+    weight: &[u32; 2048],
+    close: &[u32; 512],
+    walk: &mut [u16],
+) -> Quote
+    requires { ⌜ Ends n m (now from) (now to) × Chains (now from) m (now head) (now link) × (n ≤ length (now walk))
+        × ((t : ℕ) → t < m → at (now weight) t ≤ heaviest) × ((s : ℕ) → at (now close) s ≤ heaviest) × (512 ≤ length (now close)) ⌝ }
+    requires { ⌜ ((cursor : List ℕ) × (stack : List ℕ) × (via : List ℕ)
+        × Ranked n m (now marks) (now from) (now to) (table (now rank) cursor stack (now order) via) done) ⌝ }
+    requires { ⌜ ((s : ℕ) × (s < n) × StartIn (now marks) s) × NoDeadEnd n m (now marks) (now from) (now to) (now rank) ⌝ }
+    ensures { λ r. ⌜ ((g : Graph) → Holds g n m (now (marks .entry)) (now (from .entry)) (now (to .entry))
+        → Quoted (IsGreatest g (costOf (now (weight .entry)) (now (close .entry)))) g (costOf (now (weight .entry)) (now (close .entry)))
+        (meant (r .figure)) (r .k) (r .j) (now (walk .entry)) (now (walk .exit))) ⌝ }
+{
+    let mut value = *close;
+    values(n, m, done, marks, from, to, head, link, order, weight, &mut value);
+    let best = farthest_start(n, marks, &value);
+    let k = route::trace(best, n, m, marks, from, to, head, link, weight, close, &value, walk);
+    Quote { figure: Figure::Number(value[best]), k, j: 0 }
 }
