@@ -6,12 +6,7 @@ ghost use Rattle.search.specs.Chain.{Chains, Empty};
 use arrays::limits::wide;
 
 // Chains the first m transitions by their keys, the states that they leave or those that they lead to. 2,048 ends a chain.
-pub fn chains(
-    keys: &[u16; 2048],
-    m: usize,
-    head: &mut [u16; 512],
-    link: &mut [u16; 2048],
-)
+pub fn chains(keys: &[u16; 2048], m: usize, head: &mut [u16; 512], link: &mut [u16; 2048])
     requires { ⌜ (m ≤ 2048) × ((t : ℕ) → t < m → at (now keys) t < 512) ⌝ }
     requires { ⌜ Empty (now head) × (512 ≤ length (now head)) × (2048 ≤ length (now link)) ⌝ }
     ensures { λ r. ⌜ Chains (now (keys .entry)) m (now (head .exit)) (now (link .exit)) ⌝ }

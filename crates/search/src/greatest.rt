@@ -12,15 +12,15 @@ ghost use Rattle.search.specs.Keys.{far, heaviest};
 ghost use Rattle.rules.specs.Quotations.{meant};
 ghost use Rattle.search.specs.Quoted.{Quoted};
 ghost use Rattle.search.specs.Values.{Largest, Ordered, Valued, Farthest};
-use arrays::limits::wide;
-use rules::Figure;
-use rules::Quote;
+use crate::Reach;
 use crate::explore;
 use crate::hunt;
 use crate::is_start;
 use crate::route;
 use crate::tree;
-use crate::Reach;
+use arrays::limits::wide;
+use rules::Figure;
+use rules::Quote;
 
 // The greatest that a transition out of a state weighs with the value behind it.
 fn largest(
@@ -118,7 +118,20 @@ pub fn reach(
     ensures { λ r. ⌜ Reached n m (now (marks .entry)) (now (from .entry)) (now (to .entry))
         (table (now (rank .exit)) (now (cursor .exit)) (now (stack .exit)) (now (order .exit)) (now (via .exit))) r ⌝ }
 {
-    let found = explore::explore(n, m, marks, from, to, head, link, rank, cursor, stack, order, via);
+    let found = explore::explore(
+        n,
+        m,
+        marks,
+        from,
+        to,
+        head,
+        link,
+        rank,
+        cursor,
+        stack,
+        order,
+        via,
+    );
     let Reach::Ends(left) = found else {
         return found;
     };
@@ -155,8 +168,103 @@ fn number(
         (meant (r .figure)) (r .k) (r .j) (now (walk .entry)) (now (walk .exit))) ⌝ }
 {
     let mut value = *close;
-    values(n, m, done, marks, from, to, head, link, order, weight, &mut value);
+    values(
+        n,
+        m,
+        done,
+        marks,
+        from,
+        to,
+        head,
+        link,
+        order,
+        weight,
+        &mut value,
+    );
     let best = farthest_start(n, marks, &value);
-    let k = route::trace(best, n, m, marks, from, to, head, link, weight, close, &value, walk);
-    Quote { figure: Figure::Number(value[best]), k, j: 0 }
+    let k = route::trace(
+        best,
+        n,
+        m,
+        marks,
+        from,
+        to,
+        head,
+        link,
+        weight,
+        close,
+        &value,
+        walk,
+    );
+    Quote {
+        figure: Figure::Number(value[best]),
+        k,
+        j: 0,
+    }
+}
+
+// The greatest figure from what the starts reach, and the walk that shows it.
+pub fn greatest(
+    found: Reach,
+    n: usize,
+    m: usize,
+    marks: &[u8; 512],
+    from: &[u16; 2048],
+    to: &[u16; 2048],
+    head: &[u16; 512],
+    link: &[u16; 2048],
+    rank: &[u16; 512],
+    cursor: &[u16; 512],
+    stack: &[u16; 512],
+    order: &[u16; 512],
+    via: &[u16; 512],
+    weight: &[u32; 2048],
+    close: &[u32; 512],
+    walk: &mut [u16],
+) -> Quote
+    requires { ⌜ Ends n m (now from) (now to) × Chains (now from) m (now head) (now link) × (n ≤ length (now walk))
+        × ((t : ℕ) → t < m → at (now weight) t ≤ heaviest) × ((s : ℕ) → at (now close) s ≤ heaviest) × (512 ≤ length (now close)) ⌝ }
+    requires { ⌜ Reached n m (now marks) (now from) (now to) (table (now rank) (now cursor) (now stack) (now order) (now via)) found ⌝ }
+    ensures { λ r. ⌜ ((g : Graph) → Holds g n m (now (marks .entry)) (now (from .entry)) (now (to .entry))
+        → Quoted (IsGreatest g (costOf (now (weight .entry)) (now (close .entry)))) g (costOf (now (weight .entry)) (now (close .entry)))
+        (meant (r .figure)) (r .k) (r .j) (now (walk .entry)) (now (walk .exit))) ⌝ }
+{
+    match found {
+        Reach::NoStart => Quote {
+            figure: Figure::None,
+            k: 0,
+            j: 0,
+        },
+        Reach::Looped(d, j) => {
+            tree::along_stack(d, stack, cursor, walk);
+            Quote {
+                figure: Figure::Endless,
+                k: d,
+                j,
+            }
+        }
+        Reach::DeadEnd(s) => {
+            let k = tree::climb(s, n, m, from, rank, via, walk);
+            Quote {
+                figure: Figure::Stranded,
+                k,
+                j: 0,
+            }
+        }
+        Reach::Ends(done) => number(
+            done,
+            n,
+            m,
+            marks,
+            from,
+            to,
+            head,
+            link,
+            rank,
+            order,
+            weight,
+            close,
+            walk,
+        ),
+    }
 }

@@ -4,8 +4,8 @@ ghost use Prim.Native.Nat.{ℕ, _≤_, _<_};
 ghost use Rattle.search.specs.Arrays.{at, UnfinishedIn, Ends};
 ghost use Rattle.search.specs.Chain.{Chains};
 ghost use Rattle.search.specs.Explored.{Rooted, Hunted};
-use arrays::limits::wide;
 use crate::is_final;
+use arrays::limits::wide;
 
 // A dead end that was entered; 512 where there is none. A start is looked at itself, another state from a transition that leads to it, and the
 // hunt stops at the first one found.

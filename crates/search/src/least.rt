@@ -308,11 +308,43 @@ pub fn least(
         (meant (r .figure)) (r .k) (r .j) (now (walk .entry)) (now (walk .exit))) ⌝ }
 {
     let mut key = [FAR; 512];
-    spread(n, m, marks, from, to, weight, close, into, into_link, &mut key);
+    spread(
+        n,
+        m,
+        marks,
+        from,
+        to,
+        weight,
+        close,
+        into,
+        into_link,
+        &mut key,
+    );
     let best = settle(n, m, marks, from, to, weight, close, &mut key);
     if n <= best {
-        return Quote { figure: Figure::None, k: 0, j: 0 };
+        return Quote {
+            figure: Figure::None,
+            k: 0,
+            j: 0,
+        };
     }
-    let k = route::trace(best, n, m, marks, from, to, out, out_link, weight, close, &key, walk);
-    Quote { figure: Figure::Number(key[best]), k, j: 0 }
+    let k = route::trace(
+        best,
+        n,
+        m,
+        marks,
+        from,
+        to,
+        out,
+        out_link,
+        weight,
+        close,
+        &key,
+        walk,
+    );
+    Quote {
+        figure: Figure::Number(key[best]),
+        k,
+        j: 0,
+    }
 }

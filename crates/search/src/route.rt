@@ -7,8 +7,8 @@ ghost use Rattle.search.specs.Arrays.{at, UnfinishedIn, Ends, Leaves, Be
 ghost use Rattle.search.specs.Chain.{Chains};
 ghost use Rattle.search.specs.Keys.{far, heaviest};
 ghost use Rattle.search.specs.Route.{Accounts, Leading, Traced};
-use arrays::limits::wide;
 use crate::is_final;
+use arrays::limits::wide;
 
 // The first transition that leaves the state and accounts for its value.
 fn accounting(

@@ -20,7 +20,14 @@ pub fn along_stack(d: usize, stack: &[u16; 512], cursor: &[u16; 512], walk: &mut
 }
 
 // How many transitions lead up the tree from a state to a start.
-fn height(s: usize, n: usize, m: usize, from: &[u16; 2048], rank: &[u16; 512], via: &[u16; 512]) -> usize
+fn height(
+    s: usize,
+    n: usize,
+    m: usize,
+    from: &[u16; 2048],
+    rank: &[u16; 512],
+    via: &[u16; 512],
+) -> usize
     requires { ⌜ (s < n) × (n ≤ 512) × (m ≤ 2048) × (0 < at (now rank) s) × Rising n m (now from) (now rank) (now via) ⌝ }
     ensures { λ r. ⌜ Climbs n m (now (from .entry)) (now (rank .entry)) (now (via .entry)) s r ⌝ }
 {
@@ -34,7 +41,15 @@ fn height(s: usize, n: usize, m: usize, from: &[u16; 2048], rank: &[u16; 512], v
 }
 
 // Writes the walk down the tree, from the start to the state, to the front of the places, and returns how many transitions it has.
-pub fn climb(s: usize, n: usize, m: usize, from: &[u16; 2048], rank: &[u16; 512], via: &[u16; 512], walk: &mut [u16]) -> usize
+pub fn climb(
+    s: usize,
+    n: usize,
+    m: usize,
+    from: &[u16; 2048],
+    rank: &[u16; 512],
+    via: &[u16; 512],
+    walk: &mut [u16],
+) -> usize
     requires { ⌜ (s < n) × (n ≤ 512) × (m ≤ 2048) × (n ≤ length (now walk)) × (0 < at (now rank) s) × Rising n m (now from) (now rank) (now via) ⌝ }
     ensures { λ r. ⌜ Climbs n m (now (from .entry)) (now (rank .entry)) (now (via .entry)) s r
         × Climbed (now (from .entry)) (now (via .entry)) s r (now (walk .entry)) (now (walk .exit)) ⌝ }

@@ -47,7 +47,7 @@ wide-requires c κs = search needs
 
 -- src/chain.rt:23:19
 mul-link : tie.Need-mul-link Inv-loop μ-loop
-mul-link c = 
+mul-link c =
     let a = c .before .before .before .before .args in
     let l = c .before .before .before .loop in
     let k : c .wide .result ≡ at (a .keys .now) (l .i - 1) = c .wide .ensures in
@@ -56,7 +56,7 @@ mul-link c =
 
 -- src/chain.rt:23:19
 element-copy-out-link : tie.Need-element-copy-out-link Inv-loop μ-loop
-element-copy-out-link c = 
+element-copy-out-link c =
     let a = c .before .before .before .before .args in
     let l = c .before .before .before .loop in
     let k : c .wide .result ≡ at (a .keys .now) (l .i - 1) = c .wide .ensures in
@@ -77,7 +77,7 @@ cast-head c = search needs
 
 -- src/chain.rt:24:9
 mul-head : tie.Need-mul-head Inv-loop μ-loop
-mul-head c = 
+mul-head c =
     let a = c .before .before .before .before .before .args in
     let l = c .before .before .before .before .loop in
     let k : c .before .wide .result ≡ at (a .keys .now) (l .i - 1) = c .before .wide .ensures in
@@ -86,7 +86,7 @@ mul-head c =
 
 -- src/chain.rt:24:9
 element-write-head : tie.Need-element-write-head Inv-loop μ-loop
-element-write-head c = 
+element-write-head c =
     let a = c .before .before .before .before .before .args in
     let l = c .before .before .before .before .loop in
     let k : c .before .wide .result ≡ at (a .keys .now) (l .i - 1) = c .before .wide .ensures in
@@ -99,7 +99,7 @@ loop-less c = search needs
 
 -- src/chain.rt:20:5
 loop-again : tie.Need-loop-again Inv-loop μ-loop
-loop-again c = 
+loop-again c =
     let a = c .before .before .before .before .before .args in
     let l = c .before .before .before .before .loop in
     let i : ℕ = l .i - 1 in
@@ -111,7 +111,7 @@ loop-again c =
 
 -- src/chain.rt:9:1
 returns : tie.Need-returns Inv-loop μ-loop
-returns c = 
+returns c =
     let a = c .before .before .args in
     let l = c .before .loop in
     let z : l .i ≡ 0 = omega arith in

@@ -69,14 +69,16 @@ loop-again : tie.Need-loop-again Inv-loop μ-loop
 loop-again c =
     let a = c .before .before .before .before .before .args in
     let l = c .before .before .before .before .loop in
-    let e = c .before .is-start .ensures in
-    (omega arith, rw add-one (⊎-elim
-        (λ w. rw (w .4, w .5) (looked-taken (a .n) (a .marks .now) (a .value .now) (l .best) (l .most) (l .s) (l .inv .1) (c .before .before .before .loop-test .taken) (sym e ∙ w .0 .taken) (w .2 .taken)))
-        (⊎-elim
-        (λ w. rw (w .3, w .4) (looked-kept (a .n) (a .marks .now) (a .value .now) (l .best) (l .most) (l .s) (l .inv .1) (λ b. w .2 .left)))
-        (λ w. rw (w .1, w .2) (looked-kept (a .n) (a .marks .now) (a .value .now) (l .best) (l .most) (l .s) (l .inv .1)
-            (λ b. absurd (true≢false (sym b ∙ sym e ∙ w .0 .left))))))
-        (c .if1 .came)))
+    let e = c .before .is-start .ensures in (
+      omega arith,
+      rw add-one (⊎-elim
+          (λ w. rw (w .4, w .5) (looked-taken (a .n) (a .marks .now) (a .value .now) (l .best) (l .most) (l .s) (l .inv .1) (c .before .before .before .loop-test .taken) (sym e ∙ w .0 .taken) (w .2 .taken)))
+          (⊎-elim
+          (λ w. rw (w .3, w .4) (looked-kept (a .n) (a .marks .now) (a .value .now) (l .best) (l .most) (l .s) (l .inv .1) (λ b. w .2 .left)))
+          (λ w. rw (w .1, w .2) (looked-kept (a .n) (a .marks .now) (a .value .now) (l .best) (l .most) (l .s) (l .inv .1)
+          (λ b. absurd (true≢false (sym b ∙ sym e ∙ w .0 .left))))))
+          (c .if1 .came)),
+    )
 
 -- src/greatest.rt:80:1
 returns : tie.Need-returns Inv-loop μ-loop

@@ -123,10 +123,12 @@ loop-again c =
     let q = l .inv .1 (c .before .before .before .before .before .before .before .loop-test .taken) in
     let f = rw (q .1, ← c .wide3 .ensures) at (c .before .before .before .before .before .before .before .before .before .before .before .pre .2 .links (l .t) (q .0)) in
     let e : at (a .weight .now) (l .t) + at (a .value .now) (c .before .before .before .before .wide2 .result) ≡ at (a .weight .now) (l .t) + at (a .value .now) (at (a .to .now) (l .t)) =
-        ap (λ (x : ℕ). at (a .weight .now) (l .t) + at (a .value .now) x) (c .before .before .before .before .wide2 .ensures) in
-    (f .most, first-leaves (a .from .now) (a .m) f,
-    raised (a .m) (a .from .now) (a .to .now) (a .weight .now) (a .value .now) (a .s) (l .best) (c .before .before .if1 .best) f (record { listed = q .0; source = q .1 }) (l .inv .2)
-        (⊎-elim (λ w. inl (rw e at (w .0 .taken), w .1 ∙ e)) (λ w. inr (rw e at (w .0 .left), w .1)) (c .before .before .if1 .came)))
+    ap (λ (x : ℕ). at (a .weight .now) (l .t) + at (a .value .now) x) (c .before .before .before .before .wide2 .ensures) in (
+      f .most,
+      first-leaves (a .from .now) (a .m) f,
+      raised (a .m) (a .from .now) (a .to .now) (a .weight .now) (a .value .now) (a .s) (l .best) (c .before .before .if1 .best) f (record { listed = q .0; source = q .1 }) (l .inv .2)
+          (⊎-elim (λ w. inl (rw e at (w .0 .taken), w .1 ∙ e)) (λ w. inr (rw e at (w .0 .left), w .1)) (c .before .before .if1 .came)),
+    )
 
 -- src/greatest.rt:24:1
 returns : tie.Need-returns Inv-loop μ-loop

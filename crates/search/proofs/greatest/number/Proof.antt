@@ -31,15 +31,19 @@ values-requires c κs =
     let p = c .before .before .before .pre in
     let q = p .1 .0 in
     let t = table (a .rank .now) (q .0) (q .1) (a .order .now) (q .2) in
-    let r = q .3 in
-    ((omega (arith, r .count, p .0 .0 .states), p .0 .0, p .0 .1, p .0 .3),
-    (ordered (a .n) (a .m) (a .marks .now) (a .from .now) (a .to .now) (p .0 .0) t (a .done) r (p .1 .1 .1), record {
-      sized = p .0 .5;
-      at-final = λ s h f. refl;
-      over = λ i h. absurd (omega arith);
-      accounted = λ i h. absurd (omega arith);
-      most = λ s. omega (arith, p .0 .4 s);
-    }))
+    let r = q .3 in (
+      (omega (arith, r .count, p .0 .0 .states), p .0 .0, p .0 .1, p .0 .3),
+      (
+        ordered (a .n) (a .m) (a .marks .now) (a .from .now) (a .to .now) (p .0 .0) t (a .done) r (p .1 .1 .1),
+        record {
+          sized = p .0 .5;
+          at-final = λ s h f. refl;
+          over = λ i h. absurd (omega arith);
+          accounted = λ i h. absurd (omega arith);
+          most = λ s. omega (arith, p .0 .4 s);
+        },
+      ),
+    )
 
 -- src/greatest.rt:159:9
 farthest-start-requires : tie.Need-farthest-start-requires
@@ -58,10 +62,18 @@ trace-requires c κs =
     let f = c .before .before .farthest-start .ensures in
     let b = c .before .before .farthest-start .result in
     let (s, h, d) = p .1 .1 .0 in
-    let (l, m) = f .greatest s h d in
-    ((l, p .0 .2, p .0 .0, p .0 .1), ((λ t h. (p .0 .3 t h, omega (arith, w .most (at (a .to .now) t), r .count, p .0 .0 .states))),
-    ((λ s. ltb 0 (at (a .rank .now) s)), at (a .rank .now), leading (a .n) (a .m) (a .marks .now) (a .from .now) (a .to .now) (p .0 .0) t (a .done) r (p .1 .1 .1) (a .weight .now) (a .close .now) v w,
-    start-inside (a .n) (a .m) (a .marks .now) (a .from .now) (a .to .now) (p .0 .0) t (a .done) r (p .1 .1 .1) (a .weight .now) (a .close .now) v w b l (f .found l))))
+    let (l, m) = f .greatest s h d in (
+      (l, p .0 .2, p .0 .0, p .0 .1),
+      (
+        (λ t h. (p .0 .3 t h, omega (arith, w .most (at (a .to .now) t), r .count, p .0 .0 .states))),
+        (
+          (λ s. ltb 0 (at (a .rank .now) s)),
+          at (a .rank .now),
+          leading (a .n) (a .m) (a .marks .now) (a .from .now) (a .to .now) (p .0 .0) t (a .done) r (p .1 .1 .1) (a .weight .now) (a .close .now) v w,
+          start-inside (a .n) (a .m) (a .marks .now) (a .from .now) (a .to .now) (p .0 .0) t (a .done) r (p .1 .1 .1) (a .weight .now) (a .close .now) v w b l (f .found l),
+        ),
+      ),
+    )
 
 -- src/greatest.rt:161:36
 mul-t24 : tie.Need-mul-t24
@@ -103,7 +115,7 @@ returns c =
     let (s, h, d) = p .1 .1 .0 in
     let (l, m) = f .greatest s h d in
     λ g held. number-shown (a .n) (a .m) (a .marks .now) (a .from .now) (a .to .now) (p .0 .0) t (a .done) r (p .1 .1 .1) (a .weight .now) (a .close .now) v w g held (c .before .before .before .before .before .farthest-start .result) l f
-        (c .before .before .trace .result) _ _ (omega (arith, c .before .before .trace .ensures .fits, c .before .before .trace .kept .1 .1 .1 .1 .1 .1 .1 .1 .1 .1 .1 .0, p .0 .2)) (c .before .before .trace .ensures)
+    (c .before .before .trace .result) _ _ (omega (arith, c .before .before .trace .ensures .fits, c .before .before .trace .kept .1 .1 .1 .1 .1 .1 .1 .1 .1 .1 .1 .0, p .0 .2)) (c .before .before .trace .ensures)
 
 pub number-spec : {M : Type 1} → statement M
 number-spec =

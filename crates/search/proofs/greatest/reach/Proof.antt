@@ -47,9 +47,13 @@ hunt-requires c κs =
     let p = c .before .before .before .before .before .before .before .before .before .before .before .pre in
     let x = c .before .before .before .before .before .explore .last in
     let t = table (x .1 .1 .1 .1 .1 .1 .1 .0) (x .1 .1 .1 .1 .1 .1 .1 .1 .0) (x .1 .1 .1 .1 .1 .1 .1 .1 .1 .0) (x .1 .1 .1 .1 .1 .1 .1 .1 .1 .1 .0) (x .1 .1 .1 .1 .1 .1 .1 .1 .1 .1 .1 .0) in
-    let (r, started) = rw (c .before .before .before .found .given .1) at (c .before .before .before .before .before .explore .ensures) in
-    ((p .0 .0, p .0 .1), ((λ s h q. (r .unfinished s h q, r .origin s h q)),
-    (λ s y h q b e u. lower (a .n) (a .m) (a .marks .now) (a .from .now) (a .to .now) (p .0 .0) t _ r s y h q (record { listed = b; source = e }) u .0)))
+    let (r, started) = rw (c .before .before .before .found .given .1) at (c .before .before .before .before .before .explore .ensures) in (
+      (p .0 .0, p .0 .1),
+      (
+        (λ s h q. (r .unfinished s h q, r .origin s h q)),
+        (λ s y h q b e u. lower (a .n) (a .m) (a .marks .now) (a .from .now) (a .to .now) (p .0 .0) t _ r s y h q (record { listed = b; source = e }) u .0),
+      ),
+    )
 
 -- src/greatest.rt:127:9
 returns-2 : tie.Need-returns-2

@@ -52,9 +52,13 @@ largest-requires c κs =
     let a = c .before .before .before .before .before .args in
     let l = c .before .before .before .before .loop in
     let e : c .before .wide .result ≡ at (a .order .now) (l .i) = c .before .wide .ensures in
-    let b = c .before .before .before .before .before .pre .0 .1 in
-    (omega (arith, c .before .before .before .before .before .pre .1 .0 .below (l .i) (c .before .before .before .loop-test .taken), b .states), b .count, c .before .before .before .before .before .pre .0 .2,
-    (λ t h. (omega (arith, b .arrives t h, b .states), c .before .before .before .before .before .pre .0 .3 t h)), (λ x. omega (arith, l .inv .1 .most x, c .before .before .before .before .before .pre .0 .0)))
+    let b = c .before .before .before .before .before .pre .0 .1 in (
+      omega (arith, c .before .before .before .before .before .pre .1 .0 .below (l .i) (c .before .before .before .loop-test .taken), b .states),
+      b .count,
+      c .before .before .before .before .before .pre .0 .2,
+      (λ t h. (omega (arith, b .arrives t h, b .states), c .before .before .before .before .before .pre .0 .3 t h)),
+      (λ x. omega (arith, l .inv .1 .most x, c .before .before .before .before .before .pre .0 .0)),
+    )
 
 -- src/greatest.rt:74:9
 mul-value : tie.Need-mul-value Inv-loop μ-loop
@@ -88,7 +92,7 @@ loop-again c =
     let e : c .before .before .wide .result ≡ at (a .order .now) (l .i) = c .before .before .wide .ensures in
     let g : Largest (a .m) (a .from .now) (a .to .now) (a .weight .now) (l .value) (at (a .order .now) (l .i)) (c .largest .result) = rw (← e) (c .largest .ensures) in
     let v = valued-more (a .n) (a .m) (a .marks .now) (a .from .now) (a .to .now) (a .order .now) (a .weight .now) (a .value .now) (l .i) (a .done)
-        (c .before .before .before .before .loop-test .taken) (c .before .before .before .before .before .before .pre .1 .0) (c .before .before .before .before .before .before .pre .0 .1 .states) (c .before .before .before .before .before .before .pre .0 .3) (l .value) (l .inv .1) (c .largest .result) g in
+    (c .before .before .before .before .loop-test .taken) (c .before .before .before .before .before .before .pre .1 .0) (c .before .before .before .before .before .before .pre .0 .1 .states) (c .before .before .before .before .before .before .pre .0 .3) (l .value) (l .inv .1) (c .largest .result) g in
     (omega arith, rw (e, add-one) v)
 
 -- src/greatest.rt:51:1

@@ -171,10 +171,14 @@ transitions-again c =
     let a = c .before .before .before .before .before .before .before .before .before .before .before .before .before .before .before .args in
     let l = c .before .before .before .before .before .before .before .transitions in
     let q = l .inv .2 (c .before .before .before .before .before .before .transitions-test .taken) in
-    let f = rw (q .1, ← c .wide3 .ensures) at (c .before .before .before .before .before .before .before .before .before .before .before .before .before .before .before .pre .0 .1 .links (l .t) (q .0)) in
-    (l .inv .0, f .most, first-leaves (a .from .now) (a .m) f, first-passed (a .from .now) (a .m) _ f (l .inv .3)
-        (⊎-elim (λ w v. absurd (true≢false (sym (not-false _ (w .3 .left)) ∙ w .2 .ensures ∙ ap (λ (x : ℕ). finalMark (at (a .marks .now) x)) (c .before .before .before .before .wide2 .ensures) ∙ v)))
-        (λ w v. rw (← c .before .before .before .before .wide2 .ensures) (head-below (a .from .now) (a .m) (c .before .before .before .before .before .before .before .before .before .before .before .before .before .before .before .pre .0 .1 .heads (c .before .before .before .before .wide2 .result) (omega (arith, c .before .before .before .before .before .before .before .before .before .before .before .before .before .before .before .pre .0 .0 .states, c .before .before .before .before .before .before .before .before .before .before .before .before .before .before .before .pre .0 .0 .arrives (l .t) (q .0), c .before .before .before .before .wide2 .ensures))) (w .left))) (c .before .before .if4 .came)))
+    let f = rw (q .1, ← c .wide3 .ensures) at (c .before .before .before .before .before .before .before .before .before .before .before .before .before .before .before .pre .0 .1 .links (l .t) (q .0)) in (
+      l .inv .0,
+      f .most,
+      first-leaves (a .from .now) (a .m) f,
+      first-passed (a .from .now) (a .m) _ f (l .inv .3)
+          (⊎-elim (λ w v. absurd (true≢false (sym (not-false _ (w .3 .left)) ∙ w .2 .ensures ∙ ap (λ (x : ℕ). finalMark (at (a .marks .now) x)) (c .before .before .before .before .wide2 .ensures) ∙ v)))
+          (λ w v. rw (← c .before .before .before .before .wide2 .ensures) (head-below (a .from .now) (a .m) (c .before .before .before .before .before .before .before .before .before .before .before .before .before .before .before .pre .0 .1 .heads (c .before .before .before .before .wide2 .result) (omega (arith, c .before .before .before .before .before .before .before .before .before .before .before .before .before .before .before .pre .0 .0 .states, c .before .before .before .before .before .before .before .before .before .before .before .before .before .before .before .pre .0 .0 .arrives (l .t) (q .0), c .before .before .before .before .wide2 .ensures))) (w .left))) (c .before .before .if4 .came)),
+    )
 
 -- src/hunt.rt:51:9
 add-s : tie.Need-add-s Inv-transitions μ-transitions Inv-states μ-states
@@ -192,20 +196,27 @@ states-again c =
     let i = c .before .before .before .states .inv in
     let f = c .before .before .before .before .pre .0 .1 .heads s (omega (arith, c .before .before .before .before .pre .0 .0 .states)) in
     ⊎-elim
-        (λ w. (omega (arith, c .before .before .states-test .taken), w .6 ∙ w .4 .inv .0, below-more _ s (i .2) (λ r. record {
-          itself = λ e. ⊎-elim (λ q. absurd (q .2 .left e)) (λ q. head-below (a .from .now) (a .m) f (λ p. q .left (w .2 .ensures ∙ p))) (w .3 .came);
-          behind = all-passed (a .from .now) (a .m) _ (omega (arith, w .5 .left, c .before .before .before .before .pre .0 .0 .count)) (w .4 .inv .3);
-        })))
-        (λ w. (omega (arith, c .before .before .states-test .taken), w .1 ∙ i .1, below-more _ s (i .2) (λ r. absurd (omega (arith, w .0 .left)))))
-        (c .if1 .came)
+    (λ w. (
+      omega (arith, c .before .before .states-test .taken),
+      w .6 ∙ w .4 .inv .0,
+      below-more _ s (i .2) (λ r. record {
+        itself = λ e. ⊎-elim (λ q. absurd (q .2 .left e)) (λ q. head-below (a .from .now) (a .m) f (λ p. q .left (w .2 .ensures ∙ p))) (w .3 .came);
+        behind = all-passed (a .from .now) (a .m) _ (omega (arith, w .5 .left, c .before .before .before .before .pre .0 .0 .count)) (w .4 .inv .3);
+      }),
+    ))
+    (λ w. (omega (arith, c .before .before .states-test .taken), w .1 ∙ i .1, below-more _ s (i .2) (λ r. absurd (omega (arith, w .0 .left)))))
+    (c .if1 .came)
 
 -- src/hunt.rt:12:1
 returns : tie.Need-returns Inv-transitions μ-transitions Inv-states μ-states
 returns c =
     let a = c .before .before .args in
     let l = c .before .states in
-    inr (l .inv .1, hunted-none (a .n) (a .m) (a .marks .now) (a .from .now) (a .to .now) (a .head .now) (a .link .now) (a .rank .now) (a .via .now)
-        (c .before .before .pre .0 .0) (c .before .before .pre .0 .1) (c .before .before .pre .1 .0) (λ x h r. l .inv .2 x (omega arith) r))
+    inr (
+      l .inv .1,
+      hunted-none (a .n) (a .m) (a .marks .now) (a .from .now) (a .to .now) (a .head .now) (a .link .now) (a .rank .now) (a .via .now)
+          (c .before .before .pre .0 .0) (c .before .before .pre .0 .1) (c .before .before .pre .1 .0) (λ x h r. l .inv .2 x (omega arith) r),
+    )
 
 -- src/hunt.rt:12:1
 returns-2 : tie.Need-returns-2 Inv-transitions μ-transitions Inv-states μ-states
@@ -213,8 +224,11 @@ returns-2 c =
     let a = c .before .before .before .before .before .before .before .before .before .args in
     let s = c .before .before .before .before .before .before .before .before .states .s in
     let f = c .before .before .before .before .before .before .before .before .before .pre .0 .1 .heads s (omega (arith, c .before .before .before .before .before .before .before .before .before .pre .0 .0 .states)) in
-    inl (c .before .before .before .before .before .before .before .states-test .taken, c .before .before .before .before .before .if1 .taken,
-        none-leaves (a .from .now) (a .m) s (at (a .head .now) s) f (c .before .before .before .before .before .before .before .before .before .pre .0 .0 .count) (sym (c .before .before .before .wide .ensures) ∙ c .before .before .if2 .taken))
+    inl (
+      c .before .before .before .before .before .before .before .states-test .taken,
+      c .before .before .before .before .before .if1 .taken,
+      none-leaves (a .from .now) (a .m) s (at (a .head .now) s) f (c .before .before .before .before .before .before .before .before .before .pre .0 .0 .count) (sym (c .before .before .before .wide .ensures) ∙ c .before .before .if2 .taken),
+    )
 
 -- src/hunt.rt:12:1
 returns-3 : tie.Need-returns-3 Inv-transitions μ-transitions Inv-states μ-states
@@ -228,8 +242,11 @@ returns-3 c =
     let u : UnfinishedIn (a .marks .now) v = ap (λ (x : ℕ). finalMark (at (a .marks .now) x)) (sym e) ∙ sym (c .before .is-final .ensures) ∙ not-true _ (c .if5 .taken) in
     let f = c .before .before .before .before .before .before .before .before .before .before .before .before .before .before .before .before .pre .0 .1 .heads v (omega (arith, c .before .before .before .before .before .before .before .before .before .before .before .before .before .before .before .before .pre .0 .0 .states)) in
     let d : at (a .head .now) v ≡ 2048 = ap (at (a .head .now)) (sym e) ∙ c .before .before .before .if4 .taken in
-    rw e (inl (h, c .before .before .before .before .before .before .before .before .before .before .before .before .before .before .before .before .pre .1 .1 (c .before .before .before .before .before .before .before .before .before .before .before .before .before .before .before .states .s) (l .t) (c .before .before .before .before .before .before .before .before .before .before .before .before .before .before .states-test .taken) (c .before .before .before .before .before .before .before .before .before .before .before .before .if1 .taken) (q .0) (q .1) u,
-        none-leaves (a .from .now) (a .m) v (at (a .head .now) v) f (c .before .before .before .before .before .before .before .before .before .before .before .before .before .before .before .before .pre .0 .0 .count) d))
+    rw e (inl (
+      h,
+      c .before .before .before .before .before .before .before .before .before .before .before .before .before .before .before .before .pre .1 .1 (c .before .before .before .before .before .before .before .before .before .before .before .before .before .before .before .states .s) (l .t) (c .before .before .before .before .before .before .before .before .before .before .before .before .before .before .states-test .taken) (c .before .before .before .before .before .before .before .before .before .before .before .before .if1 .taken) (q .0) (q .1) u,
+      none-leaves (a .from .now) (a .m) v (at (a .head .now) v) f (c .before .before .before .before .before .before .before .before .before .before .before .before .before .before .before .before .pre .0 .0 .count) d,
+    ))
 
 pub hunt-spec : {M : Type 1} → statement M
 hunt-spec =

@@ -56,9 +56,13 @@ trace-requires c κs =
     let r = c .before .before .before .settle .result in
     let k = c .before .before .before .settle .last .1 .1 .1 .1 .1 .1 .1 .0 in
     let h : r < a .n = omega arith in
-    let e = p .0 .0 in
-    ((h, p .0 .2, e, p .1 .1), ((λ t l. (p .0 .1 .most t l, q .0 .most (at (a .to .now) t) (e .arrives t l))),
-    ((λ s. leb (at k s) (at k r)), at k, leading (a .n) (a .m) (a .marks .now) (a .from .now) (a .to .now) (a .weight .now) (a .close .now) k e (p .0 .1) (q .0) r h (q .1) (q .2), (λ u. le-leb (at k r) (at k r) (le-refl (at k r))))))
+    let e = p .0 .0 in (
+      (h, p .0 .2, e, p .1 .1),
+      (
+        (λ t l. (p .0 .1 .most t l, q .0 .most (at (a .to .now) t) (e .arrives t l))),
+        ((λ s. leb (at k s) (at k r)), at k, leading (a .n) (a .m) (a .marks .now) (a .from .now) (a .to .now) (a .weight .now) (a .close .now) k e (p .0 .1) (q .0) r h (q .1) (q .2), (λ u. le-leb (at k r) (at k r) (le-refl (at k r)))),
+      ),
+    )
 
 -- src/least.rt:317:36
 mul-t24 : tie.Need-mul-t24

@@ -51,13 +51,16 @@ pass-requires c κs = (c .before .before .before .before .before .pre .0, c .bef
 -- src/least.rt:283:13
 returns : tie.Need-returns Inv-loop μ-loop
 returns c =
-    let (same, settled) = c .before .pass .ensures .2 (not-true _ (c .if2 .taken)) in
-    (c .before .pass .ensures .0, rw same (c .before .before .before .before .nearest-start .ensures), record {
-      bound = c .before .before .before .if1 .bound;
-      settled = settled;
-      nearest = λ l. rw same (⊎-elim (λ w. w .2) (λ w. absurd (omega (arith, w .0 .left))) (c .before .before .before .if1 .came));
-      none = λ l. ⊎-elim (λ w. absurd (omega (arith, w .0 .taken))) (λ w. w .1) (c .before .before .before .if1 .came);
-    })
+    let (same, settled) = c .before .pass .ensures .2 (not-true _ (c .if2 .taken)) in (
+      c .before .pass .ensures .0,
+      rw same (c .before .before .before .before .nearest-start .ensures),
+      record {
+        bound = c .before .before .before .if1 .bound;
+        settled = settled;
+        nearest = λ l. rw same (⊎-elim (λ w. w .2) (λ w. absurd (omega (arith, w .0 .left))) (c .before .before .before .if1 .came));
+        none = λ l. ⊎-elim (λ w. absurd (omega (arith, w .0 .taken))) (λ w. w .1) (c .before .before .before .if1 .came);
+      },
+    )
 
 -- src/least.rt:279:5
 loop-less : tie.Need-loop-less Inv-loop μ-loop

@@ -58,10 +58,13 @@ accounting-requires c κs =
     let u : UnfinishedIn (a .marks .now) (l .x) = sym (c .before .is-final .ensures) ∙ not-true _ (c .if1 .taken) in
     let h = traced-below _ _ _ _ _ _ _ _ (a .s) (l .x) (l .k) (a .walk .now) (l .walk) i in
     let p = c .before .before .before .before .before .pre in
-    let e = p .0 .2 in
-    ((omega (arith, e .states), e .count, p .0 .3),
-    ((λ t q. (omega (arith, e .arrives t q, e .states), p .1 .0 t q .0, p .1 .0 t q .1)),
-    i .leading .accounted (l .x) h (i .within u) u))
+    let e = p .0 .2 in (
+      (omega (arith, e .states), e .count, p .0 .3),
+      (
+        (λ t q. (omega (arith, e .arrives t q, e .states), p .1 .0 t q .0, p .1 .0 t q .1)),
+        i .leading .accounted (l .x) h (i .within u) u,
+      ),
+    )
 
 -- src/route.rt:66:19
 cast-walk : tie.Need-cast-walk Inv-loop μ-loop

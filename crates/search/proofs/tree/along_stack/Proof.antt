@@ -81,11 +81,13 @@ loop-again : tie.Need-loop-again Inv-loop μ-loop
 loop-again c =
     let a = c .before .before .before .before .before .before .args in
     let l = c .before .before .before .before .loop in
-    let v = at (a .cursor .now) (c .before .wide .result) in
-    (omega arith, length-set (l .walk) (l .i) v ∙ l .inv .1,
-    below-more _ _ (λ j h. getD-set-other (l .walk) (l .i) j v 0 (omega arith) ∙ l .inv .2 j h)
-        (getD-set-same (l .walk) (l .i) v 0 (omega arith) ∙ ap (at (a .cursor .now)) (c .before .wide .ensures)),
-    drop-set-lt (a .d) (l .walk) (l .i) v (c .before .before .before .loop-test .taken) ∙ l .inv .3)
+    let v = at (a .cursor .now) (c .before .wide .result) in (
+      omega arith,
+      length-set (l .walk) (l .i) v ∙ l .inv .1,
+      below-more _ _ (λ j h. getD-set-other (l .walk) (l .i) j v 0 (omega arith) ∙ l .inv .2 j h)
+          (getD-set-same (l .walk) (l .i) v 0 (omega arith) ∙ ap (at (a .cursor .now)) (c .before .wide .ensures)),
+      drop-set-lt (a .d) (l .walk) (l .i) v (c .before .before .before .loop-test .taken) ∙ l .inv .3,
+    )
 
 -- src/tree.rt:10:1
 same-length : tie.Need-same-length Inv-loop μ-loop

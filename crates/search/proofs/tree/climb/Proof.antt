@@ -138,9 +138,13 @@ loop-again c =
     let v : c .before .before .wide .result ≡ at (a .via .now) (up (a .from .now) (a .via .now) (a .s) u) = c .before .before .wide .ensures ∙ ap (at (a .via .now)) e in
     let p : suc (l .i - 1) ≡ l .i = omega arith in
     let q : k - (l .i - 1) ≡ suc u = omega arith in
-    let w = writing-turn (a .from .now) (a .via .now) (a .s) k (l .i - 1) u (l .walk) (omega (arith, h .fits)) (omega arith) (rw p (l .inv .3)) in
-    (omega arith, length-set (l .walk) _ _ ∙ l .inv .1, rw q (c .wide2 .ensures ∙ ap (at (a .from .now)) v),
-    rw e w, drop-set-lt k (l .walk) (l .i - 1) _ (omega arith) ∙ l .inv .4)
+    let w = writing-turn (a .from .now) (a .via .now) (a .s) k (l .i - 1) u (l .walk) (omega (arith, h .fits)) (omega arith) (rw p (l .inv .3)) in (
+      omega arith,
+      length-set (l .walk) _ _ ∙ l .inv .1,
+      rw q (c .wide2 .ensures ∙ ap (at (a .from .now)) v),
+      rw e w,
+      drop-set-lt k (l .walk) (l .i - 1) _ (omega arith) ∙ l .inv .4,
+    )
 
 -- src/tree.rt:37:1
 same-length : tie.Need-same-length Inv-loop μ-loop
