@@ -1,0 +1,155 @@
+// Each figure over the arrays of a plan: the cost filled in, the search, and the walk that shows the figure.
+ghost use mathlib.Core.Path.{_≡_};
+ghost use Prim.Native.Nat.{_≤_};
+ghost use lib.ListN.{length};
+ghost use Rattle.rules.specs.Quotations.{meant};
+ghost use Rattle.costs.specs.Scaled.{divided};
+ghost use Rattle.search.specs.Arrays.{Ends};
+ghost use Rattle.search.specs.Chain.{Chains};
+ghost use Rattle.search.specs.Explored.{table, Reached};
+ghost use Rattle.figures.specs.Figures.{Lent, LeastDelayOf, GreatestDelayOf, LeastCountOf, GreatestCountOf};
+use rules::Figure;
+use rules::Quote;
+use search::greatest;
+use search::least;
+use search::Reach;
+
+// A figure with its number divided by 1,024: what a search over composite weights found.
+fn divide(figure: Figure) -> Figure
+    ensures { λ r. ⌜ meant r ≡ divided (meant figure) ⌝ }
+{
+    match figure {
+        Figure::Number(x) => Figure::Number(x / 1024),
+        Figure::None => Figure::None,
+        Figure::Stranded => Figure::Stranded,
+        Figure::Endless => Figure::Endless,
+    }
+}
+
+// The least delay.
+pub fn least_delay(
+    n: usize,
+    m: usize,
+    marks: &[u8; 512],
+    from: &[u16; 2048],
+    to: &[u16; 2048],
+    low: &[u16; 2048],
+    into: &[u16; 512],
+    into_link: &[u16; 2048],
+    out: &[u16; 512],
+    out_link: &[u16; 2048],
+    walk: &mut [u16],
+) -> Quote
+    requires { ⌜ Lent n m (now from) (now to) (now low) × (n ≤ length (now walk)) ⌝ }
+    requires { ⌜ Chains (now to) m (now into) (now «into_link») × Chains (now from) m (now out) (now «out_link») ⌝ }
+    ensures { λ r. ⌜ LeastDelayOf n m (now (marks .entry)) (now (from .entry)) (now (to .entry)) (now (low .entry))
+        (meant (r .figure)) (r .k) (r .j) (now (walk .entry)) (now (walk .exit)) ⌝ }
+{
+    let mut weight = [0u32; 2048];
+    let close = [0u32; 512];
+    costs::delays(low, m, 1024, 1, &mut weight);
+    let found = least::least(
+        n, m, marks, from, to, &weight, &close, into, into_link, out, out_link, walk,
+    );
+    let figure = found.figure;
+    Quote {
+        figure: divide(figure),
+        k: found.k,
+        j: found.j,
+    }
+}
+
+// The least count.
+pub fn least_count(
+    n: usize,
+    m: usize,
+    marks: &[u8; 512],
+    from: &[u16; 2048],
+    to: &[u16; 2048],
+    into: &[u16; 512],
+    into_link: &[u16; 2048],
+    out: &[u16; 512],
+    out_link: &[u16; 2048],
+    walk: &mut [u16],
+) -> Quote
+    requires { ⌜ Ends n m (now from) (now to) × (n ≤ length (now walk)) ⌝ }
+    requires { ⌜ Chains (now to) m (now into) (now «into_link») × Chains (now from) m (now out) (now «out_link») ⌝ }
+    ensures { λ r. ⌜ LeastCountOf n m (now (marks .entry)) (now (from .entry)) (now (to .entry))
+        (meant (r .figure)) (r .k) (r .j) (now (walk .entry)) (now (walk .exit)) ⌝ }
+{
+    let mut weight = [0u32; 2048];
+    let mut close = [0u32; 512];
+    costs::counts(marks, from, m, 1024, 1, &mut weight);
+    costs::closes(marks, n, 1024, &mut close);
+    let found = least::least(
+        n, m, marks, from, to, &weight, &close, into, into_link, out, out_link, walk,
+    );
+    let figure = found.figure;
+    Quote {
+        figure: divide(figure),
+        k: found.k,
+        j: found.j,
+    }
+}
+
+// The greatest delay, from what the starts reach.
+pub fn greatest_delay(
+    found: Reach,
+    n: usize,
+    m: usize,
+    marks: &[u8; 512],
+    from: &[u16; 2048],
+    to: &[u16; 2048],
+    high: &[u16; 2048],
+    out: &[u16; 512],
+    out_link: &[u16; 2048],
+    rank: &[u16; 512],
+    cursor: &[u16; 512],
+    stack: &[u16; 512],
+    order: &[u16; 512],
+    via: &[u16; 512],
+    walk: &mut [u16],
+) -> Quote
+    requires { ⌜ Lent n m (now from) (now to) (now high) × (n ≤ length (now walk)) × Chains (now from) m (now out) (now «out_link») ⌝ }
+    requires { ⌜ Reached n m (now marks) (now from) (now to) (table (now rank) (now cursor) (now stack) (now order) (now via)) found ⌝ }
+    ensures { λ r. ⌜ GreatestDelayOf n m (now (marks .entry)) (now (from .entry)) (now (to .entry)) (now (high .entry))
+        (meant (r .figure)) (r .k) (r .j) (now (walk .entry)) (now (walk .exit)) ⌝ }
+{
+    let mut weight = [0u32; 2048];
+    let close = [0u32; 512];
+    costs::delays(high, m, 1, 0, &mut weight);
+    greatest::greatest(
+        found, n, m, marks, from, to, out, out_link, rank, cursor, stack, order, via, &weight, &close, walk,
+    )
+}
+
+// The greatest count, from what the starts reach.
+pub fn greatest_count(
+    found: Reach,
+    n: usize,
+    m: usize,
+    marks: &[u8; 512],
+    from: &[u16; 2048],
+    to: &[u16; 2048],
+    out: &[u16; 512],
+    out_link: &[u16; 2048],
+    rank: &[u16; 512],
+    cursor: &[u16; 512],
+    stack: &[u16; 512],
+    order: &[u16; 512],
+    via: &[u16; 512],
+    walk: &mut [u16],
+) -> Quote
+    requires { ⌜ Ends n m (now from) (now to) × (n ≤ length (now walk)) × Chains (now from) m (now out) (now «out_link») ⌝ }
+    requires { ⌜ Reached n m (now marks) (now from) (now to) (table (now rank) (now cursor) (now stack) (now order) (now via)) found ⌝ }
+    ensures { λ r. ⌜ GreatestCountOf n m (now (marks .entry)) (now (from .entry)) (now (to .entry))
+        (meant (r .figure)) (r .k) (r .j) (now (walk .entry)) (now (walk .exit)) ⌝ }
+{
+    let mut weight = [0u32; 2048];
+    let mut close = [0u32; 512];
+    costs::counts(marks, from, m, 1, 0, &mut weight);
+    costs::closes(marks, n, 1, &mut close);
+    greatest::greatest(
+        found, n, m, marks, from, to, out, out_link, rank, cursor, stack, order, via, &weight, &close, walk,
+    )
+}

@@ -1,0 +1,53 @@
+// The four quotations of a plan, and the record of its figures. Each call takes the plan by value, refuses bad input by its row of the table, and
+// writes the walk that it shows, or the record, to the front of a lent slice.
+ghost use mathlib.Core.List.{List};
+ghost use mathlib.Core.Path.{_≡_};
+ghost use lib.ListN.{length};
+ghost use Rattle.rules.specs.Refusal.{said};
+ghost use Rattle.rules.specs.Quotations.{quoteRule, Quotes, LeastDelay, GreatestDelay, LeastCount, GreatestCount};
+ghost use Rattle.plan.specs.View.{view};
+use plan::Plan;
+use rules::Answer;
+use rules::Quotation;
+use rules::Refusal;
+use search::chain;
+use search::greatest;
+
+// Whether a quotation is refused that was lent so many places: the plan's limits, then the places.
+fn ask(plan: Plan, places: usize) -> Answer
+    ensures { λ r. ⌜ ((lent : List ℕ) → length lent ≡ places → said r ≡ quoteRule (view plan) lent) ⌝ }
+{
+    if !plan::within(plan) {
+        return Answer::Refused(Refusal::PlanLimits);
+    }
+    let n = plan.states;
+    if places < n {
+        return Answer::Refused(Refusal::BufferLength);
+    }
+    Answer::Accepted
+}
+
+// The least delay, with a route that attains it.
+pub fn least_delay(plan: Plan, walk: &mut [u16]) -> Quotation
+    ensures { λ r. ⌜ Quotes (LeastDelay (view plan)) (view plan) (now (walk .entry)) (now (walk .exit)) r ⌝ }
+{
+    let asked = ask(plan, walk.len());
+    if let Answer::Refused(r) = asked {
+        return Quotation::Refused(r);
+    }
+    let n = plan.states;
+    let m = plan.transitions;
+    let marks = plan.marks;
+    let from = plan.from;
+    let to = plan.to;
+    let low = plan.low;
+    let mut into = [2048u16; 512];
+    let mut into_link = [0u16; 2048];
+    let mut out = [2048u16; 512];
+    let mut out_link = [0u16; 2048];
+    chain::chains(&to, m, &mut into, &mut into_link);
+    chain::chains(&from, m, &mut out, &mut out_link);
+    Quotation::Quoted(figures::least_delay(
+        n, m, &marks, &from, &to, &low, &into, &into_link, &out, &out_link, walk,
+    ))
+}

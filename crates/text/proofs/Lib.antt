@@ -1,0 +1,6 @@
+pub mod Basic
+pub mod Numerals
+pub mod Listed
+pub mod Puts
+pub mod Fills
+pub mod Printed
