@@ -4,25 +4,33 @@
 -- it holds of routes, of unfinished walks and of walks to a dead end alike. Assumes nothing.
 use Prim.Native.Nat.{ℕ, zero, suc, _≤_, _<_, _/_, _%_, suc-le-suc}
 use mathlib.Core.Path.{_≡_, refl, sym, _∙_, ap}
-use mathlib.Core.Bool.{false≢true}
+use mathlib.Core.Bool.{Bool, true, false, false≢true}
 use mathlib.Core.List.{List, [], _∷_}
 use native.Mathlib.Nat.{not-suc-le-zero, le-of-suc-le-suc, zero-lt-suc}
 use native.Mathlib.Decide.{decLt}
 use native.Mathlib.Omega.{arith}
 use lib.Dec.{eqb}
 use lib.ListN.{length, take, List·getD-eq-default}
-use Rattle.graph.specs.Graph.{Graph, State, marked, states, marksOf, start, to, Departs, Closed}
+use Rattle.graph.specs.Graph.{Graph, State, marked, states, marksOf, start, final, to, Departs, Final, Closed}
 use Rattle.graph.specs.Walk.{Begins, WalkTo, WalkFrom, visits, arrival}
 use Rattle.graph.proofs.Repeat.{nth}
 
--- a number that is no state's has no mark, so a start is a state of the plan
-pub start-below : (g : Graph) (s : ℕ) → Begins g s → s < states g
-unfolding start marksOf
-start-below g s b = go (decLt s (states g))
+-- a number that is no state's has no mark, so a state with a mark is one of the plan's
+marked-below : (g : Graph) (test : ℕ → Bool) → test 0 ≡ false → (s : ℕ) → test (marksOf g s) ≡ true → s < states g
+unfolding marksOf
+marked-below g test none s b = go (decLt s (states g))
   where
     go : Dec (s < states g) → s < states g
     go (yes h) = h
-    go (no h) = absurd (false≢true (sym (ap (λ (x : State). eqb (x .marks / 4 % 2) 1) (List·getD-eq-default (g .stateList) (marked 0) (omega arith))) ∙ b))
+    go (no h) = absurd (false≢true (sym none ∙ sym (ap (λ (x : State). test (x .marks)) (List·getD-eq-default (g .stateList) (marked 0) (omega arith))) ∙ b))
+
+pub start-below : (g : Graph) (s : ℕ) → Begins g s → s < states g
+unfolding start
+start-below g = marked-below g (λ v. eqb (v / 4 % 2) 1) refl
+
+pub final-below : (g : Graph) (s : ℕ) → Final g s → s < states g
+unfolding final
+final-below g = marked-below g (λ v. eqb (v / 2 % 2) 1) refl
 
 module _ (g : Graph) where
   -- a walk of k transitions has k + 1 states

@@ -3,3 +3,4 @@ pub mod Limits
 pub mod Image
 pub mod Rules
 pub mod Calls
+pub mod Quotations

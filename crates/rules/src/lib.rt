@@ -47,6 +47,27 @@ pub enum Written {
     Refused(Refusal),
 }
 
+// A figure: its number or kind.
+pub enum Figure {
+    Number(u32),
+    None,
+    Stranded,
+    Endless,
+}
+
+// A figure, with the walk that was written for it: k transitions, and the place j for Endless.
+pub struct Quote {
+    pub figure: Figure,
+    pub k: usize,
+    pub j: usize,
+}
+
+// The answer of a quotation.
+pub enum Quotation {
+    Quoted(Quote),
+    Refused(Refusal),
+}
+
 // The number of a refusal, as the table has it.
 pub fn number(refusal: Refusal) -> u32
     ensures { λ r. ⌜ r ≡ numberOf refusal ⌝ }
