@@ -20,7 +20,7 @@ use Rattle.rules.specs.declared.Quotation.{Quotation}
 use Rattle.rules.specs.declared.Quotation.the-variants.{Quoted, Refused}
 use Rattle.rules.specs.declared.Refusal.the-variants.{BufferLength, FigureSize}
 use Rattle.rules.specs.Image.{field}
-use Rattle.rules.specs.Refusal.{Result, accepted, refused, _>>_, refuseIf} 
+use Rattle.rules.specs.Refusal.{Result, accepted, refused, _>>_, refuseIf}
 use Rattle.rules.specs.Refusal.{number as numberOf}
 use Rattle.rules.specs.Rules.{givenPlan}
 

@@ -1,0 +1,87 @@
+-- What is found over a scaled cost, read back for the cost itself.
+--
+-- 1. A walk costs scale times as much and extra for each of its transitions: by recursion on the transitions (`total-scaled`).
+-- 2. Scale 1,024 and extra 1. A route that visits no state twice has at most 511 transitions in a plan of at most 512 states, so its scaled cost is its
+--    cost times 1,024 and less than 1,024 more: dividing gives the cost. Every route has such a one at no greater cost, and of two such the one
+--    that costs less costs less after scaling. So the route that is least after scaling is least (`least-scaled`).
+-- 3. Scale 1 and extra 0 change no cost, so no figure and nothing shown (`greatest-scaled`).
+-- Assumes nothing.
+use mathlib.Core.List.{List, [], _∷_}
+use mathlib.Core.Path.{_≡_, _∙_}
+use Prim.Native.Nat.{ℕ, _+_, _*_, _/_, _≤_, _<_}
+use native.Mathlib.Omega.{arith}
+use lib.ListN.{length}
+use Rattle.graph.specs.Graph.{Graph, states, to, Final, Unfinished, Closed}
+use Rattle.graph.specs.Walk.{WalkTo, visits, Different}
+use Rattle.graph.specs.Route.{Cost, Route, total}
+use Rattle.graph.specs.Figure.{Figure, number, NONE, STRANDED, ENDLESS, Largest, IsLeast, IsGreatest, Shown}
+use Rattle.graph.proofs.Simple.{simple, short-length, simple-length}
+use Rattle.graph.proofs.Walks.{start-below}
+use Rattle.costs.specs.Scaled.{Scaled, divided}
+
+-- ---- 1
+
+module _ (g : Graph) (closed : Closed g) (c c′ : Cost) (scale extra : ℕ) (scaled : Scaled scale extra g c c′) where
+  pub total-scaled : (pass stop : ℕ → Type 0) (s : ℕ) (ts : List ℕ) → s < states g → WalkTo g pass stop s ts
+      → total g c′ s ts ≡ scale * total g c s ts + extra * length ts
+  total-scaled pass stop s [] below w = omega (arith, scaled .close s below)
+  total-scaled pass stop s (t ∷ ts) below w =
+      let h = w .1 .listed in
+      omega (arith, scaled .step t h, total-scaled pass stop (to g t) ts (closed t h) (w .2))
+
+  route-scaled : (s : ℕ) (ts : List ℕ) → Route g s ts → total g c′ s ts ≡ scale * total g c s ts + extra * length ts
+  route-scaled s ts r = total-scaled (Unfinished g) (Final g) s ts (start-below g s (r .0)) (r .1)
+
+-- ---- 2
+
+module _ (g : Graph) (closed : Closed g) (small : states g ≤ 512) (c c′ : Cost) (scaled : Scaled 1024 1 g c c′) where
+  -- a route that visits no state twice: its cost times 1,024, and less than 1,024 more
+  record Composite (s : ℕ) (ts : List ℕ) : Type 0 where
+    pub over : 1024 * total g c s ts ≤ total g c′ s ts
+    pub under : total g c′ s ts < 1024 * total g c s ts + 1024
+
+  composite : (s : ℕ) (ts : List ℕ) → Route g s ts → length ts < states g → Composite s ts
+  composite s ts r h =
+      let e = route-scaled g closed c c′ 1024 1 scaled s ts r in
+      record { over = omega arith; under = omega arith }
+
+  divides : (s : ℕ) (ts : List ℕ) → Route g s ts → Different (visits g s ts) → total g c s ts ≡ total g c′ s ts / 1024
+  divides s ts r d =
+      let k = composite s ts r (simple-length g (Unfinished g) (Final g) closed s ts r d) in
+      omega arith
+
+  -- no route costs less than one that is least after scaling
+  none-less : (k : ℕ) → ((s : ℕ) (ts : List ℕ) → Route g s ts → k ≤ total g c′ s ts) → (s : ℕ) (ts : List ℕ) → Route g s ts
+      → k / 1024 ≤ total g c s ts
+  none-less k least s ts r =
+      let q = simple g (Unfinished g) (Final g) s ts (r .1) in
+      let p : Route g s (q .short) = (r .0, q .walk) in
+      let b = composite s (q .short) p (short-length g (Unfinished g) (Final g) closed s ts (r .0) q) in
+      omega (arith, least s (q .short) p, q .cheaper c)
+
+  pub least-scaled : (f : Figure) (ts : List ℕ) (j : ℕ) → IsLeast g c′ f → Shown g c′ f ts j
+      → IsLeast g c (divided f) × Shown g c (divided f) ts j
+  least-scaled (number k) ts j u (s, r, e, d, z) =
+      let q : total g c s ts ≡ k / 1024 = divides s ts r d ∙ rw e in
+      (record { attained = (s, ts, r, q); bound = none-less k (u .bound) }, (s, r, q, d, z))
+  least-scaled NONE ts j u shown = (u, shown)
+  least-scaled STRANDED ts j u shown = absurd u
+  least-scaled ENDLESS ts j u shown = absurd u
+
+-- ---- 3
+
+module _ (g : Graph) (closed : Closed g) (c c′ : Cost) (scaled : Scaled 1 0 g c c′) where
+  same-total : (s : ℕ) (ts : List ℕ) → Route g s ts → total g c s ts ≡ total g c′ s ts
+  same-total s ts r = omega (arith, route-scaled g closed c c′ 1 0 scaled s ts r)
+
+  same-largest : (k : ℕ) → Largest g c′ k → Largest g c k
+  same-largest k u =
+      let (s, ts, r, e) = u .attained in
+      record { attained = (s, ts, r, same-total s ts r ∙ e); bound = λ x xs p. rw (same-total x xs p) (u .bound x xs p) }
+
+  pub greatest-scaled : (f : Figure) (ts : List ℕ) (j : ℕ) → IsGreatest g c′ f → Shown g c′ f ts j → IsGreatest g c f × Shown g c f ts j
+  greatest-scaled (number k) ts j (started, finite, unstranded, u) (s, r, e, d, z) =
+      ((started, finite, unstranded, same-largest k u), (s, r, same-total s ts r ∙ e, d, z))
+  greatest-scaled NONE ts j u shown = (u, shown)
+  greatest-scaled STRANDED ts j u shown = (u, shown)
+  greatest-scaled ENDLESS ts j u shown = (u, shown)

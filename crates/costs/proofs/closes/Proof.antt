@@ -1,0 +1,75 @@
+-- `costs::closes` meets its contract. The invariant: the first s closes are filled.
+-- Assumes nothing.
+use Prim.Native.Nat.{ℕ, _-_, _*_, _≤_}
+use mathlib.Core.Path.{_≡_, ap}
+use native.Mathlib.Omega.{arith}
+use borrow.Author.Needs.{needs}
+use lib.ListN.{getD}
+use Rattle.costs.proofs.Filled.{filled-none, filled-more, scaled-le, counted-le}
+use Rattle.costs.specs.Arrays.{Filled, countClose}
+use Rattle.costs.proofs.closes.Statement.{statement}
+use Rattle.costs.proofs.closes.Tie as tie
+use Rattle.costs.proofs.closes.Reads as reads
+use Rattle.costs.proofs.closes.Lts as lts
+use Rattle.costs.proofs.counted.Reads as counted-reads
+
+abbrev Inv-loop : tie.InvT-loop
+Inv-loop marks n scale close₀ s₀ close s = (s ≤ n) × Filled s (countClose scale marks) close₀ close
+
+abbrev μ-loop : tie.MeasureT-loop
+μ-loop marks n scale close₀ s₀ close s = n - s
+
+loop-holds : tie.Need-loop-holds Inv-loop μ-loop
+loop-holds c = (search needs, filled-none _ _)
+
+element-copy-out-counted : tie.Need-element-copy-out-counted Inv-loop μ-loop
+element-copy-out-counted c = search needs
+
+counted-requires : tie.Need-counted-requires Inv-loop μ-loop
+counted-requires c κs = search needs
+
+mul-close : tie.Need-mul-close Inv-loop μ-loop
+mul-close c =
+    let s = c .before .before .before .before in
+    let n = counted-le _ (getD (s .args .marks .now) (c .before .before .before .loop .s) 0) (c .counted .ensures) in
+    omega (arith, scaled-le (s .pre .1) n)
+
+mul-close-2 : tie.Need-mul-close-2 Inv-loop μ-loop
+mul-close-2 c = search needs
+
+element-write-close : tie.Need-element-write-close Inv-loop μ-loop
+element-write-close c = search needs
+
+add-s : tie.Need-add-s Inv-loop μ-loop
+add-s c = search needs
+
+loop-less : tie.Need-loop-less Inv-loop μ-loop
+loop-less c = search needs
+
+loop-again : tie.Need-loop-again Inv-loop μ-loop
+loop-again c =
+    let l = c .before .before .before .loop in
+    let a = c .before .before .before .before .args in
+    (omega arith, filled-more (l .s) _ _ (l .close) _ (omega arith) (ap (λ (x : ℕ). a .scale * x) (c .counted .ensures)) (l .inv .1))
+
+returns : tie.Need-returns Inv-loop μ-loop
+returns c =
+    let e : c .before .loop .s ≡ c .before .before .args .n = omega arith in
+    rw e at (c .before .loop .inv .1)
+
+pub closes-spec : {M : Type 1} → statement M
+closes-spec =
+    tie.close
+    (tie.spec
+    Inv-loop
+    μ-loop
+    loop-holds
+    element-copy-out-counted
+    counted-requires
+    mul-close
+    mul-close-2
+    element-write-close
+    add-s
+    loop-less
+    loop-again
+    returns)

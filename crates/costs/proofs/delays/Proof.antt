@@ -1,0 +1,86 @@
+-- `costs::delays` meets its contract. The invariant: the first t weights are filled.
+-- Assumes nothing.
+use Prim.Native.Nat.{_-_, _≤_}
+use mathlib.Core.Path.{_≡_, refl}
+use native.Mathlib.Omega.{arith}
+use borrow.Author.Needs.{needs}
+use Rattle.costs.proofs.Filled.{filled-none, filled-more, scaled-le}
+use Rattle.costs.specs.Arrays.{Filled, delayWeight}
+use Rattle.costs.proofs.delays.Statement.{statement}
+use Rattle.costs.proofs.delays.Tie as tie
+use Rattle.costs.proofs.delays.Reads as reads
+use Rattle.costs.proofs.delays.Lts as lts
+
+abbrev Inv-loop : tie.InvT-loop
+Inv-loop durations m scale extra weight₀ t₀ weight t = (t ≤ m) × Filled t (delayWeight scale extra durations) weight₀ weight
+
+abbrev μ-loop : tie.MeasureT-loop
+μ-loop durations m scale extra weight₀ t₀ weight t = m - t
+
+loop-holds : tie.Need-loop-holds Inv-loop μ-loop
+loop-holds c = (search needs, filled-none _ _)
+
+mul-weight : tie.Need-mul-weight Inv-loop μ-loop
+mul-weight c = search needs
+
+element-copy-out-weight : tie.Need-element-copy-out-weight Inv-loop μ-loop
+element-copy-out-weight c = search needs
+
+cast-weight : tie.Need-cast-weight Inv-loop μ-loop
+cast-weight c =
+    let p = c .before .before .before .pre in
+    let d = p .4 (c .before .before .loop .t) (c .before .loop-test .taken) in
+    omega arith
+
+mul-weight-2 : tie.Need-mul-weight-2 Inv-loop μ-loop
+mul-weight-2 c =
+    let p = c .before .before .before .pre in
+    let d = p .4 (c .before .before .loop .t) (c .before .loop-test .taken) in
+    omega (arith, scaled-le (p .1) d)
+
+add-weight : tie.Need-add-weight Inv-loop μ-loop
+add-weight c =
+    let p = c .before .before .before .pre in
+    let d = p .4 (c .before .before .loop .t) (c .before .loop-test .taken) in
+    omega (arith, scaled-le (p .1) d)
+
+mul-weight-3 : tie.Need-mul-weight-3 Inv-loop μ-loop
+mul-weight-3 c = search needs
+
+element-write-weight : tie.Need-element-write-weight Inv-loop μ-loop
+element-write-weight c = search needs
+
+add-t : tie.Need-add-t Inv-loop μ-loop
+add-t c = search needs
+
+loop-less : tie.Need-loop-less Inv-loop μ-loop
+loop-less c = search needs
+
+loop-again : tie.Need-loop-again Inv-loop μ-loop
+loop-again c =
+    let l = c .before .before .loop in
+    (omega arith, filled-more (l .t) _ _ (l .weight) _ (omega arith) refl (l .inv .1))
+
+returns : tie.Need-returns Inv-loop μ-loop
+returns c =
+    let e : c .before .loop .t ≡ c .before .before .args .m = omega arith in
+    rw e at (c .before .loop .inv .1)
+
+pub delays-spec : {M : Type 1} → statement M
+delays-spec =
+    tie.close
+    (tie.spec
+    Inv-loop
+    μ-loop
+    loop-holds
+    mul-weight
+    element-copy-out-weight
+    cast-weight
+    mul-weight-2
+    add-weight
+    mul-weight-3
+    element-write-weight
+    add-t
+    loop-less
+    loop-again
+    returns)
