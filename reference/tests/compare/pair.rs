@@ -135,10 +135,13 @@ impl Pair {
             assert!(self.lent == before, "a lent place changed in {call:?}");
         } else {
             assert!(self.lent.plan() == self.plan, "plans after {call:?}");
-            let past_stay = self.lent.counts[COUNTS..] == before.counts[COUNTS..]
-                && self.lent.marks[MARKS..] == before.marks[MARKS..]
-                && self.lent.fields[FIELDS..] == before.fields[FIELDS..];
-            assert!(past_stay, "a place past the plan changed in {call:?}");
+            let mut expected = before;
+            if let Call::Fresh(_) = call {
+                expected.marks[..MARKS].fill(0);
+                expected.fields[..FIELDS].fill(0);
+            }
+            expected.hold(&self.plan);
+            assert!(self.lent == expected, "places past the plan after {call:?}");
         }
         answer
     }
