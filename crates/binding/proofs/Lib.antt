@@ -1,3 +1,4 @@
 pub mod Copies
 pub mod Stores
 pub mod Runs
+pub mod Quotes

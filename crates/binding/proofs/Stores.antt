@@ -95,7 +95,7 @@ has-room c m f e =
     let b = and-true (leb 512 (length m)) (leb 8192 (length f)) (a .1) in
     record { two = leb-true 2 (length c) (a .0); states = leb-true 512 (length m) (b .0); transitions = leb-true 8192 (length f) (b .1) }
 
-true-false : {A : Type 0} (b : Bool) → b ≡ true → b ≡ false → A
+pub true-false : {A : Type 0} (b : Bool) → b ≡ true → b ≡ false → A
 true-false b p q = absurd (let z : _≡_ {A = ℕ} 0 1 = cc in omega arith)
 
 pub too-short : (p : Plan) (s : Slices) (o : Result Graph) → hasRoom s ≡ false → LentEdit p s s o 255

@@ -1,18 +1,27 @@
 // The plan half for programs in other languages. A plan crosses as three lent slices: the two counts; the marks values, 512 places; and the
 // transitions' fields, 2,048 places each for from, to, low and high. A call answers a refusal by its number, 256 for accepted, and 255 where a
-// lent slice is too short for a plan; write answers 256 plus the image's length.
+// lent slice is too short for a plan; write and record answer 256 plus the octets' number. A quotation answers in four more lent places: the
+// figure's kind (0 number, 1 NONE, 2 STRANDED, 3 ENDLESS) and number, k and j.
+ghost use mathlib.Core.Bool.{_&&_};
 ghost use mathlib.Core.Path.{_≡_};
 ghost use Prim.Native.Nat.{_+_, _≤_};
+ghost use lib.Dec.{leb};
 ghost use lib.ListN.{length, take, drop};
 ghost use lib.Seq.{paste};
-ghost use Rattle.arrays.specs.Tables.{transition};
+ghost use Rattle.arrays.specs.Tables.{transition, over};
 ghost use Rattle.plan.specs.View.{view, noPlan};
 ghost use Rattle.rules.specs.Image.{image};
+ghost use Rattle.graph.specs.Figure.{kind, value};
+ghost use Rattle.rules.specs.Quotations.{meant, LeastDelay, GreatestDelay, LeastCount, GreatestCount};
 ghost use Rattle.rules.specs.Rules.{freshRule, markRule, joinRule, unjoinRule, readRule, writeRule};
 ghost use Rattle.binding.specs.Lent.{Roomy, roomy, lentPlan, planIn, slices, storing, Finished, LentEdit, LentWrite};
+ghost use Rattle.binding.specs.Quoted.{numbersOf, SmallQuote, Small, Answered, LentQuote};
 use plan::Edited;
 use plan::Plan;
 use rules::Answer;
+use rules::Figure;
+use rules::Quotation;
+use rules::Quote;
 use rules::Written;
 
 // Whether three lent slices have the places of a plan.
@@ -284,4 +293,151 @@ pub extern "C" fn callplan_write(
         Written::Length(n) => 256 + n as u32,
         Written::Refused(r) => rules::number(r),
     }
+}
+
+// Whether three lent slices have the places of a plan, and a fourth one those of an answer.
+fn can_answer(counts: usize, marks: usize, fields: usize, out: usize) -> bool
+    ensures { λ r. ⌜ r ≡ (roomy counts marks fields && leb 4 out) ⌝ }
+{
+    if has_room(counts, marks, fields) {
+        4 <= out
+    } else {
+        false
+    }
+}
+
+// The kind of a figure, as the record has it.
+fn kind_of(figure: Figure) -> u32
+    ensures { λ r. ⌜ r ≡ kind (meant figure) ⌝ }
+{
+    match figure {
+        Figure::Number(_) => 0,
+        Figure::None => 1,
+        Figure::Stranded => 2,
+        Figure::Endless => 3,
+    }
+}
+
+// The number of a figure, zero for the other kinds.
+fn value_of(figure: Figure) -> u32
+    ensures { λ r. ⌜ r ≡ value (meant figure) ⌝ }
+{
+    match figure {
+        Figure::Number(x) => x,
+        Figure::None => 0,
+        Figure::Stranded => 0,
+        Figure::Endless => 0,
+    }
+}
+
+// Puts the four numbers of a quote at the front of a slice.
+fn put_quote(quote: Quote, out: &mut [u32])
+    requires { ⌜ SmallQuote quote ⌝ }
+    requires { ⌜ 4 ≤ length (now out) ⌝ }
+    ensures { λ r. ⌜ now (out .exit) ≡ over (numbersOf quote) (now (out .entry)) ⌝ }
+{
+    let figure = quote.figure;
+    let k = quote.k;
+    let j = quote.j;
+    let kind = kind_of(figure);
+    let value = value_of(figure);
+    out[0] = kind;
+    out[1] = value;
+    out[2] = k as u32;
+    out[3] = j as u32;
+}
+
+// Puts the numbers of an accepted quotation at the front of a slice, and gives the number of its answer.
+fn answer(quotation: Quotation, out: &mut [u32]) -> u32
+    requires { ⌜ Small quotation ⌝ }
+    requires { ⌜ 4 ≤ length (now out) ⌝ }
+    ensures { λ r. ⌜ Answered quotation (now (out .entry)) (now (out .exit)) r ⌝ }
+{
+    match quotation {
+        Quotation::Quoted(quote) => {
+            put_quote(quote, out);
+            256
+        }
+        Quotation::Refused(r) => rules::number(r),
+    }
+}
+
+// The least delay, with a route that attains it.
+#[no_mangle]
+pub extern "C" fn callplan_least_delay(
+    counts: &[usize],
+    marks: &[u8],
+    fields: &[u16],
+    walk: &mut [u16],
+    out: &mut [u32],
+) -> u32
+    ensures { λ r. ⌜ LentQuote LeastDelay
+        (slices (now (counts .entry)) (now (marks .entry)) (now (fields .entry)))
+        (now (walk .entry)) (now (walk .exit)) (now (out .entry)) (now (out .exit)) r ⌝ }
+{
+    if !can_answer(counts.len(), marks.len(), fields.len(), out.len()) {
+        return 255;
+    }
+    let quotation = quotation::least_delay(load(counts, marks, fields), walk);
+    answer(quotation, out)
+}
+
+// The greatest delay, with the walk that shows it.
+#[no_mangle]
+pub extern "C" fn callplan_greatest_delay(
+    counts: &[usize],
+    marks: &[u8],
+    fields: &[u16],
+    walk: &mut [u16],
+    out: &mut [u32],
+) -> u32
+    ensures { λ r. ⌜ LentQuote GreatestDelay
+        (slices (now (counts .entry)) (now (marks .entry)) (now (fields .entry)))
+        (now (walk .entry)) (now (walk .exit)) (now (out .entry)) (now (out .exit)) r ⌝ }
+{
+    if !can_answer(counts.len(), marks.len(), fields.len(), out.len()) {
+        return 255;
+    }
+    let quotation = quotation::greatest_delay(load(counts, marks, fields), walk);
+    answer(quotation, out)
+}
+
+// The least count, with a route that attains it.
+#[no_mangle]
+pub extern "C" fn callplan_least_count(
+    counts: &[usize],
+    marks: &[u8],
+    fields: &[u16],
+    walk: &mut [u16],
+    out: &mut [u32],
+) -> u32
+    ensures { λ r. ⌜ LentQuote LeastCount
+        (slices (now (counts .entry)) (now (marks .entry)) (now (fields .entry)))
+        (now (walk .entry)) (now (walk .exit)) (now (out .entry)) (now (out .exit)) r ⌝ }
+{
+    if !can_answer(counts.len(), marks.len(), fields.len(), out.len()) {
+        return 255;
+    }
+    let quotation = quotation::least_count(load(counts, marks, fields), walk);
+    answer(quotation, out)
+}
+
+// The greatest count, with the walk that shows it.
+#[no_mangle]
+pub extern "C" fn callplan_greatest_count(
+    counts: &[usize],
+    marks: &[u8],
+    fields: &[u16],
+    walk: &mut [u16],
+    out: &mut [u32],
+) -> u32
+    ensures { λ r. ⌜ LentQuote GreatestCount
+        (slices (now (counts .entry)) (now (marks .entry)) (now (fields .entry)))
+        (now (walk .entry)) (now (walk .exit)) (now (out .entry)) (now (out .exit)) r ⌝ }
+{
+    if !can_answer(counts.len(), marks.len(), fields.len(), out.len()) {
+        return 255;
+    }
+    let quotation = quotation::greatest_count(load(counts, marks, fields), walk);
+    answer(quotation, out)
 }
