@@ -41,7 +41,7 @@ module _ (m : ℕ) (marks from before weight : List ℕ) where
       → (extra ≤ at weight t) × (at weight t ≤ heaviest)
   counts-light scale extra s e f t h =
       let (a, b) = weights-le m scale extra 1 (λ t. one (countedMark (getD marks (getD from t 0) 0))) before weight s
-          (λ i l. one-le (countedMark (getD marks (getD from i 0) 0))) f t h in
+      (λ i l. one-le (countedMark (getD marks (getD from i 0) 0))) f t h in
       (a, omega arith)
 
 module _ (n : ℕ) (marks close : List ℕ) where

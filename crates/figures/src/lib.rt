@@ -10,9 +10,9 @@ ghost use Rattle.search.specs.Explored.{table, Reached};
 ghost use Rattle.figures.specs.Figures.{Lent, LeastDelayOf, GreatestDelayOf, LeastCountOf, GreatestCountOf};
 use rules::Figure;
 use rules::Quote;
+use search::Reach;
 use search::greatest;
 use search::least;
-use search::Reach;
 
 // A figure with its number divided by 1,024: what a search over composite weights found.
 fn divide(figure: Figure) -> Figure
@@ -49,7 +49,18 @@ pub fn least_delay(
     let close = [0u32; 512];
     costs::delays(low, m, 1024, 1, &mut weight);
     let found = least::least(
-        n, m, marks, from, to, &weight, &close, into, into_link, out, out_link, walk,
+        n,
+        m,
+        marks,
+        from,
+        to,
+        &weight,
+        &close,
+        into,
+        into_link,
+        out,
+        out_link,
+        walk,
     );
     let figure = found.figure;
     Quote {
@@ -82,7 +93,18 @@ pub fn least_count(
     costs::counts(marks, from, m, 1024, 1, &mut weight);
     costs::closes(marks, n, 1024, &mut close);
     let found = least::least(
-        n, m, marks, from, to, &weight, &close, into, into_link, out, out_link, walk,
+        n,
+        m,
+        marks,
+        from,
+        to,
+        &weight,
+        &close,
+        into,
+        into_link,
+        out,
+        out_link,
+        walk,
     );
     let figure = found.figure;
     Quote {
@@ -119,7 +141,22 @@ pub fn greatest_delay(
     let close = [0u32; 512];
     costs::delays(high, m, 1, 0, &mut weight);
     greatest::greatest(
-        found, n, m, marks, from, to, out, out_link, rank, cursor, stack, order, via, &weight, &close, walk,
+        found,
+        n,
+        m,
+        marks,
+        from,
+        to,
+        out,
+        out_link,
+        rank,
+        cursor,
+        stack,
+        order,
+        via,
+        &weight,
+        &close,
+        walk,
     )
 }
 
@@ -150,6 +187,21 @@ pub fn greatest_count(
     costs::counts(marks, from, m, 1, 0, &mut weight);
     costs::closes(marks, n, 1, &mut close);
     greatest::greatest(
-        found, n, m, marks, from, to, out, out_link, rank, cursor, stack, order, via, &weight, &close, walk,
+        found,
+        n,
+        m,
+        marks,
+        from,
+        to,
+        out,
+        out_link,
+        rank,
+        cursor,
+        stack,
+        order,
+        via,
+        &weight,
+        &close,
+        walk,
     )
 }

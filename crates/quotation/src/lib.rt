@@ -2,15 +2,23 @@
 // writes the walk that it shows, or the record, to the front of a lent slice.
 ghost use mathlib.Core.List.{List};
 ghost use mathlib.Core.Path.{_≡_};
-ghost use Prim.Native.Nat.{ℕ};
+ghost use Prim.Native.Nat.{ℕ, _<_, _^_};
 ghost use lib.ListN.{length};
 ghost use Rattle.rules.specs.Refusal.{said};
-ghost use Rattle.rules.specs.Quotations.{quoteRule, Quotes, LeastDelay, GreatestDelay, LeastCount, GreatestCount};
+ghost use Rattle.graph.specs.Figure.{kind, value};
+ghost use Rattle.graph.specs.Compute.{leastDelay, greatestDelay, leastCount, greatestCount};
+ghost use Rattle.field.specs.Field.{Within, putAll};
+ghost use Rattle.plan.specs.Promise.{Write};
+ghost use Rattle.rules.specs.Quotations.{meant, figureFields, recordOctets, recordRule, quoteRule, Quotes, LeastDelay, GreatestDelay, LeastCount, GreatestCount};
 ghost use Rattle.plan.specs.View.{view};
+ghost use Rattle.rules.specs.Limits.{within as withinLimits};
+ghost use mathlib.Core.Bool.{true};
 use plan::Plan;
 use rules::Answer;
+use rules::Figure;
 use rules::Quotation;
 use rules::Refusal;
+use rules::Written;
 use search::chain;
 use search::greatest;
 
@@ -49,7 +57,17 @@ pub fn least_delay(plan: Plan, walk: &mut [u16]) -> Quotation
     chain::chains(&to, m, &mut into, &mut into_link);
     chain::chains(&from, m, &mut out, &mut out_link);
     Quotation::Quoted(figures::least_delay(
-        n, m, &marks, &from, &to, &low, &into, &into_link, &out, &out_link, walk,
+        n,
+        m,
+        &marks,
+        &from,
+        &to,
+        &low,
+        &into,
+        &into_link,
+        &out,
+        &out_link,
+        walk,
     ))
 }
 
@@ -76,10 +94,35 @@ pub fn greatest_delay(plan: Plan, walk: &mut [u16]) -> Quotation
     let mut order = [0u16; 512];
     let mut via = [0u16; 512];
     let found = greatest::reach(
-        n, m, &marks, &from, &to, &out, &out_link, &mut rank, &mut cursor, &mut stack, &mut order, &mut via,
+        n,
+        m,
+        &marks,
+        &from,
+        &to,
+        &out,
+        &out_link,
+        &mut rank,
+        &mut cursor,
+        &mut stack,
+        &mut order,
+        &mut via,
     );
     Quotation::Quoted(figures::greatest_delay(
-        found, n, m, &marks, &from, &to, &high, &out, &out_link, &rank, &cursor, &stack, &order, &via, walk,
+        found,
+        n,
+        m,
+        &marks,
+        &from,
+        &to,
+        &high,
+        &out,
+        &out_link,
+        &rank,
+        &cursor,
+        &stack,
+        &order,
+        &via,
+        walk,
     ))
 }
 
@@ -103,7 +146,16 @@ pub fn least_count(plan: Plan, walk: &mut [u16]) -> Quotation
     chain::chains(&to, m, &mut into, &mut into_link);
     chain::chains(&from, m, &mut out, &mut out_link);
     Quotation::Quoted(figures::least_count(
-        n, m, &marks, &from, &to, &into, &into_link, &out, &out_link, walk,
+        n,
+        m,
+        &marks,
+        &from,
+        &to,
+        &into,
+        &into_link,
+        &out,
+        &out_link,
+        walk,
     ))
 }
 
@@ -129,9 +181,141 @@ pub fn greatest_count(plan: Plan, walk: &mut [u16]) -> Quotation
     let mut order = [0u16; 512];
     let mut via = [0u16; 512];
     let found = greatest::reach(
-        n, m, &marks, &from, &to, &out, &out_link, &mut rank, &mut cursor, &mut stack, &mut order, &mut via,
+        n,
+        m,
+        &marks,
+        &from,
+        &to,
+        &out,
+        &out_link,
+        &mut rank,
+        &mut cursor,
+        &mut stack,
+        &mut order,
+        &mut via,
     );
     Quotation::Quoted(figures::greatest_count(
-        found, n, m, &marks, &from, &to, &out, &out_link, &rank, &cursor, &stack, &order, &via, walk,
+        found,
+        n,
+        m,
+        &marks,
+        &from,
+        &to,
+        &out,
+        &out_link,
+        &rank,
+        &cursor,
+        &stack,
+        &order,
+        &via,
+        walk,
     ))
+}
+
+// The figure alone of a plan within the limits: the least delay.
+fn least_delay_figure(plan: Plan) -> Figure
+    requires { ⌜ withinLimits (view plan) ≡ true ⌝ }
+    ensures { λ r. ⌜ meant r ≡ leastDelay (view plan) ⌝ }
+{
+    let mut walk = [0u16; 512];
+    let quotation = least_delay(plan, &mut walk);
+    match quotation {
+        Quotation::Quoted(q) => q.figure,
+        Quotation::Refused(_) => Figure::None,
+    }
+}
+
+// The figure alone of a plan within the limits: the greatest delay.
+fn greatest_delay_figure(plan: Plan) -> Figure
+    requires { ⌜ withinLimits (view plan) ≡ true ⌝ }
+    ensures { λ r. ⌜ meant r ≡ greatestDelay (view plan) ⌝ }
+{
+    let mut walk = [0u16; 512];
+    let quotation = greatest_delay(plan, &mut walk);
+    match quotation {
+        Quotation::Quoted(q) => q.figure,
+        Quotation::Refused(_) => Figure::None,
+    }
+}
+
+// The figure alone of a plan within the limits: the least count.
+fn least_count_figure(plan: Plan) -> Figure
+    requires { ⌜ withinLimits (view plan) ≡ true ⌝ }
+    ensures { λ r. ⌜ meant r ≡ leastCount (view plan) ⌝ }
+{
+    let mut walk = [0u16; 512];
+    let quotation = least_count(plan, &mut walk);
+    match quotation {
+        Quotation::Quoted(q) => q.figure,
+        Quotation::Refused(_) => Figure::None,
+    }
+}
+
+// The figure alone of a plan within the limits: the greatest count.
+fn greatest_count_figure(plan: Plan) -> Figure
+    requires { ⌜ withinLimits (view plan) ≡ true ⌝ }
+    ensures { λ r. ⌜ meant r ≡ greatestCount (view plan) ⌝ }
+{
+    let mut walk = [0u16; 512];
+    let quotation = greatest_count(plan, &mut walk);
+    match quotation {
+        Quotation::Quoted(q) => q.figure,
+        Quotation::Refused(_) => Figure::None,
+    }
+}
+
+// The kind of a figure, as the record has it.
+fn kind_of(figure: Figure) -> u32
+    ensures { λ r. ⌜ r ≡ kind (meant figure) ⌝ }
+{
+    match figure {
+        Figure::Number(_) => 0,
+        Figure::None => 1,
+        Figure::Stranded => 2,
+        Figure::Endless => 3,
+    }
+}
+
+// The number of a figure, zero where it is a kind.
+fn number_of(figure: Figure) -> u32
+    ensures { λ r. ⌜ r ≡ value (meant figure) ⌝ }
+{
+    match figure {
+        Figure::Number(x) => x,
+        Figure::None => 0,
+        Figure::Stranded => 0,
+        Figure::Endless => 0,
+    }
+}
+
+// Puts the kind and the number of a figure at a bit position: 2 bits and 20.
+fn put_figure(buffer: &mut [u8], at: usize, figure: Figure)
+    requires { ⌜ Within (now buffer) at 22 × (value (meant figure) < 2 ^ 20) ⌝ }
+    ensures { λ r. ⌜ now (buffer .exit) ≡ putAll (now (buffer .entry)) at (figureFields (meant figure)) ⌝ }
+{
+    let kind = kind_of(figure);
+    let number = number_of(figure);
+    field::put(buffer, at, 2, kind);
+    field::put(buffer, at + 2, 20, number);
+}
+
+// Puts the record of the four figures, 11 octets, at the front of the buffer.
+pub fn record(plan: Plan, buffer: &mut [u8]) -> Written
+    ensures { λ r. ⌜ Write (recordOctets (view plan)) (recordRule (view plan) (now (buffer .entry))) (now (buffer .entry)) (now (buffer .exit)) r ⌝ }
+{
+    if !plan::within(plan) {
+        return Written::Refused(Refusal::PlanLimits);
+    }
+    if buffer.len() < 11 {
+        return Written::Refused(Refusal::BufferLength);
+    }
+    let first = least_delay_figure(plan);
+    let second = greatest_delay_figure(plan);
+    let third = least_count_figure(plan);
+    let fourth = greatest_count_figure(plan);
+    put_figure(buffer, 0, first);
+    put_figure(buffer, 22, second);
+    put_figure(buffer, 44, third);
+    put_figure(buffer, 66, fourth);
+    Written::Length(11)
 }

@@ -45,9 +45,17 @@ greatest-requires : tie.Need-greatest-requires
 greatest-requires c κs =
     let a = c .before .before .before .before .before .before .before .before .args in
     let p = c .before .before .before .before .before .before .before .before .pre in
-    let light = counts-light (a .m) (a .marks .now) (a .from .now) _ _ 1 0 (omega arith) (omega arith) (c .before .before .before .before .before .counts .ensures) in
-    ((p .0 .0, p .0 .2, p .0 .1, (λ t h. light t h .1),
-    closes-light (a .n) (a .marks .now) (c .before .before .before .closes .last .1 .1 .1 .0) 512 1 (omega arith) (c .before .before .before .closes .ensures), omega (arith, c .before .before .before .closes .ensures .as-long)), p .1)
+    let light = counts-light (a .m) (a .marks .now) (a .from .now) _ _ 1 0 (omega arith) (omega arith) (c .before .before .before .before .before .counts .ensures) in (
+      (
+        p .0 .0,
+        p .0 .2,
+        p .0 .1,
+        (λ t h. light t h .1),
+        closes-light (a .n) (a .marks .now) (c .before .before .before .closes .last .1 .1 .1 .0) 512 1 (omega arith) (c .before .before .before .closes .ensures),
+        omega (arith, c .before .before .before .closes .ensures .as-long),
+      ),
+      p .1,
+    )
 
 -- src/lib.rt:127:1
 same-length : tie.Need-same-length
@@ -65,9 +73,9 @@ returns c =
     λ low high.
     let g = graphOf (a .n) (a .m) (a .marks .now) (a .from .now) (a .to .now) low high in
     greatest-said (a .n) (a .m) (a .marks .now) (a .from .now) (a .to .now) low high (p .0 .0) (counts g (counted g)) w z (meant (r .figure)) (r .k) (r .j) (a .walk .now) after (p .0 .1)
-        (c .before .before .greatest .kept .1 .1 .1 .1 .1 .1 .1 .1 .1 .1 .1 .1 .1 .1 .1 .0)
-        (counts-scaled (a .n) (a .m) (a .marks .now) (a .from .now) (a .to .now) low high 1 0 w z (p .0 .0 .leaves) (c .before .before .before .before .before .before .before .before .counts .ensures .each) (c .before .before .before .before .before .before .closes .ensures .each))
-        (c .before .before .greatest .ensures g (holds (a .n) (a .m) (a .marks .now) (a .from .now) (a .to .now) low high (p .0 .0)))
+    (c .before .before .greatest .kept .1 .1 .1 .1 .1 .1 .1 .1 .1 .1 .1 .1 .1 .1 .1 .0)
+    (counts-scaled (a .n) (a .m) (a .marks .now) (a .from .now) (a .to .now) low high 1 0 w z (p .0 .0 .leaves) (c .before .before .before .before .before .before .before .before .counts .ensures .each) (c .before .before .before .before .before .before .closes .ensures .each))
+    (c .before .before .greatest .ensures g (holds (a .n) (a .m) (a .marks .now) (a .from .now) (a .to .now) low high (p .0 .0)))
 
 pub greatest-count-spec : {M : Type 1} → statement M
 greatest-count-spec =

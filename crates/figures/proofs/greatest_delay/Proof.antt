@@ -55,9 +55,9 @@ returns c =
     λ low.
     let g = graphOf (a .n) (a .m) (a .marks .now) (a .from .now) (a .to .now) low (a .high .now) in
     greatest-said (a .n) (a .m) (a .marks .now) (a .from .now) (a .to .now) low (a .high .now) (p .0 .0 .ends) (highs g) w (replicate 512 0) (meant (r .figure)) (r .k) (r .j) (a .walk .now) after (p .0 .1)
-        (c .before .before .greatest .kept .1 .1 .1 .1 .1 .1 .1 .1 .1 .1 .1 .1 .1 .1 .1 .0)
-        (highs-scaled (a .n) (a .m) (a .marks .now) (a .from .now) (a .to .now) low (a .high .now) 1 0 w (replicate 512 0) (c .before .before .before .before .before .before .delays .ensures .each) (λ s h. zeros 512 s))
-        (c .before .before .greatest .ensures g (holds (a .n) (a .m) (a .marks .now) (a .from .now) (a .to .now) low (a .high .now) (p .0 .0 .ends)))
+    (c .before .before .greatest .kept .1 .1 .1 .1 .1 .1 .1 .1 .1 .1 .1 .1 .1 .1 .1 .0)
+    (highs-scaled (a .n) (a .m) (a .marks .now) (a .from .now) (a .to .now) low (a .high .now) 1 0 w (replicate 512 0) (c .before .before .before .before .before .before .delays .ensures .each) (λ s h. zeros 512 s))
+    (c .before .before .greatest .ensures g (holds (a .n) (a .m) (a .marks .now) (a .from .now) (a .to .now) low (a .high .now) (p .0 .0 .ends)))
 
 pub greatest-delay-spec : {M : Type 1} → statement M
 greatest-delay-spec = tie.close (tie.spec delays-requires greatest-requires same-length returns)

@@ -46,12 +46,18 @@ least-requires : tie.Need-least-requires
 least-requires c κs =
     let a = c .before .before .before .before .before .before .before .before .args in
     let p = c .before .before .before .before .before .before .before .before .pre in
-    let light = counts-light (a .m) (a .marks .now) (a .from .now) _ _ 1024 1 (omega arith) (omega arith) (c .before .before .before .before .before .counts .ensures) in
-    ((p .0 .0, record {
-      some = λ t h. light t h .0;
-      most = λ t h. light t h .1;
-      close-most = λ s h. closes-light (a .n) (a .marks .now) (c .before .before .before .closes .last .1 .1 .1 .0) 512 1024 (le-refl 1024) (c .before .before .before .closes .ensures) s;
-    }, p .0 .1), p .1)
+    let light = counts-light (a .m) (a .marks .now) (a .from .now) _ _ 1024 1 (omega arith) (omega arith) (c .before .before .before .before .before .counts .ensures) in (
+      (
+        p .0 .0,
+        record {
+          some = λ t h. light t h .0;
+          most = λ t h. light t h .1;
+          close-most = λ s h. closes-light (a .n) (a .marks .now) (c .before .before .before .closes .last .1 .1 .1 .0) 512 1024 (le-refl 1024) (c .before .before .before .closes .ensures) s;
+        },
+        p .0 .1,
+      ),
+      p .1,
+    )
 
 -- src/lib.rt:89:17
 divide-requires : tie.Need-divide-requires
@@ -73,9 +79,9 @@ returns c =
     λ low high.
     let g = graphOf (a .n) (a .m) (a .marks .now) (a .from .now) (a .to .now) low high in
     let q = least-said (a .n) (a .m) (a .marks .now) (a .from .now) (a .to .now) low high (p .0 .0) (counts g (counted g)) w z (meant (r .figure)) (r .k) (r .j) (a .walk .now) after (p .0 .1)
-        (c .before .before .before .least .kept .1 .1 .1 .1 .1 .1 .1 .1 .1 .1 .1 .0)
-        (counts-scaled (a .n) (a .m) (a .marks .now) (a .from .now) (a .to .now) low high 1024 1 w z (p .0 .0 .leaves) (c .before .before .before .before .before .before .before .before .before .counts .ensures .each) (c .before .before .before .before .before .before .before .closes .ensures .each))
-        (c .before .before .before .least .ensures g (holds (a .n) (a .m) (a .marks .now) (a .from .now) (a .to .now) low high (p .0 .0))) in
+    (c .before .before .before .least .kept .1 .1 .1 .1 .1 .1 .1 .1 .1 .1 .1 .0)
+    (counts-scaled (a .n) (a .m) (a .marks .now) (a .from .now) (a .to .now) low high 1024 1 w z (p .0 .0 .leaves) (c .before .before .before .before .before .before .before .before .before .counts .ensures .each) (c .before .before .before .before .before .before .before .closes .ensures .each))
+    (c .before .before .before .least .ensures g (holds (a .n) (a .m) (a .marks .now) (a .from .now) (a .to .now) low high (p .0 .0))) in
     rw (c .divide .ensures) q
 
 pub least-count-spec : {M : Type 1} → statement M

@@ -38,12 +38,18 @@ least-requires : tie.Need-least-requires
 least-requires c κs =
     let a = c .before .before .before .before .before .before .args in
     let p = c .before .before .before .before .before .before .pre in
-    let light = delays-light (a .m) (a .low .now) _ _ (p .0 .0 .durations-most) 1024 1 (omega arith) (omega arith) (c .before .before .before .delays .ensures) in
-    ((p .0 .0 .ends, record {
-      some = λ t h. light t h .0;
-      most = λ t h. light t h .1;
-      close-most = λ s h. omega (arith, zeros 512 s);
-    }, p .0 .1), p .1)
+    let light = delays-light (a .m) (a .low .now) _ _ (p .0 .0 .durations-most) 1024 1 (omega arith) (omega arith) (c .before .before .before .delays .ensures) in (
+      (
+        p .0 .0 .ends,
+        record {
+          some = λ t h. light t h .0;
+          most = λ t h. light t h .1;
+          close-most = λ s h. omega (arith, zeros 512 s);
+        },
+        p .0 .1,
+      ),
+      p .1,
+    )
 
 -- src/lib.rt:56:17
 divide-requires : tie.Need-divide-requires
@@ -64,9 +70,9 @@ returns c =
     λ high.
     let g = graphOf (a .n) (a .m) (a .marks .now) (a .from .now) (a .to .now) (a .low .now) high in
     let q = least-said (a .n) (a .m) (a .marks .now) (a .from .now) (a .to .now) (a .low .now) high (p .0 .0 .ends) (lows g) w (replicate 512 0) (meant (r .figure)) (r .k) (r .j) (a .walk .now) after (p .0 .1)
-        (c .before .before .before .least .kept .1 .1 .1 .1 .1 .1 .1 .1 .1 .1 .1 .0)
-        (lows-scaled (a .n) (a .m) (a .marks .now) (a .from .now) (a .to .now) (a .low .now) high 1024 1 w (replicate 512 0) (c .before .before .before .before .before .before .before .delays .ensures .each) (λ s h. zeros 512 s))
-        (c .before .before .before .least .ensures g (holds (a .n) (a .m) (a .marks .now) (a .from .now) (a .to .now) (a .low .now) high (p .0 .0 .ends))) in
+    (c .before .before .before .least .kept .1 .1 .1 .1 .1 .1 .1 .1 .1 .1 .1 .0)
+    (lows-scaled (a .n) (a .m) (a .marks .now) (a .from .now) (a .to .now) (a .low .now) high 1024 1 w (replicate 512 0) (c .before .before .before .before .before .before .before .delays .ensures .each) (λ s h. zeros 512 s))
+    (c .before .before .before .least .ensures g (holds (a .n) (a .m) (a .marks .now) (a .from .now) (a .to .now) (a .low .now) high (p .0 .0 .ends))) in
     rw (c .divide .ensures) q
 
 pub least-delay-spec : {M : Type 1} → statement M

@@ -1,0 +1,66 @@
+-- `quotation::greatest_delay_figure` meets its contract: the quotation is accepted, and its figure is the one of the rules. Assumes nothing.
+use Prim.Native.Nat.{ℕ, zero, suc, _+_, _-_, _*_, _≤_, _<_}
+use mathlib.Core.Bool.{Bool, true, false, not}
+use mathlib.Core.List.{List, [], _∷_, _++_}
+use mathlib.Core.Logic.{_⊎_, inl, inr, ⊎-elim}
+use mathlib.Core.Path.{_≡_, refl, sym, ap, _∙_}
+use native.Mathlib.Omega.{arith}
+use borrow.Author.Count.{below-none, below-more}
+use borrow.Author.Needs.{needs}
+use borrow.Author.Tests.{lt-ltb, le-ltb, le-leb, lt-leb, eq-eqb, ne-eqb, not-true, not-false, eqb-true, eqb-false}
+use lib.Dec.{ltb, leb, eqb}
+use lib.ListN.{length, getD, set, take, drop, length-set}
+use lib.Seq.{getD-set-same, getD-set-other}
+use borrow.Author.Needs.{needs}
+use lib.ListN.{replicate}
+use Rattle.rules.specs.Quotations.{GreatestDelay}
+use Rattle.graph.specs.Compute.{greatestDelay}
+use Rattle.quotation.proofs.Asked.{ends, quote-done, not-refused}
+use Rattle.plan.specs.View.{view}
+use Rattle.rules.specs.Quotations.{LeastDelay}
+use Rattle.graph.specs.Compute.{leastDelay}
+use Rattle.quotation.proofs.greatest_delay_figure.Statement.{statement}
+use Rattle.quotation.proofs.greatest_delay_figure.Tie as tie
+use Rattle.quotation.proofs.greatest_delay_figure.Reads as reads
+use Rattle.quotation.proofs.greatest_delay_figure.Lts as lts
+use Rattle.quotation.proofs.greatest_delay.Reads as greatest-delay-reads
+
+-- src/lib.rt:153:39
+slice-aggregate-greatest-delay : tie.Need-slice-aggregate-greatest-delay
+slice-aggregate-greatest-delay c = search needs
+
+-- src/lib.rt:153:9
+greatest-delay-requires : tie.Need-greatest-delay-requires
+greatest-delay-requires c κs = search needs
+
+-- src/lib.rt:155:27
+enum-known-quotation : tie.Need-enum-known-quotation
+enum-known-quotation c = search needs
+
+-- src/lib.rt:156:34
+enum-told : tie.Need-enum-told
+enum-told c = search needs
+
+-- src/lib.rt:148:1
+returns : tie.Need-returns
+unfolding greatestDelay
+returns c = c .before .before .before .before .greatest-delay .ensures .quoted _ (c .before .quotation .given .1) .figure
+
+-- src/lib.rt:148:1
+returns-2 : tie.Need-returns-2
+returns-2 c =
+    let p = c .before .before .before .before .before .args .plan in
+    let w = c .before .before .before .before .before .pre in
+    absurd (not-refused (GreatestDelay (view p)) p _ _ _ _ (c .before .before .before .greatest-delay .ensures) (c .enum-told .given .1)
+    (quote-done p (replicate 512 0) w (omega (arith, ends p w .states))))
+
+pub greatest-delay-figure-spec : {M : Type 1} → statement M
+greatest-delay-figure-spec =
+    tie.close
+    (tie.spec
+    slice-aggregate-greatest-delay
+    greatest-delay-requires
+    enum-known-quotation
+    enum-told
+    returns
+    returns-2)
