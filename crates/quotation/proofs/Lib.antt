@@ -1,2 +1,0 @@
--- What the limits give the searches, and promises kept by a refusal and by an accepted quotation.
-pub mod Asked
