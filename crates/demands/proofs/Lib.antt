@@ -6,3 +6,5 @@ pub mod Tables
 pub mod Demands
 -- What breaks them.
 pub mod Impostors
+-- The promises can be kept.
+pub mod Answers
