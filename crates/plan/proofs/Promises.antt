@@ -99,7 +99,7 @@ length-answer (Length m) n e = let s : m ≡ n = cc in rw s
 length-answer (NotWritten r) n e = absurd (never n (number r) e)
 
 -- what an accepted write says of the plan and of the length
-accepted-write : (g : Graph) (b : List ℕ) (n : ℕ) → writeRule g b ≡ accepted n → (within g ≡ true) × (imageLength (states g) (count g) ≡ n)
+pub accepted-write : (g : Graph) (b : List ℕ) (n : ℕ) → writeRule g b ≡ accepted n → (within g ≡ true) × (imageLength (states g) (count g) ≡ n)
 unfolding writeRule
 accepted-write g b n e =
     let k : ℕ = imageLength (states g) (count g) in
@@ -120,22 +120,27 @@ write-then-read p old before after n e h w x =
     let r : readRule (view old) (take n after) ≡ accepted g = rw (h, o) (read-image g (a .0)) in
     (accepted-answer (e .answer) (x .answer ∙ ap answerOf r), x .plan ∙ ap (next (view old)) r)
 
+-- what an accepted read says: the octets hold the new plan
+pub accepted-read : (old : Plan) (octets : List ℕ) (e : Edited) → Edit old (readRule (view old) octets) e → e .answer ≡ Accepted
+    → readImage octets ≡ accepted (view (e .plan))
+unfolding readRule
+accepted-read old octets e x a =
+    let m = accepted-as (readRule (view old) octets) (ap said (sym a) ∙ x .answer) in
+    then-accepted (givenPlan (view old)) (readImage octets) (m .0) (m .1) .1 ∙ ap accepted (sym (x .plan ∙ ap (next (view old)) (m .1)))
+
 -- every image read writes back as those octets, into any buffer that has room
 pub read-then-write : (old : Plan) (octets : List ℕ) (e : Edited) (before after : List ℕ) (w : Written) → Octets octets → Edit old (readRule (view old) octets) e
     → e .answer ≡ Accepted → Write (image (view (e .plan))) (writeRule (view (e .plan)) before) before after w → length octets ≤ length before → (w ≡ Length (length octets)) × (after ≡ octets ++ drop (length octets) before)
-unfolding readRule writeRule
+unfolding writeRule
 read-then-write old octets e before after w ho x a y room =
-    let m = accepted-as (readRule (view old) octets) (ap said (sym a) ∙ x .answer) in
-    let g : Graph = m .0 in
-    let s : view (e .plan) ≡ g = x .plan ∙ ap (next (view old)) (m .1) in
-    let r : readImage octets ≡ accepted g = then-accepted (givenPlan (view old)) (readImage octets) g (m .1) .1 in
+    let g : Graph = view (e .plan) in
+    let r : readImage octets ≡ accepted g = accepted-read old octets e x a in
     let i : image g ≡ octets = image-read octets g r ho in
     let k : imageLength (states g) (count g) ≡ length octets = sym (length-image g) ∙ ap length i in
     let l : ltb (length before) (length octets) ≡ false = le-ltb (length before) (length octets) room in
-    let u : writeRule (view (e .plan)) before ≡ accepted (length octets) = ap (λ (x : Graph). writeRule x before) s ∙ rw (read-within octets g r, k, l) in (
+    let u : writeRule g before ≡ accepted (length octets) = rw (read-within octets g r, k, l) in (
       length-answer w (length octets) (y .answer ∙ u),
-      y .buffer ∙ ap (written (image (view (e .plan))) before) u ∙ ap {B = List ℕ} (λ (x : Graph). image x ++ drop (length octets) before) s
-          ∙ ap {B = List ℕ} (λ (x : List ℕ). x ++ drop (length octets) before) i,
+      y .buffer ∙ ap (written (image g) before) u ∙ ap {B = List ℕ} (λ (x : List ℕ). x ++ drop (length octets) before) i,
     )
 
 -- ---- no plan

@@ -1,9 +1,9 @@
 -- Facts that the definitions give at once; proof files are checked in the order of their names, so a wrong definition is refused here first.
--- The known octets are the image of their plan. And the order of the grounds: in each call, each number answers where its ground holds and
+-- The known octets are the image of their plan, and the known record is that plan's. And the order of the grounds: in each call, each number answers where its ground holds and
 -- those before it do not, whatever holds of those after it, and the call is accepted where none holds. Document 01: "0 comes before the rest in every call", "In mark: 7, 12", "In join: 7, 8, 9", and
 -- read's order.
 -- Assumes nothing.
-use mathlib.Core.Bool.{true, false}
+use mathlib.Core.Bool.{true, false, _||_}
 use mathlib.Core.List.{List, [], _∷_}
 use mathlib.Core.Path.{_≡_, refl}
 use Prim.Native.Nat.{ℕ}
@@ -11,9 +11,11 @@ use lib.Dec.{leb, ltb, eqb}
 use lib.ListN.{length}
 use Rattle.field.specs.Field.{pack, octetsOf, bits, bitsOf, bitsOfAll, widthOfAll, number, fieldAt}
 use Rattle.graph.specs.Known.{P1, plan, join}
-use Rattle.graph.specs.Graph.{Graph, State, Transition, states, count}
+use Rattle.graph.specs.Compute.{any, leastDelay, greatestDelay, leastCount, greatestCount}
+use Rattle.graph.specs.Graph.{Graph, State, Transition, states, count, marksOf, start, final, counted, transition, from, to, low, high}
 use Rattle.rules.specs.Image.{image, imageFields, fieldsOfEach, headerRule, statesIn, transitionsIn, readImage, imageLength, versionOf, stateCountOf, transitionCountOf, padOf, checked}
 use Rattle.rules.specs.Limits.{within, stateCountOk, transitionCountOk, marksOk, endsOk, durationsOk}
+use Rattle.rules.specs.Quotations.{recordOctets, recordFields, tooLarge, quoteRule, recordRule}
 use Rattle.rules.specs.Refusal.{accepted, refused, collect}
 use Rattle.rules.specs.Rules.{freshRule, markRule, joinRule, unjoinRule, readRule, writeRule, freshGraph, withMark, withTransition, without}
 
@@ -27,6 +29,11 @@ octets =
 pub image-of-plan : image (P1 .plan) ≡ octets
 unfolding octets image imageFields fieldsOfEach pack octetsOf bitsOf bitsOfAll widthOfAll number
 image-of-plan = refl
+
+-- "The record of this plan is (hex) 00 00 1C 00 03 C0 00 00 40 00 02"
+pub record-of-plan : recordOctets (P1 .plan) ≡ 0x00 ∷ 0x00 ∷ 0x1C ∷ 0x00 ∷ 0x03 ∷ 0xC0 ∷ 0x00 ∷ 0x00 ∷ 0x40 ∷ 0x00 ∷ 0x02 ∷ []
+unfolding recordOctets recordFields leastDelay greatestDelay leastCount greatestCount any marksOf start final counted transition from to low high pack octetsOf bitsOf bitsOfAll widthOfAll number
+record-of-plan = refl
 
 -- ---- fresh, mark, join, unjoin
 
@@ -101,6 +108,37 @@ module _ (g : Graph) (b : List ℕ) where
   pub write-done : within g ≡ true → ltb (length b) (imageLength (states g) (count g)) ≡ false → writeRule g b ≡ accepted (imageLength (states g) (count g))
   unfolding writeRule
   write-done w h = rw (w, h)
+
+  -- the quotations and the record, lent b
+  pub quote-0 : within g ≡ false → quoteRule g b ≡ refused 0
+  unfolding quoteRule
+  quote-0 w = rw w
+
+  pub quote-11 : within g ≡ true → ltb (length b) (states g) ≡ true → quoteRule g b ≡ refused 11
+  unfolding quoteRule
+  quote-11 w h = rw (w, h)
+
+  pub quote-done : within g ≡ true → ltb (length b) (states g) ≡ false → quoteRule g b ≡ accepted tt
+  unfolding quoteRule
+  quote-done w h = rw (w, h)
+
+  pub record-0 : within g ≡ false → recordRule g b ≡ refused 0
+  unfolding recordRule
+  record-0 w = rw w
+
+  pub record-11 : within g ≡ true → ltb (length b) 11 ≡ true → recordRule g b ≡ refused 11
+  unfolding recordRule
+  record-11 w h = rw (w, h)
+
+  pub record-13 : within g ≡ true → ltb (length b) 11 ≡ false
+      → tooLarge (leastDelay g) || tooLarge (greatestDelay g) || tooLarge (leastCount g) || tooLarge (greatestCount g) ≡ true → recordRule g b ≡ refused 13
+  unfolding recordRule
+  record-13 w h l = rw (w, h, l)
+
+  pub record-done : within g ≡ true → ltb (length b) 11 ≡ false
+      → tooLarge (leastDelay g) || tooLarge (greatestDelay g) || tooLarge (leastCount g) || tooLarge (greatestCount g) ≡ false → recordRule g b ≡ accepted 11
+  unfolding recordRule
+  record-done w h l = rw (w, h, l)
 
 -- ---- read
 

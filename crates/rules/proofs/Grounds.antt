@@ -8,10 +8,12 @@ use mathlib.Core.Path.{_≡_, refl, sym}
 use Prim.Native.Nat.{ℕ, zero, suc, _+_, _*_}
 use lib.Dec.{leb, ltb, eqb}
 use lib.ListN.{length}
+use Rattle.graph.specs.Compute.{leastDelay, greatestDelay, leastCount, greatestCount}
 use Rattle.graph.specs.Graph.{Graph, State, Transition, marked, states, count}
 use Rattle.field.specs.Field.{Octets, fieldAt}
 use Rattle.rules.specs.declared.Refusal.{Refusal}
-use Rattle.rules.specs.declared.Refusal.the-variants.{PlanLimits, ImageShort, ImageLong, Version, StateCount, TransitionCount, SpareBits, StateNumber, Duration, ListFull, TransitionNumber, BufferLength, MarksValue}
+use Rattle.rules.specs.declared.Refusal.the-variants.{PlanLimits, ImageShort, ImageLong, Version, StateCount, TransitionCount, SpareBits, StateNumber, Duration, ListFull, TransitionNumber, BufferLength, MarksValue, FigureSize}
+use Rattle.rules.specs.Quotations.{tooLarge, quoteRule, recordRule}
 use Rattle.rules.specs.Refusal.{number, Result, accepted, refused, _>>=_, _>>_, refuseIf, collect}
 use Rattle.rules.specs.Limits.{within, stateCountOk, transitionCountOk, marksOk, endsOk, durationsOk}
 use Rattle.rules.specs.Image.{readImage, headerRule, statesIn, transitionsIn, checked, image, imageLength, versionOf, stateCountOf, transitionCountOf, padOf, stateAt, transitionAt, statePlace, transitionPlace}
@@ -109,6 +111,29 @@ write-grounds g buffer =
     let r2 : Result ℕ = refuseIf (ltb (length buffer) n) BufferLength >> accepted n in
     first writeNumbers (not (within g)) PlanLimits r2 refl
     (first writeNumbers (ltb (length buffer) n) BufferLength (accepted n) refl (accept writeNumbers n))
+
+-- a quotation, and the record
+abbrev quoteNumbers : List ℕ
+quoteNumbers = 0 ∷ 11 ∷ []
+
+pub quote-grounds : (g : Graph) (places : List ℕ) → Only quoteNumbers (quoteRule g places)
+unfolding quoteRule
+quote-grounds g places =
+    first quoteNumbers (not (within g)) PlanLimits (refuseIf (ltb (length places) (states g)) BufferLength) refl
+    (ground quoteNumbers (ltb (length places) (states g)) BufferLength refl)
+
+abbrev recordNumbers : List ℕ
+recordNumbers = 0 ∷ 11 ∷ 13 ∷ []
+
+pub record-grounds : (g : Graph) (buffer : List ℕ) → Only recordNumbers (recordRule g buffer)
+unfolding recordRule
+record-grounds g buffer =
+    let large : Bool = tooLarge (leastDelay g) || tooLarge (greatestDelay g) || tooLarge (leastCount g) || tooLarge (greatestCount g) in
+    let eleven : ℕ = 11 in
+    let r3 : Result ℕ = refuseIf large FigureSize >> accepted eleven in
+    first recordNumbers (not (within g)) PlanLimits (refuseIf (ltb (length buffer) 11) BufferLength >> r3) refl
+    (first recordNumbers (ltb (length buffer) 11) BufferLength r3 refl
+    (first recordNumbers large FigureSize (accepted eleven) refl (accept recordNumbers eleven)))
 
 -- the octets alone, and read, which is given a plan too
 abbrev imageNumbers : List ℕ

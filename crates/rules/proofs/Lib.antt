@@ -7,3 +7,4 @@ pub mod Kept
 pub mod Grounds
 pub mod Figures
 pub mod Vectors
+pub mod Record

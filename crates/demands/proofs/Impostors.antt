@@ -1,0 +1,257 @@
+-- The impostors of document 01's acceptance point 2: each one's answer breaks a demand. The figures of P1, and of P2 or P6 beside it, give away
+-- whoever does not look; a shown walk has the count that is quoted; a list of two marks gives away whoever obeys the first; the known octets
+-- give away the rest.
+-- Assumes nothing.
+use mathlib.Core.Bool.{Bool, true, false}
+use mathlib.Core.List.{List, [], _∷_, _++_}
+use mathlib.Core.Path.{_≡_, refl, sym, ap, ap₂, _∙_, subst}
+use Prim.Native.Nat.{ℕ}
+use borrow.Author.Tests.{eqb-true, eqb-false}
+use native.Mathlib.Omega.{arith}
+use lib.Dec.{eqb}
+use lib.ListN.{length, getD, take, drop, replicate}
+use Rattle.field.specs.Field.{Octets}
+use Rattle.graph.specs.Compute.{any, leastDelay, greatestDelay, leastCount, greatestCount}
+use Rattle.graph.specs.Figure.{Figure, number, NONE, STRANDED, ENDLESS, kind, value, Shown, countCost}
+use Rattle.graph.specs.Graph.{Graph, state, marksOf, start, final, counted, transition, from, to, low, high}
+use Rattle.graph.specs.Known.{Row, plan, join as to-join, P1, P2, P6}
+use Rattle.graph.specs.Route.{number-on}
+use Rattle.graph.specs.Walk.{Begins}
+use Rattle.graph.proofs.Sentences.{shown-count}
+use Rattle.rules.specs.declared.Answer.the-variants.{Accepted, Refused}
+use Rattle.rules.specs.declared.Quotation.the-variants.{Quoted}
+use Rattle.rules.specs.declared.Quote.{Quote}
+use Rattle.rules.specs.declared.Refusal.{Refusal}
+use Rattle.rules.specs.declared.Written.the-variants.{Length}
+use Rattle.rules.specs.Calls.{Call, mark, join, read, run, runFresh}
+use Rattle.rules.specs.Image.{image}
+use Rattle.rules.specs.Limits.{within, all, stateCountOk}
+use Rattle.rules.specs.Quotations.{meant}
+use Rattle.rules.specs.Refusal.{number as numberOf, said}
+use Rattle.rules.specs.Rules.{freshGraph, markRule, joinRule}
+use Rattle.rules.proofs.Basic.{octets, image-of-plan}
+use Rattle.rules.proofs.ReadWrite.{image-octets, length-image}
+use Rattle.rules.proofs.Results.{never}
+use Rattle.plan.specs.declared.Edited.{Edited}
+use Rattle.plan.specs.declared.Plan.{Plan}
+use Rattle.plan.specs.View.{view}
+use Rattle.demands.specs.Calculator.{Calculator, Which, says, figureOf, least-delay, greatest-delay, least-count, greatest-count}
+use Rattle.demands.specs.Demands.{Demand1, Demand2, OneClaim, Session, edit}
+use Rattle.demands.specs.Table.{first, editRows}
+use Rattle.demands.proofs.Basic.{read-known}
+
+-- ---- demand 3: the figures
+
+-- the figure of an accepted quotation is the one by computation
+figure-said : (which : Which) (g : Graph) (f : Figure) (k j : ℕ) (before after : List ℕ) → says which g f k j before after → f ≡ figureOf which g
+unfolding leastDelay greatestDelay leastCount greatestCount
+figure-said least-delay g f k j before after x = x .figure
+figure-said greatest-delay g f k j before after x = x .figure
+figure-said least-count g f k j before after x = x .figure
+figure-said greatest-count g f k j before after x = x .figure
+
+-- a row's figure
+entry : Which → Row → Figure
+entry least-delay r = r .least-delay
+entry greatest-delay r = r .greatest-delay
+entry least-count r = r .least-count
+entry greatest-count r = r .greatest-count
+
+-- beside P1, a plan with another figure: P2, and for the least count P6
+other : Which → Row
+other least-delay = P2
+other greatest-delay = P2
+other least-count = P6
+other greatest-count = P2
+
+first-known : (which : Which) → figureOf which (P1 .plan) ≡ entry which P1
+unfolding leastDelay greatestDelay leastCount greatestCount any marksOf start final counted transition from to low high entry
+first-known least-delay = refl
+first-known greatest-delay = refl
+first-known least-count = refl
+first-known greatest-count = refl
+
+other-known : (which : Which) → figureOf which (other which .plan) ≡ entry which (other which)
+unfolding leastDelay greatestDelay leastCount greatestCount any marksOf start final counted transition from to low high entry other
+other-known least-delay = refl
+other-known greatest-delay = refl
+other-known least-count = refl
+other-known greatest-count = refl
+
+-- a list of calls from a fresh plan makes the plan; so it is with these three
+pub record Listable (g : Graph) : Type 0 where
+  pub n : ℕ
+  pub n-ok : stateCountOk n ≡ true
+  pub calls : List Call
+  pub makes : runFresh n calls .last ≡ g
+
+pub first-listable : Listable (P1 .plan)
+unfolding run markRule joinRule within all
+first-listable = record {
+  n = 4;
+  n-ok = refl;
+  calls = mark 0 4 ∷ mark 1 1 ∷ mark 2 1 ∷ mark 3 2 ∷ join (to-join 0 1 5 20) ∷ join (to-join 1 2 3 15) ∷ join (to-join 1 3 2 30) ∷ join (to-join 2 3 4 25) ∷ [];
+  makes = refl;
+}
+
+one-state : Listable (P2 .plan)
+unfolding run markRule within all
+one-state = record { n = 1; n-ok = refl; calls = mark 0 7 ∷ []; makes = refl }
+
+two-states : Listable (P6 .plan)
+unfolding run markRule joinRule within all
+two-states = record {
+  n = 2;
+  n-ok = refl;
+  calls = mark 0 4 ∷ mark 1 2 ∷ join (to-join 0 1 1 9) ∷ join (to-join 0 1 3 4) ∷ [];
+  makes = refl;
+}
+
+other-listable : (which : Which) → Listable (other which .plan)
+unfolding other
+other-listable least-delay = one-state
+other-listable greatest-delay = one-state
+other-listable least-count = two-states
+other-listable greatest-count = one-state
+
+module _ (c : Calculator) where
+  -- a session whose list of calls makes the plan g, and of which demand 3's claim holds, quotes the figure f
+  pub record Heard (g : Graph) (which : Which) (f : Figure) : Type 0 where
+    pub session : Session c
+    pub demand : OneClaim c session
+    pub makes : runFresh (session .n) (session .calls) .last ≡ g
+    pub quote : Quote
+    pub quoted : session .quotation which ≡ Quoted quote
+    pub figure : meant (quote .figure) ≡ f
+
+  -- then f is g's figure
+  heard : (g : Graph) (which : Which) (f : Figure) → Heard g which f → f ≡ figureOf which g
+  heard g which f h =
+      let s = h .session in
+      sym (h .figure)
+      ∙ figure-said which (runFresh (s .n) (s .calls) .last) _ _ _ _ _ (h .demand .right which (h .quote) (h .quoted))
+      ∙ ap (figureOf which) (h .makes)
+
+  -- "a calculator that says NONE, STRANDED or ENDLESS before looking": P1 has none of the four
+  number-there : (which : Which) (f : Figure) → Heard (P1 .plan) which f → kind f ≡ 0
+  unfolding entry
+  number-there which f h = ap kind (heard (P1 .plan) which f h ∙ first-known which) ∙ go which
+    where
+      go : (which : Which) → kind (entry which P1) ≡ 0
+      go least-delay = refl
+      go greatest-delay = refl
+      go least-count = refl
+      go greatest-count = refl
+
+  pub says-none : (which : Which) → Heard (P1 .plan) which NONE → ⊥
+  says-none which h = let z : _≡_ {A = ℕ} 1 0 = number-there which NONE h in omega arith
+
+  pub says-stranded : (which : Which) → Heard (P1 .plan) which STRANDED → ⊥
+  says-stranded which h = let z : _≡_ {A = ℕ} 2 0 = number-there which STRANDED h in omega arith
+
+  pub says-endless : (which : Which) → Heard (P1 .plan) which ENDLESS → ⊥
+  says-endless which h = let z : _≡_ {A = ℕ} 3 0 = number-there which ENDLESS h in omega arith
+
+  -- "one that quotes a fixed figure": for every figure there is a plan of which it is not quoted, P1 or the other one
+  pub fixed-figure : (which : Which) (f : Figure) → (g : Graph) × Listable g × (Heard g which f → ⊥)
+  unfolding entry other
+  fixed-figure which f = go (eqb (value f) (value (entry which P1))) refl
+    where
+      differ : (which : Which) → value (entry which P1) ≡ value (entry which (other which)) → ⊥
+      differ least-delay e = let z : _≡_ {A = ℕ} 7 0 = e in omega arith
+      differ greatest-delay e = let z : _≡_ {A = ℕ} 60 0 = e in omega arith
+      differ least-count e = let z : _≡_ {A = ℕ} 1 0 = e in omega arith
+      differ greatest-count e = let z : _≡_ {A = ℕ} 2 1 = e in omega arith
+
+      go : (b : Bool) → eqb (value f) (value (entry which P1)) ≡ b → (g : Graph) × Listable g × (Heard g which f → ⊥)
+      go true e = (
+        other which .plan,
+        other-listable which,
+        λ h. differ which (sym (eqb-true (value f) (value (entry which P1)) e) ∙ ap value (heard (other which .plan) which f h ∙ other-known which)),
+      )
+      go false e = (
+        P1 .plan,
+        first-listable,
+        λ h. eqb-false (value f) (value (entry which P1)) e (ap value (heard (P1 .plan) which f h ∙ first-known which)),
+      )
+
+  module _ (s : Session c) (d : OneClaim c s) where
+    -- the plan after the list
+    abbrev after-list : Graph
+    after-list = runFresh (s .n) (s .calls) .last
+
+    -- "one that quotes a handover count which its walk lacks": from some start the shown walk has just that many counted states
+    counts-shown : (f : Figure) (x k j : ℕ) (places : List ℕ) → f ≡ number x → Shown after-list (countCost after-list) f (take k places) j
+        → ((first : ℕ) → Begins after-list first → number-on after-list (counted after-list) first (take k places) ≡ x → ⊥) → ⊥
+    counts-shown f x k j places e shown lacks =
+        let (first, b, n) = shown-count after-list (counted after-list) x (take k places) j
+        (subst (λ (f : Figure). Shown after-list (countCost after-list) f (take k places) j) e shown) in
+        lacks first b n
+
+    pub least-count-lacking : (q : Quote) (x : ℕ) → s .quotation least-count ≡ Quoted q → meant (q .figure) ≡ number x
+        → ((first : ℕ) → Begins after-list first → number-on after-list (counted after-list) first (take (q .k) (s .places-after least-count)) ≡ x → ⊥) → ⊥
+    least-count-lacking q x e f = counts-shown _ x (q .k) (q .j) (s .places-after least-count) f (d .right least-count q e .shows .walk)
+
+    pub greatest-count-lacking : (q : Quote) (x : ℕ) → s .quotation greatest-count ≡ Quoted q → meant (q .figure) ≡ number x
+        → ((first : ℕ) → Begins after-list first → number-on after-list (counted after-list) first (take (q .k) (s .places-after greatest-count)) ≡ x → ⊥) → ⊥
+    greatest-count-lacking q x e f = counts-shown _ x (q .k) (q .j) (s .places-after greatest-count) f (d .right greatest-count q e .shows .walk)
+
+    -- "one that obeys the first edit and merely acknowledges the rest": it marks state 0 with 4, says that it marked it with 2, and holds 4
+    pub acknowledges-the-rest : s .n ≡ 1 → s .calls ≡ mark 0 4 ∷ mark 0 2 ∷ [] → view (s .last) ≡ plan (4 ∷ []) [] → ⊥
+    unfolding run markRule within all
+    acknowledges-the-rest n calls last =
+        let e : plan (4 ∷ []) [] ≡ plan (2 ∷ []) [] = sym last ∙ d .plan ∙ ap₂ (λ (k : ℕ) (l : List Call). runFresh k l .last) n calls in
+        let z : _≡_ {A = ℕ} 4 2 = ap (λ (g : Graph). (state g 0) .marks) e in
+        omega arith
+
+    -- and one that hides it, and quotes: after mark 0 4 and mark 0 6 state 0 is final, and who obeyed only the first calls it a dead end
+    pub quotes-the-first : s .n ≡ 1 → s .calls ≡ mark 0 4 ∷ mark 0 6 ∷ [] → (q : Quote) → s .quotation greatest-delay ≡ Quoted q
+        → meant (q .figure) ≡ STRANDED → ⊥
+    unfolding run markRule within all greatestDelay any marksOf start final counted transition from to low high
+    quotes-the-first n calls q e f =
+        let h : STRANDED ≡ number 0 =
+        heard (plan (6 ∷ []) []) greatest-delay STRANDED
+        (record {
+          session = s;
+          demand = d;
+          makes = ap₂ (λ (k : ℕ) (l : List Call). runFresh k l .last) n calls;
+          quote = q;
+          quoted = e;
+          figure = f;
+        }) in
+        let z : _≡_ {A = ℕ} 2 0 = ap kind h in
+        omega arith
+
+  -- ---- demands 1 and 2: the image
+
+  known-octets : Octets octets
+  known-octets = subst Octets image-of-plan (image-octets (P1 .plan))
+
+  module _ (d : Demand2 c) where
+    -- "one that leaves the plan alone": it says that it read the octets, and holds a plan of one state
+    pub leaves-the-plan : {p : Plan} {e : Edited} → c .edits p (read octets) e → e .answer ≡ Accepted → view (e .plan) ≡ freshGraph 1 → ⊥
+    unfolding octets
+    leaves-the-plan {p} {e} x a v =
+        let z : _≡_ {A = ℕ} 5 28 =
+        sym (length-image (freshGraph 1)) ∙ ap (λ (g : Graph). length (image g)) (sym v) ∙ ap length (d .read-image known-octets x a) in
+        omega arith
+
+    -- "and the buffer empty": it says that it wrote the known plan, and the buffer stays as it was
+    pub leaves-the-buffer : {p : Plan} (n : ℕ) → view p ≡ P1 .plan → c .writes p (replicate 28 0) (replicate 28 0) (Length n) → ⊥
+    unfolding octets
+    leaves-the-buffer {p} n v x =
+        let i : image (view p) ≡ octets = ap image v ∙ image-of-plan in
+        let b : _≡_ {A = List ℕ} (replicate 28 0) (octets ++ drop n (replicate 28 0)) =
+        d .written-image n x .1 ∙ ap {B = List ℕ} (λ (l : List ℕ). l ++ drop n (replicate 28 0)) i in
+        let z : _≡_ {A = ℕ} 0 16 = ap (λ (l : List ℕ). getD l 0 0) b in
+        omega arith
+
+    -- "one that turns all images away": also one that it wrote itself
+    pub turns-its-own-away : {p old : Plan} {before after : List ℕ} {e : Edited} (n : ℕ) (r : Refusal) → within (view old) ≡ true
+        → c .writes p before after (Length n) → c .edits old (read (take n after)) e → e .answer ≡ Refused r → ⊥
+    turns-its-own-away n r w x y a = never tt (numberOf r) (ap said (sym a ∙ d .reads-back n w x y .0))
+
+  -- and, by the table, the known octets
+  pub turns-images-away : Demand1 c → {p : Plan} {e : Edited} (r : Refusal) → view p ≡ freshGraph 1 → c .edits p (read octets) e → e .answer ≡ Refused r → ⊥
+  turns-images-away d {p} {e} r v x a =
+      never tt (numberOf r) (ap said (sym a) ∙ d .by-number (edit x) ∙ ap (λ (g : Graph). first (editRows g (read octets))) v ∙ read-known)

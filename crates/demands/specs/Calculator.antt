@@ -1,0 +1,68 @@
+-- A calculator as its callers see it, and what is published of it. Assumes nothing.
+use mathlib.Core.List.{List, [], _∷_}
+use Prim.Native.Nat.{ℕ}
+use Rattle.graph.specs.Compute.{leastDelay, greatestDelay, leastCount, greatestCount}
+use Rattle.graph.specs.Figure.{Figure}
+use Rattle.graph.specs.Graph.{Graph}
+use Rattle.rules.specs.declared.Answer.{Answer}
+use Rattle.rules.specs.declared.Quotation.{Quotation}
+use Rattle.rules.specs.declared.Written.{Written}
+use Rattle.rules.specs.Calls.{Call, step}
+use Rattle.rules.specs.Image.{image}
+use Rattle.rules.specs.Quotations.{Says, Quotes, LeastDelay, GreatestDelay, LeastCount, GreatestCount, recordOctets, recordRule}
+use Rattle.rules.specs.Rules.{freshRule, writeRule}
+use Rattle.plan.specs.declared.Edited.{Edited}
+use Rattle.plan.specs.declared.Plan.{Plan}
+use Rattle.plan.specs.Promise.{Edit, Write}
+use Rattle.plan.specs.View.{view, noPlan}
+
+-- the four quotations, and what an accepted one says
+pub data Which : Type 0 where
+  least-delay greatest-delay least-count greatest-count : Which
+
+abbrev pub says : Which → Graph → Says
+says least-delay = LeastDelay
+says greatest-delay = GreatestDelay
+says least-count = LeastCount
+says greatest-count = GreatestCount
+
+-- its figure, by computation
+abbrev pub figureOf : Which → Graph → Figure
+figureOf least-delay = leastDelay
+figureOf greatest-delay = greatestDelay
+figureOf least-count = leastCount
+figureOf greatest-count = greatestCount
+
+-- a calculator: what comes back of what it is given. Lent places are seen as they stand before the call and after it. Each call is a relation, so
+-- that nothing is taken for granted: neither that something comes back, nor that it is always the same
+pub record Calculator : Type 1 where
+  pub freshes : ℕ → Edited → Type 0
+  pub edits : Plan → Call → Edited → Type 0
+  pub writes : Plan → List ℕ → List ℕ → Written → Type 0
+  pub records : Plan → List ℕ → List ℕ → Written → Type 0
+  pub quotes : Which → Plan → List ℕ → List ℕ → Quotation → Type 0
+
+-- it keeps what is published: the `ensures` of each public call of plan and quotation, none of which has a `requires`
+pub record Promises (c : Calculator) : Type 0 where
+  pub freshes : {n : ℕ} {e : Edited} → c .freshes n e → Edit noPlan (freshRule n) e
+  pub edits : {p : Plan} {call : Call} {e : Edited} → c .edits p call e → Edit p (step (view p) call) e
+  pub writes : {p : Plan} {before after : List ℕ} {w : Written} → c .writes p before after w
+      → Write (image (view p)) (writeRule (view p) before) before after w
+  pub records : {p : Plan} {before after : List ℕ} {w : Written} → c .records p before after w
+      → Write (recordOctets (view p)) (recordRule (view p) before) before after w
+  pub quotes : {which : Which} {p : Plan} {before after : List ℕ} {q : Quotation} → c .quotes which p before after q
+      → Quotes (says which (view p)) (view p) before after q
+
+-- it answers whatever it is given. (Of the code the check of each function says so, for all that a machine can hold.)
+pub record Answers (c : Calculator) : Type 0 where
+  pub freshes : (n : ℕ) → (e : Edited) × c .freshes n e
+  pub edits : (p : Plan) (call : Call) → (e : Edited) × c .edits p call e
+  pub writes : (p : Plan) (before : List ℕ) → (after : List ℕ) × (w : Written) × c .writes p before after w
+  pub records : (p : Plan) (before : List ℕ) → (after : List ℕ) × (w : Written) × c .records p before after w
+  pub quotes : (which : Which) (p : Plan) (before : List ℕ) → (after : List ℕ) × (q : Quotation) × c .quotes which p before after q
+
+-- a list of calls, their answers and the plan value after it: "Each call is handed the plan that the one before it left"
+pub data Listed (c : Calculator) : Plan → List Call → List Answer → Plan → Type 0 where
+  none : {p : Plan} → Listed c p [] [] p
+  more : {p q : Plan} {call : Call} {calls : List Call} {answers : List Answer} (e : Edited)
+      → c .edits p call e → Listed c (e .plan) calls answers q → Listed c p (call ∷ calls) (e .answer ∷ answers) q

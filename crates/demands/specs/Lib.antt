@@ -1,0 +1,3 @@
+pub mod Calculator
+pub mod Table
+pub mod Demands
