@@ -2,7 +2,7 @@
 -- stands at its own places, and the copies that follow it go elsewhere. An answer that is accepted goes with the plan stored, and a refusal with
 -- every place as it was; so the promise of the plan's own call is the promise on the slices.
 -- Assumes nothing.
-use mathlib.Core.Bool.{Bool, true, false, _&&_}
+use mathlib.Core.Bool.{Bool, true, false, _&&_, _||_}
 use mathlib.Core.List.{List, [], _∷_, _++_, append-assoc}
 use mathlib.Core.Path.{_≡_, refl, sym, ap, _∙_}
 use Prim.Native.Nat.{ℕ, _≤_}
@@ -14,10 +14,12 @@ use lib.Seq.{paste, take-at}
 use Rattle.graph.specs.Graph.{Graph, states, count}
 use Rattle.rules.specs.declared.Answer.{Answer}
 use Rattle.rules.specs.declared.Answer.the-variants.{Accepted, Refused}
-use Rattle.rules.specs.declared.Refusal.the-variants.{PlanLimits, BufferLength}
+use Rattle.rules.specs.declared.Refusal.the-variants.{PlanLimits, BufferLength, FigureSize}
 use Rattle.rules.specs.declared.Written.{Written}
 use Rattle.rules.specs.Image.{imageLength}
+use Rattle.graph.specs.Compute.{leastDelay, greatestDelay, leastCount, greatestCount}
 use Rattle.rules.specs.Limits.{within}
+use Rattle.rules.specs.Quotations.{recordRule, tooLarge}
 use Rattle.rules.specs.Refusal.{Result, accepted, refused, _>>_, refuseIf, number, answerOf, said, wrote}
 use Rattle.rules.specs.Rules.{givenPlan, next, writeRule, written}
 use Rattle.rules.proofs.Results.{and-true, then-accepted, holds, accepted-as, refused-as}
@@ -147,6 +149,17 @@ write-length g b n e =
     let q = then-accepted (refuseIf (ltb (length b) k) BufferLength) (accepted k) n (p .1) in
     let s : k ≡ n = cc in
     omega (arith, limited g (holds (within g) PlanLimits (p .0)))
+
+-- a record has 11 octets
+pub record-length : (g : Graph) (b : List ℕ) (n : ℕ) → accepted n ≡ recordRule g b → n ≤ 10756
+unfolding recordRule
+record-length g b n e =
+    let large = tooLarge (leastDelay g) || tooLarge (greatestDelay g) || tooLarge (leastCount g) || tooLarge (greatestCount g) in
+    let p = then-accepted (givenPlan g) (refuseIf (ltb (length b) 11) BufferLength >> (refuseIf large FigureSize >> accepted 11)) n (sym e) in
+    let q = then-accepted (refuseIf (ltb (length b) 11) BufferLength) (refuseIf large FigureSize >> accepted 11) n (p .1) in
+    let r = then-accepted (refuseIf large FigureSize) (accepted 11) n (q .1) in
+    let s : 11 ≡ n = cc in
+    omega arith
 
 pub write-short : (s : Slices) (octets : List ℕ) (o : Result ℕ) (b : List ℕ) → hasRoom s ≡ false → LentWrite s octets o b b 255
 write-short s octets o b e = record { short = λ h. (refl, refl); answer = λ h. true-false (hasRoom s) h e; buffer = λ h. true-false (hasRoom s) h e }

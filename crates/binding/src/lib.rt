@@ -12,7 +12,7 @@ ghost use Rattle.arrays.specs.Tables.{transition, over};
 ghost use Rattle.plan.specs.View.{view, noPlan};
 ghost use Rattle.rules.specs.Image.{image};
 ghost use Rattle.graph.specs.Figure.{kind, value};
-ghost use Rattle.rules.specs.Quotations.{meant, LeastDelay, GreatestDelay, LeastCount, GreatestCount};
+ghost use Rattle.rules.specs.Quotations.{meant, recordOctets, recordRule, LeastDelay, GreatestDelay, LeastCount, GreatestCount};
 ghost use Rattle.rules.specs.Rules.{freshRule, markRule, joinRule, unjoinRule, readRule, writeRule};
 ghost use Rattle.binding.specs.Lent.{Roomy, roomy, lentPlan, planIn, slices, storing, Finished, LentEdit, LentWrite};
 ghost use Rattle.binding.specs.Quoted.{numbersOf, SmallQuote, Small, Answered, LentQuote};
@@ -440,4 +440,28 @@ pub extern "C" fn callplan_greatest_count(
     }
     let quotation = quotation::greatest_count(load(counts, marks, fields), walk);
     answer(quotation, out)
+}
+
+// Puts the record of the four figures at the front of the buffer.
+#[no_mangle]
+pub extern "C" fn callplan_record(
+    counts: &[usize],
+    marks: &[u8],
+    fields: &[u16],
+    buffer: &mut [u8],
+) -> u32
+    ensures { λ r. ⌜ LentWrite
+        (slices (now (counts .entry)) (now (marks .entry)) (now (fields .entry)))
+        (recordOctets (view (lentPlan (now (counts .entry)) (now (marks .entry)) (now (fields .entry)))))
+        (recordRule (view (lentPlan (now (counts .entry)) (now (marks .entry)) (now (fields .entry)))) (now (buffer .entry)))
+        (now (buffer .entry)) (now (buffer .exit)) r ⌝ }
+{
+    if !has_room(counts.len(), marks.len(), fields.len()) {
+        return 255;
+    }
+    let written = quotation::record(load(counts, marks, fields), buffer);
+    match written {
+        Written::Length(n) => 256 + n as u32,
+        Written::Refused(r) => rules::number(r),
+    }
 }

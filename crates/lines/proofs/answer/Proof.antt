@@ -1,0 +1,55 @@
+-- `lines::answer` meets its contract. Assumes nothing.
+use native.Mathlib.Omega.{arith}
+use borrow.Author.Needs.{needs}
+use Rattle.lines.proofs.Prints.{held-within, refused-room, prints-nothing, prints-figures, prints-refusal}
+use Rattle.lines.proofs.answer.Statement.{statement}
+use Rattle.lines.proofs.answer.Tie as tie
+
+returns : tie.Need-returns
+returns c = prints-nothing (c .before .before .before .args .octets .now) (c .before .before .before .args .buffer .now) (c .if1 .taken)
+
+held-requires : tie.Need-held-requires
+held-requires c κs = search needs
+
+enum-told : tie.Need-enum-told
+enum-told c = search needs
+
+four-requires : tie.Need-four-requires
+four-requires c κs = (held-within (c .before .before .before .before .before .before .before .before .args .octets .now) (c .before .before .before .before .held .result) (c .before .before .before .before .held .ensures) (c .before .enum-told .given .1), c .before .before .before .before .before .if1 .left)
+
+enum-known-answer : tie.Need-enum-known-answer
+enum-known-answer c = search needs
+
+number-requires : tie.Need-number-requires
+number-requires c κs = search needs
+
+refused-requires : tie.Need-refused-requires
+refused-requires c κs = omega (arith, refused-room (c .number .result) (omega (arith, c .number .ok)), c .before .before .before .before .before .before .before .if1 .left)
+
+same-length : tie.Need-same-length
+same-length c = search needs
+
+returns-2 : tie.Need-returns-2
+returns-2 c = prints-figures (c .before .before .before .before .before .before .before .before .before .before .before .args .octets .now) (c .before .before .before .before .before .before .before .held .result) (c .before .before .before .before .before .before .before .held .ensures) (c .before .before .before .before .before .before .before .before .if1 .left) (c .before .before .before .before .enum-told .given .1) (c .before .before .four .ensures)
+
+same-length-2 : tie.Need-same-length-2
+same-length-2 c = search needs
+
+returns-3 : tie.Need-returns-3
+returns-3 c = prints-refusal (c .before .before .before .before .before .before .before .before .before .before .before .before .before .args .octets .now) (c .before .before .before .before .before .before .before .before .before .held .result) (c .before .before .before .before .before .before .before .before .before .held .ensures) (c .before .before .before .before .before .before .before .before .before .before .if1 .left) (c .before .before .before .before .before .before .answer .given .0 .0) (c .before .before .before .number .result) (c .before .before .before .number .ensures) (c .before .before .before .before .before .before .answer .given .1) (c .before .before .refused .ensures)
+
+pub answer-spec : {M : Type 1} → statement M
+answer-spec =
+    tie.close
+    (tie.spec
+    returns
+    held-requires
+    enum-told
+    four-requires
+    enum-known-answer
+    number-requires
+    refused-requires
+    same-length
+    returns-2
+    same-length-2
+    returns-3)
