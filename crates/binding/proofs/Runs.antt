@@ -13,14 +13,14 @@ use lib.ListN.{length, drop, length-append, length-drop}
 use Rattle.graph.specs.Graph.{Graph}
 use Rattle.rules.specs.Calls.{Call, step, run, runFresh}
 use Rattle.rules.specs.Limits.{stateCountOk}
-use Rattle.rules.specs.Refusal.{Result, accepted, refused, answerOf}
+use Rattle.rules.specs.Refusal.{Result, accepted, refused, code}
 use Rattle.rules.specs.Rules.{freshGraph, freshRule, next}
 use Rattle.rules.proofs.Basic.{fresh-done}
-use Rattle.rules.proofs.Results.{both-true}
+use Rattle.rules.proofs.Results.{both-true, code-answer}
 use Rattle.arrays.specs.Tables.{over}
 use Rattle.plan.specs.declared.Plan.{Plan}
 use Rattle.plan.specs.View.{view, laid, noPlan}
-use Rattle.binding.specs.Lent.{Roomy, Slices, hasRoom, planIn, storing, nextSlices, LentEdit, LentObeyed, none, more, code}
+use Rattle.binding.specs.Lent.{Roomy, Slices, hasRoom, planIn, storing, nextSlices, LentEdit, LentObeyed, none, more}
 use Rattle.binding.proofs.Stores.{has-room}
 
 -- ---- room
@@ -51,10 +51,6 @@ pub room-kept : (p : Plan) (s t : Slices) (o : Result Graph) (r : ℕ) → hasRo
 room-kept p s t o r h x = ap hasRoom (x .whole h) ∙ next-room p s o h
 
 -- ---- a list of calls
-
-code-answer : {A : Type 0} (o : Result A) → code o ≡ code (answerOf o)
-code-answer (accepted a) = refl
-code-answer (refused k) = refl
 
 pub lent-run : {s u : Slices} {calls : List Call} {answers : List ℕ} → hasRoom s ≡ true → LentObeyed s calls answers u
     → (answers ≡ map code (run (view (planIn s)) calls .answers)) × (view (planIn u) ≡ run (view (planIn s)) calls .last)

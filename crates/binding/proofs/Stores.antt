@@ -20,7 +20,7 @@ use Rattle.rules.specs.Image.{imageLength}
 use Rattle.graph.specs.Compute.{leastDelay, greatestDelay, leastCount, greatestCount}
 use Rattle.rules.specs.Limits.{within}
 use Rattle.rules.specs.Quotations.{recordRule, tooLarge}
-use Rattle.rules.specs.Refusal.{Result, accepted, refused, _>>_, refuseIf, number, answerOf, said, wrote}
+use Rattle.rules.specs.Refusal.{Result, accepted, refused, _>>_, refuseIf, number, answerOf, said, wrote, code}
 use Rattle.rules.specs.Rules.{givenPlan, next, writeRule, written}
 use Rattle.rules.proofs.Results.{and-true, then-accepted, holds, accepted-as, refused-as}
 use Rattle.rules.proofs.ReadWrite.{limited}
@@ -30,7 +30,7 @@ use Rattle.plan.specs.declared.Edited.{Edited}
 use Rattle.plan.specs.View.{view, laid}
 use Rattle.plan.specs.Promise.{Edit, Write, nextValue}
 use Rattle.plan.proofs.Values.{Sized}
-use Rattle.binding.specs.Lent.{Roomy, roomy, Slices, slices, hasRoom, planIn, storing, nextSlices, Finished, LentEdit, LentWrite, code, lengthCode}
+use Rattle.binding.specs.Lent.{Roomy, roomy, Slices, slices, hasRoom, planIn, storing, nextSlices, Finished, LentEdit, LentWrite, lengthCode}
 use Rattle.binding.proofs.Copies.{paste-over, part}
 
 -- the counts set one after the other, and the four fields copied one behind another

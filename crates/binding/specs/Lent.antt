@@ -8,7 +8,7 @@ use lib.ListN.{length, getD, take, drop}
 use Rattle.graph.specs.Graph.{Graph}
 use Rattle.rules.specs.declared.Answer.{Answer}
 use Rattle.rules.specs.declared.Answer.the-variants.{Accepted, Refused}
-use Rattle.rules.specs.Refusal.{Result, accepted, refused, number}
+use Rattle.rules.specs.Refusal.{Result, accepted, refused, number, code}
 use Rattle.rules.specs.Calls.{Call, step}
 use Rattle.rules.specs.Rules.{next, written}
 use Rattle.arrays.specs.Tables.{over}
@@ -37,11 +37,6 @@ lentPlan counts marks fields =
       low = take 2048 (drop 4096 fields);
       high = take 2048 (drop 6144 fields);
     }
-
--- the number that a call answers
-abbrev pub code : {A : Type 0} → Result A → ℕ
-code (accepted a) = 256
-code (refused k) = k
 
 -- three lent slices, as they stand before a call or after it
 pub record Slices : Type 0 where

@@ -4,19 +4,17 @@
 use mathlib.Core.Bool.{Bool, true, false, _||_}
 use mathlib.Core.List.{List, [], _∷_, _++_, map}
 use mathlib.Core.Path.{_≡_, refl, sym, ap, _∙_, subst}
-use Prim.Native.Nat.{ℕ, _+_, _≤_, _<_}
+use Prim.Native.Nat.{ℕ, _+_, _≤_}
 use borrow.Author.Tests.{eqb-true, ltb-false}
 use native.Mathlib.Omega.{arith}
 use lib.Dec.{ltb, eqb}
-use lib.ListN.{length, getD, drop, length-append, length-drop, length-map, List·getD-append, List·getD-map}
+use lib.ListN.{length, drop, length-append, length-drop}
 use lib.Seq.{take-at, drop-at}
 use Rattle.graph.specs.Compute.{least, greatest}
 use Rattle.graph.specs.Figure.{Figure, number, NONE, STRANDED, ENDLESS, leastDelayCost, greatestDelayCost, countCost}
-use Rattle.graph.specs.Graph.{Graph, State, Transition, states, marked}
+use Rattle.graph.specs.Graph.{Graph, states}
 use Rattle.graph.specs.Route.{Cost}
 use Rattle.costs.proofs.Quoted.{least-quoted, greatest-quoted}
-use Rattle.arrays.specs.Tables.{over, stateOf, transitionOf}
-use Rattle.arrays.proofs.Lists.{tabulate-of, same-transition}
 use Rattle.rules.specs.declared.Figure.{Figure as Answered}
 use Rattle.rules.specs.declared.Figure.the-variants.{Number, None, Stranded, Endless}
 use Rattle.rules.specs.declared.Quotation.{Quotation}
@@ -40,6 +38,7 @@ use Rattle.plan.specs.declared.Edited.{Edited}
 use Rattle.plan.specs.declared.Plan.{Plan}
 use Rattle.plan.specs.Promise.{Edit, Write, refusing, accepting}
 use Rattle.plan.specs.View.{view, laid, noPlan}
+use Rattle.plan.proofs.Values.{view-laid}
 use Rattle.demands.specs.Calculator.{Calculator, Promises, Answers, Which, says, least-delay, greatest-delay, least-count, greatest-count}
 use Rattle.demands.specs.Demands.{Demand1, Demand2, Demand3}
 use Rattle.demands.proofs.Demands.{demand-1, demand-2, demand-3}
@@ -71,28 +70,6 @@ named (r ∷ rs) k e = go (eqb k (numberOf r)) refl (named rs k) e
     go false e rest h = rest h
 
 -- ---- edits
-
--- the plan that is laid over arrays is what they then hold
-view-laid : (p : Plan) (g : Graph) → view (laid p g) ≡ g
-unfolding view laid
-view-laid p g = λ i. record {
-  stateList =
-      tabulate-of (marked 0) (g .stateList) (states g) (stateOf (over (map (λ (s : State). s .marks) (g .stateList)) (p .marks))) refl
-      (λ j h. ap marked (sym (at (λ (s : State). s .marks) (g .stateList) (p .marks) j (marked 0) refl h))) i;
-  transitions =
-      let ts = g .transitions in
-      let o : Transition = record { from = 0; to = 0; low = 0; high = 0 } in
-      tabulate-of o ts (length ts) (transitionOf (over (map (λ (t : Transition). t .from) ts) (p .from)) (over (map (λ (t : Transition). t .to) ts) (p .to))
-      (over (map (λ (t : Transition). t .low) ts) (p .low)) (over (map (λ (t : Transition). t .high) ts) (p .high))) refl
-      (λ j h. sym (same-transition
-      (at (λ (t : Transition). t .from) ts (p .from) j o refl h) (at (λ (t : Transition). t .to) ts (p .to) j o refl h)
-      (at (λ (t : Transition). t .low) ts (p .low) j o refl h) (at (λ (t : Transition). t .high) ts (p .high) j o refl h))) i;
-}
-  where
-    at : {A : Type 0} (part : A → ℕ) (l : List A) (before : List ℕ) (j : ℕ) (d : A) → part d ≡ 0 → j < length l → getD (over (map part l) before) j 0 ≡ part (getD l j d)
-    at part l before j d z h =
-        List·getD-append (map part l) (drop (length (map part l)) before) 0 j (omega (arith, length-map l part))
-        ∙ ap (λ (x : ℕ). getD (map part l) j x) (sym z) ∙ List·getD-map part l j d
 
 edit-of : (p : Plan) (rs : List Refusal) (o : Result Graph) → Only (map numberOf rs) o → (e : Edited) × Edit p o e
 edit-of p rs (accepted g) only = (accepting (laid p g), record { answer = refl; plan = view-laid p g; whole = refl })

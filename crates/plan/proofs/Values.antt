@@ -1,20 +1,24 @@
 -- Plan values and what they stand for: the counts are the lists' lengths, so the limits of the plan are those of the counts and the arrays.
+-- And a plan laid over arrays is what they then stand for.
 -- Assumes nothing.
 use mathlib.Core.Bool.{true, false, _&&_}
-use mathlib.Core.List.{List, _++_}
-use mathlib.Core.Path.{_≡_, sym, ap₂, _∙_}
-use Prim.Native.Nat.{ℕ, _+_, _*_, _≤_}
+use mathlib.Core.List.{List, _++_, map}
+use mathlib.Core.Path.{_≡_, refl, sym, ap, ap₂, _∙_}
+use Prim.Native.Nat.{ℕ, _+_, _*_, _≤_, _<_}
 use native.Mathlib.Omega.{arith}
-use lib.ListN.{length, drop}
+use lib.ListN.{length, getD, drop, length-map, List·getD-append, List·getD-map}
 use Rattle.field.specs.Field.{Field, Octets, putAll}
-use Rattle.graph.specs.Graph.{states, count}
+use Rattle.graph.specs.Graph.{Graph, State, Transition, marked, states, count}
 use Rattle.rules.specs.Image.{image, imageLength, headerFields, stateFields, transitionFields, fieldsOfEach}
 use Rattle.rules.proofs.ReadWrite.{put-image}
 use Rattle.rules.specs.Limits.{all, within, stateCountOk, transitionCountOk, stateOk, transitionOk}
+use Rattle.rules.specs.Refusal.{Result, accepted, refused}
+use Rattle.rules.specs.Rules.{next}
 use Rattle.plan.specs.declared.Plan.{Plan}
-use Rattle.arrays.specs.Tables.{stateOf, statesOf, transitionOf, transitionsOf}
-use Rattle.plan.specs.View.{view}
-use Rattle.arrays.proofs.Lists.{length-tabulate}
+use Rattle.arrays.specs.Tables.{stateOf, statesOf, transitionOf, transitionsOf, over}
+use Rattle.plan.specs.Promise.{nextValue}
+use Rattle.plan.specs.View.{view, laid}
+use Rattle.arrays.proofs.Lists.{length-tabulate, tabulate-of, same-transition}
 
 -- a plan value's arrays have their lengths
 pub record Sized (p : Plan) : Type 0 where
@@ -67,3 +71,30 @@ put-view p b ho h =
     ap₂ (λ (n m : ℕ). putAll (putAll (putAll b 0 (headerFields n m)) 32 S) (32 + 8 * n) T) (sym (states-view p)) (sym (count-view p))
     ∙ put-image (view p) b ho (omega (arith, states-view p, count-view p))
     ∙ ap₂ (λ (n m : ℕ). image (view p) ++ drop (imageLength n m) b) (states-view p) (count-view p)
+
+-- a plan laid over the arrays of any plan value is what they then hold
+pub view-laid : (p : Plan) (g : Graph) → view (laid p g) ≡ g
+unfolding view laid
+view-laid p g = λ i. record {
+  stateList =
+      tabulate-of (marked 0) (g .stateList) (states g) (stateOf (over (map (λ (s : State). s .marks) (g .stateList)) (p .marks))) refl
+      (λ j h. ap marked (sym (at (λ (s : State). s .marks) (g .stateList) (p .marks) j (marked 0) refl h))) i;
+  transitions =
+      let ts = g .transitions in
+      let o : Transition = record { from = 0; to = 0; low = 0; high = 0 } in
+      tabulate-of o ts (length ts) (transitionOf (over (map (λ (t : Transition). t .from) ts) (p .from)) (over (map (λ (t : Transition). t .to) ts) (p .to))
+      (over (map (λ (t : Transition). t .low) ts) (p .low)) (over (map (λ (t : Transition). t .high) ts) (p .high))) refl
+      (λ j h. sym (same-transition
+      (at (λ (t : Transition). t .from) ts (p .from) j o refl h) (at (λ (t : Transition). t .to) ts (p .to) j o refl h)
+      (at (λ (t : Transition). t .low) ts (p .low) j o refl h) (at (λ (t : Transition). t .high) ts (p .high) j o refl h))) i;
+}
+  where
+    at : {A : Type 0} (part : A → ℕ) (l : List A) (before : List ℕ) (j : ℕ) (d : A) → part d ≡ 0 → j < length l → getD (over (map part l) before) j 0 ≡ part (getD l j d)
+    at part l before j d z h =
+        List·getD-append (map part l) (drop (length (map part l)) before) 0 j (omega (arith, length-map l part))
+        ∙ ap (λ (x : ℕ). getD (map part l) j x) (sym z) ∙ List·getD-map part l j d
+
+-- so the value after a call stands for the plan after it
+pub view-next : (p : Plan) (o : Result Graph) → view (nextValue p o) ≡ next (view p) o
+view-next p (accepted g) = view-laid p g
+view-next p (refused k) = refl

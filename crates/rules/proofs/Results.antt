@@ -7,7 +7,7 @@ use native.Mathlib.Nat.{not-suc-le-zero, le-of-suc-le-suc}
 use native.Mathlib.Omega.{arith}
 use lib.ListN.{length, getD, take, drop, set, replicate}
 use Rattle.rules.specs.declared.Refusal.{Refusal}
-use Rattle.rules.specs.Refusal.{number, Result, accepted, refused, _>>=_, _>>_, refuseIf, answerOf}
+use Rattle.rules.specs.Refusal.{number, Result, accepted, refused, _>>=_, _>>_, refuseIf, answerOf, code}
 use Rattle.rules.specs.Limits.{all}
 
 -- ---- accepted and refused results
@@ -44,6 +44,11 @@ accepted-as (refused k) e = absurd (never tt k (sym e))
 pub refused-as : {A : Type 0} (o : Result A) (k : ℕ) → refused k ≡ answerOf o → o ≡ refused k
 refused-as (accepted a) k e = absurd (never tt k e)
 refused-as (refused j) k e = let i : k ≡ j = cc in rw i
+
+-- a result and its answer have one number
+pub code-answer : {A : Type 0} (o : Result A) → code o ≡ code (answerOf o)
+code-answer (accepted a) = refl
+code-answer (refused k) = refl
 
 -- ---- tests
 

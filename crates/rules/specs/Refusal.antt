@@ -73,3 +73,8 @@ wrote (Written.Refused r) = refused (number r)
 abbrev pub outcome : {A : Type 0} → Answer → A → Result A
 outcome Accepted a = accepted a
 outcome (Refused r) a = refused (number r)
+
+-- an answer as one number: 256 for accepted, and otherwise the refusal's
+abbrev pub code : {A : Type 0} → Result A → ℕ
+code (accepted a) = 256
+code (refused k) = k

@@ -1,0 +1,4 @@
+pub mod ReadCalls
+pub mod Runs
+pub mod Promises
+pub mod Lists

@@ -1,0 +1,104 @@
+-- `replay::each_call` meets its contract. Assumes nothing.
+use Prim.Native.Nat.{ℕ, _-_, _≤_, _<_}
+use mathlib.Core.Bool.{true}
+use mathlib.Core.Path.{_≡_, sym, _∙_}
+use native.Mathlib.Omega.{arith}
+use borrow.Author.Count.{below-none, below-more}
+use borrow.Author.Needs.{needs}
+use borrow.Author.Tests.{not-true, not-false}
+use lib.ListN.{length}
+use Rattle.arrays.proofs.Lists.{all-tabulate, not-all-tabulate}
+use Rattle.replay.specs.Slices.{isCall, itemAt}
+use Rattle.replay.proofs.each_call.Statement.{statement}
+use Rattle.replay.proofs.each_call.Tie as tie
+use Rattle.replay.proofs.each_call.Reads as reads
+use Rattle.replay.proofs.each_call.Lts as lts
+use Rattle.replay.proofs.is_call.Reads as is-call-reads
+
+abbrev Inv-loop : tie.InvT-loop
+Inv-loop kinds arguments long i₀ i = (i ≤ length kinds) × ((k : ℕ) → k < i → isCall long (itemAt kinds arguments k) ≡ true)
+
+abbrev μ-loop : tie.MeasureT-loop
+μ-loop kinds arguments long i₀ i = length kinds - i
+
+-- src/lib.rt:66:5
+loop-holds : tie.Need-loop-holds Inv-loop μ-loop
+loop-holds c = (search needs, below-none _)
+
+-- src/lib.rt:67:18
+mul-at : tie.Need-mul-at Inv-loop μ-loop
+mul-at c = omega (arith, c .before .before .before .before .pre)
+
+-- src/lib.rt:68:21
+shared-slice-read-is-call : tie.Need-shared-slice-read-is-call Inv-loop μ-loop
+shared-slice-read-is-call c = search needs
+
+-- src/lib.rt:68:31
+mul-is-call : tie.Need-mul-is-call Inv-loop μ-loop
+mul-is-call c = search needs
+
+-- src/lib.rt:68:31
+shared-slice-read-is-call-2 : tie.Need-shared-slice-read-is-call-2 Inv-loop μ-loop
+shared-slice-read-is-call-2 c = omega (arith, c .before .before .before .before .before .before .pre)
+
+-- src/lib.rt:68:56
+add-is-call : tie.Need-add-is-call Inv-loop μ-loop
+add-is-call c = omega (arith, c .before .before .before .before .before .before .pre)
+
+-- src/lib.rt:68:46
+mul-is-call-2 : tie.Need-mul-is-call-2 Inv-loop μ-loop
+mul-is-call-2 c = search needs
+
+-- src/lib.rt:68:46
+shared-slice-read-is-call-3 : tie.Need-shared-slice-read-is-call-3 Inv-loop μ-loop
+shared-slice-read-is-call-3 c = omega (arith, c .before .before .before .before .before .before .before .pre)
+
+-- src/lib.rt:68:13
+is-call-requires : tie.Need-is-call-requires Inv-loop μ-loop
+is-call-requires c κs = search needs
+
+-- src/lib.rt:69:13
+returns : tie.Need-returns Inv-loop μ-loop
+returns c =
+    let a = c .before .before .before .before .before .before .before .before .before .args in
+    sym (not-all-tabulate (isCall (a .long)) (length (a .kinds .now)) (itemAt (a .kinds .now) (a .arguments .now)) (c .before .before .before .before .before .before .loop .i) (omega arith)
+    (sym (c .before .is-call .ensures) ∙ not-true _ (c .if1 .taken)))
+
+-- src/lib.rt:71:9
+add-i : tie.Need-add-i Inv-loop μ-loop
+add-i c = search needs
+
+-- src/lib.rt:66:5
+loop-less : tie.Need-loop-less Inv-loop μ-loop
+loop-less c = search needs
+
+-- src/lib.rt:66:5
+loop-again : tie.Need-loop-again Inv-loop μ-loop
+loop-again c = (omega arith, below-more _ _ (c .before .before .before .before .before .before .loop .inv .1) (sym (c .before .is-call .ensures) ∙ not-false _ (c .if1 .left)))
+
+-- src/lib.rt:61:1
+returns-2 : tie.Need-returns-2 Inv-loop μ-loop
+returns-2 c =
+    let a = c .before .before .before .before .args in
+    sym (all-tabulate (isCall (a .long)) (length (a .kinds .now)) (itemAt (a .kinds .now) (a .arguments .now)) (λ k h. c .before .loop .inv .1 k (omega arith)))
+
+pub each-call-spec : {M : Type 1} → statement M
+each-call-spec =
+    tie.close
+    (tie.spec
+    Inv-loop
+    μ-loop
+    loop-holds
+    mul-at
+    shared-slice-read-is-call
+    mul-is-call
+    shared-slice-read-is-call-2
+    add-is-call
+    mul-is-call-2
+    shared-slice-read-is-call-3
+    is-call-requires
+    returns
+    add-i
+    loop-less
+    loop-again
+    returns-2)

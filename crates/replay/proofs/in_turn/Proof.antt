@@ -1,0 +1,165 @@
+-- `replay::in_turn` meets its contract. Assumes nothing.
+use Prim.Native.Nat.{ℕ, _-_, _≤_}
+use mathlib.Core.List.{map}
+use mathlib.Core.Path.{_≡_, refl, ap, _∙_}
+use native.Mathlib.Omega.{arith}
+use borrow.Author.Needs.{needs}
+use lib.ListN.{length, length-set}
+use Rattle.replay.specs.Applied.{runValue}
+use Rattle.plan.specs.View.{view}
+use Rattle.rules.specs.Refusal.{code}
+use Rattle.rules.specs.Calls.{Call, run}
+use Rattle.arrays.specs.Tables.{over, tabulate}
+use Rattle.replay.proofs.Runs.{After, after-none, after-more}
+use Rattle.replay.specs.Slices.{callIn, itemAt, callsIn}
+use Rattle.replay.proofs.in_turn.Statement.{statement}
+use Rattle.replay.proofs.in_turn.Tie as tie
+use Rattle.replay.proofs.in_turn.Reads as reads
+use Rattle.replay.proofs.in_turn.Lts as lts
+use Rattle.replay.proofs.code.Reads as code-reads
+use Rattle.replay.proofs.perform.Reads as perform-reads
+
+abbrev Inv-loop : tie.InvT-loop
+Inv-loop kinds arguments octets answers₀ plan₀ i₀ answers plan i = (i ≤ length kinds) × (length answers ≡ length answers₀) × After (λ k. callIn octets (itemAt kinds arguments k)) plan₀ answers₀ i answers plan
+
+abbrev μ-loop : tie.MeasureT-loop
+μ-loop kinds arguments octets answers₀ plan₀ i₀ answers plan i = length kinds - i
+
+-- src/lib.rt:113:5
+loop-holds : tie.Need-loop-holds Inv-loop μ-loop
+loop-holds c = (search needs, refl, after-none _ _ _)
+
+-- src/lib.rt:114:18
+mul-at : tie.Need-mul-at Inv-loop μ-loop
+mul-at c = omega (arith, c .before .before .before .before .before .before .pre .four)
+
+-- src/lib.rt:115:17
+mul-a : tie.Need-mul-a Inv-loop μ-loop
+mul-a c = omega (arith, c .before .before .before .before .before .before .pre .four)
+
+-- src/lib.rt:115:17
+shared-slice-read-a : tie.Need-shared-slice-read-a Inv-loop μ-loop
+shared-slice-read-a c = omega (arith, c .before .before .before .before .before .before .before .pre .four)
+
+-- src/lib.rt:116:27
+add-b : tie.Need-add-b Inv-loop μ-loop
+add-b c = omega (arith, c .before .before .before .before .before .before .before .pre .four)
+
+-- src/lib.rt:116:17
+mul-b : tie.Need-mul-b Inv-loop μ-loop
+mul-b c = omega (arith, c .before .before .before .before .before .before .before .pre .four)
+
+-- src/lib.rt:116:17
+shared-slice-read-b : tie.Need-shared-slice-read-b Inv-loop μ-loop
+shared-slice-read-b c = omega (arith, c .before .before .before .before .before .before .before .before .pre .four)
+
+-- src/lib.rt:117:27
+add-c : tie.Need-add-c Inv-loop μ-loop
+add-c c = omega (arith, c .before .before .before .before .before .before .before .before .pre .four)
+
+-- src/lib.rt:117:17
+mul-c : tie.Need-mul-c Inv-loop μ-loop
+mul-c c = omega (arith, c .before .before .before .before .before .before .before .before .pre .four)
+
+-- src/lib.rt:117:17
+shared-slice-read-c : tie.Need-shared-slice-read-c Inv-loop μ-loop
+shared-slice-read-c c = omega (arith, c .before .before .before .before .before .before .before .before .before .pre .four)
+
+-- src/lib.rt:118:27
+add-d : tie.Need-add-d Inv-loop μ-loop
+add-d c = omega (arith, c .before .before .before .before .before .before .before .before .before .pre .four)
+
+-- src/lib.rt:118:17
+mul-d : tie.Need-mul-d Inv-loop μ-loop
+mul-d c = omega (arith, c .before .before .before .before .before .before .before .before .before .pre .four)
+
+-- src/lib.rt:118:17
+shared-slice-read-d : tie.Need-shared-slice-read-d Inv-loop μ-loop
+shared-slice-read-d c = omega (arith, c .before .before .before .before .before .before .before .before .before .before .pre .four)
+
+-- src/lib.rt:119:36
+shared-slice-read-perform : tie.Need-shared-slice-read-perform Inv-loop μ-loop
+shared-slice-read-perform c = search needs
+
+-- src/lib.rt:119:13
+perform-requires : tie.Need-perform-requires Inv-loop μ-loop
+perform-requires c κs = c .before .before .before .before .before .before .before .before .before .before .before .pre .each (c .before .before .before .before .before .before .loop .i) (omega arith)
+
+-- src/lib.rt:121:22
+code-requires : tie.Need-code-requires Inv-loop μ-loop
+code-requires c κs = search needs
+
+-- src/lib.rt:121:9
+mul-answers : tie.Need-mul-answers Inv-loop μ-loop
+mul-answers c = search needs
+
+-- src/lib.rt:121:9
+slice-write-answers : tie.Need-slice-write-answers Inv-loop μ-loop
+slice-write-answers c = omega (arith, c .before .before .before .before .before .before .before .before .before .before .before .before .before .pre .room)
+
+-- src/lib.rt:123:9
+add-i : tie.Need-add-i Inv-loop μ-loop
+add-i c = search needs
+
+-- src/lib.rt:113:5
+loop-less : tie.Need-loop-less Inv-loop μ-loop
+loop-less c = search needs
+
+-- src/lib.rt:113:5
+loop-again : tie.Need-loop-again Inv-loop μ-loop
+loop-again c =
+    let a = c .before .before .before .before .before .before .before .before .before .before .before .before .before .before .args in
+    let l = c .before .before .before .before .before .before .before .before .before .loop in (
+      omega arith,
+      length-set (l .answers) (l .i) _ ∙ l .inv .1,
+      rw (c .before .code .ensures)
+          (after-more (λ k. callIn (a .octets .now) (itemAt (a .kinds .now) (a .arguments .now) k)) (a .first) (a .answers .now) (l .i) (l .answers) (l .plan) (c .before .before .perform .result)
+          (omega (arith, c .before .before .before .before .before .before .before .before .before .before .before .before .before .before .pre .room)) (l .inv .2) (c .before .before .perform .ensures)),
+    )
+
+-- src/lib.rt:106:1
+same-length : tie.Need-same-length Inv-loop μ-loop
+same-length c = c .before .loop .inv .1
+
+-- src/lib.rt:106:1
+returns : tie.Need-returns Inv-loop μ-loop
+unfolding callsIn
+returns c =
+    let a = c .before .before .before .before .before .before .args in
+    let l = c .before .loop in
+    let e : l .i ≡ length (a .kinds .now) = omega arith in
+    let f : ℕ → Call = λ k. callIn (a .octets .now) (itemAt (a .kinds .now) (a .arguments .now) k) in
+    record {
+      answers = l .inv .2 .answers ∙ ap (λ (n : ℕ). over (map code (run (view (a .first)) (tabulate n f) .answers)) (a .answers .now)) e;
+      whole = l .inv .2 .whole ∙ ap (λ (n : ℕ). runValue (a .first) (tabulate n f)) e;
+    }
+
+pub in-turn-spec : {M : Type 1} → statement M
+in-turn-spec =
+    tie.close
+    (tie.spec
+    Inv-loop
+    μ-loop
+    loop-holds
+    mul-at
+    mul-a
+    shared-slice-read-a
+    add-b
+    mul-b
+    shared-slice-read-b
+    add-c
+    mul-c
+    shared-slice-read-c
+    add-d
+    mul-d
+    shared-slice-read-d
+    shared-slice-read-perform
+    perform-requires
+    code-requires
+    mul-answers
+    slice-write-answers
+    add-i
+    loop-less
+    loop-again
+    same-length
+    returns)

@@ -1,0 +1,18 @@
+-- `replay::part_ok` meets its contract. Assumes nothing.
+use Prim.Native.Nat.{_-_}
+use borrow.Author.Tests.{le-leb, lt-leb}
+use Rattle.replay.proofs.part_ok.Statement.{statement}
+use Rattle.replay.proofs.part_ok.Tie as tie
+use Rattle.replay.proofs.part_ok.Reads as reads
+use Rattle.replay.proofs.part_ok.Lts as lts
+
+-- src/lib.rt:44:1
+returns : tie.Need-returns
+returns c = rw (le-leb _ _ (c .if1 .taken))
+
+-- src/lib.rt:44:1
+returns-2 : tie.Need-returns-2
+returns-2 c = rw (lt-leb _ _ (c .if1 .left))
+
+pub part-ok-spec : {M : Type 1} → statement M
+part-ok-spec = tie.close (tie.spec returns returns-2)

@@ -1,0 +1,53 @@
+-- A list of calls in lent slices: for each call a kind and four arguments, and for a read the start and the end of its octets in one lent slice.
+-- Assumes nothing.
+use mathlib.Core.Bool.{Bool, _&&_, _||_}
+use mathlib.Core.List.{List}
+use Prim.Native.Nat.{ℕ, zero, suc, _+_, _-_, _*_, _/_}
+use lib.Dec.{leb, ltb, eqb}
+use lib.ListN.{length, getD, take, drop}
+use Rattle.arrays.specs.Tables.{tabulate, transition}
+use Rattle.rules.specs.Calls.{Call, mark, join, unjoin, read}
+use Rattle.rules.specs.Limits.{all, stateCountOk}
+
+-- a kind and four arguments
+pub record Item : Type 0 where
+  pub kind : ℕ
+  pub a : ℕ
+  pub b : ℕ
+  pub c : ℕ
+  pub d : ℕ
+
+-- the item numbered i
+abbrev pub itemAt : List ℕ → List ℕ → ℕ → Item
+itemAt kinds arguments i = record {
+  kind = getD kinds i 0;
+  a = getD arguments (4 * i) 0;
+  b = getD arguments (4 * i + 1) 0;
+  c = getD arguments (4 * i + 2) 0;
+  d = getD arguments (4 * i + 3) 0;
+}
+
+-- the call that an item stands for: 0 mark (state, value), 1 join (from, to, low, high), 2 unjoin (number), 3 read (start, end)
+abbrev pub callOf : List ℕ → ℕ → ℕ → ℕ → ℕ → ℕ → Call
+callOf octets zero a b c d = mark a b
+callOf octets (suc zero) a b c d = join (transition a b c d)
+callOf octets (suc (suc zero)) a b c d = unjoin a
+callOf octets (suc (suc (suc k))) a b c d = read (take (b - a) (drop a octets))
+
+abbrev pub callIn : List ℕ → Item → Call
+callIn octets t = callOf octets (t .kind) (t .a) (t .b) (t .c) (t .d)
+
+-- it is a call: of a known kind, and a read's part lies within so many octets
+abbrev pub isCall : ℕ → Item → Bool
+isCall long t = ltb (t .kind) 3 || (eqb (t .kind) 3 && (leb (t .a) (t .b) && leb (t .b) long))
+
+-- the calls that the slices stand for, one for each kind
+unfoldable pub callsIn : List ℕ → List ℕ → List ℕ → List Call
+callsIn kinds arguments octets = tabulate (length kinds) (λ i. callIn octets (itemAt kinds arguments i))
+
+-- they are a list of calls from a fresh plan of n states: n is a number of states, there are four arguments for each kind and a place for each
+-- answer, and every item is a call
+unfoldable pub areCalls : ℕ → List ℕ → List ℕ → List ℕ → List ℕ → Bool
+areCalls n kinds arguments octets answers =
+    stateCountOk n && (leb (length kinds) (length arguments / 4) && (leb (length kinds) (length answers)
+    && all (isCall (length octets)) (tabulate (length kinds) (itemAt kinds arguments))))
