@@ -17,7 +17,7 @@ use Rattle.rules.specs.declared.Quote.{Quote}
 use Rattle.rules.specs.declared.Quotation.{Quotation}
 use Rattle.rules.specs.declared.Quotation.the-variants.{Quoted, Refused}
 use Rattle.rules.specs.Quotations.{Says, Shows, Quotes, quoteRule, saidQuotation, meant}
-use Rattle.rules.specs.Refusal.{Result, accepted, refused}
+use Rattle.rules.specs.Refusal.{Result, accepted, refused, code}
 use Rattle.rules.specs.Refusal.{number as numberOf}
 use Rattle.rules.proofs.ReadWrite.{limited}
 use Rattle.rules.proofs.Results.{never, and-true}
@@ -25,7 +25,7 @@ use Rattle.arrays.specs.Tables.{over}
 use Rattle.plan.specs.declared.Plan.{Plan}
 use Rattle.plan.specs.View.{view}
 use Rattle.quotation.proofs.Asked.{accepted-within}
-use Rattle.binding.specs.Lent.{Slices, hasRoom, planIn, code}
+use Rattle.binding.specs.Lent.{Slices, hasRoom, planIn}
 use Rattle.binding.specs.Quoted.{Small, Answered, Stands, canAnswer, LentQuote}
 use Rattle.binding.proofs.Stores.{true-false}
 

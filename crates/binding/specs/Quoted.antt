@@ -12,10 +12,10 @@ use Rattle.rules.specs.declared.Quote.{Quote}
 use Rattle.rules.specs.declared.Quotation.{Quotation}
 use Rattle.rules.specs.declared.Quotation.the-variants.{Quoted, Refused}
 use Rattle.rules.specs.Quotations.{Says, quoteRule, meant}
-use Rattle.rules.specs.Refusal.{accepted, refused, number}
+use Rattle.rules.specs.Refusal.{accepted, refused, number, code}
 use Rattle.arrays.specs.Tables.{over}
 use Rattle.plan.specs.View.{view}
-use Rattle.binding.specs.Lent.{Slices, hasRoom, planIn, code}
+use Rattle.binding.specs.Lent.{Slices, hasRoom, planIn}
 
 -- a figure's answer as four numbers: "a kind (0 number, 1 NONE, 2 STRANDED, 3 ENDLESS) and a figure, zero unless the kind is 0", k and j
 abbrev pub numbers : Figure → ℕ → ℕ → List ℕ
