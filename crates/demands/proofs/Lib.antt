@@ -8,3 +8,5 @@ pub mod Demands
 pub mod Impostors
 -- The promises can be kept.
 pub mod Answers
+-- What an accepted record holds.
+pub mod Record

@@ -1,3 +1,4 @@
 pub mod Calculator
 pub mod Table
 pub mod Demands
+pub mod Record

@@ -53,9 +53,10 @@ value-fits : (f : Figure) → tooLarge f ≡ false → value f < 2 ^ 20
 value-fits f h = omega (arith, ltb-false 1048575 (value f) h)
 
 module _ (g : Graph) (buffer : List ℕ) (n : ℕ) (e : recordRule g buffer ≡ accepted n) where
-  grounds : (n ≡ 11) × (tooLarge (leastDelay g) || tooLarge (greatestDelay g) || tooLarge (leastCount g) || tooLarge (greatestCount g) ≡ false)
+  -- what an accepted record says of the length and of the figures
+  pub accepted-record : (n ≡ 11) × (tooLarge (leastDelay g) || tooLarge (greatestDelay g) || tooLarge (leastCount g) || tooLarge (greatestCount g) ≡ false)
   unfolding recordRule
-  grounds =
+  accepted-record =
       let large : Bool = tooLarge (leastDelay g) || tooLarge (greatestDelay g) || tooLarge (leastCount g) || tooLarge (greatestCount g) in
       let r3 : Result ℕ = refuseIf large FigureSize >> accepted 11 in
       let p = then-accepted (givenPlan g) (refuseIf (ltb (length buffer) 11) BufferLength >> r3) n e in
@@ -66,7 +67,7 @@ module _ (g : Graph) (buffer : List ℕ) (n : ℕ) (e : recordRule g buffer ≡ 
   record-fits : AllFit (recordFields g)
   unfolding recordFields AllFit
   record-fits =
-      let (abc, d) = neither (tooLarge (leastDelay g) || tooLarge (greatestDelay g) || tooLarge (leastCount g)) (tooLarge (greatestCount g)) (grounds .1) in
+      let (abc, d) = neither (tooLarge (leastDelay g) || tooLarge (greatestDelay g) || tooLarge (leastCount g)) (tooLarge (greatestCount g)) (accepted-record .1) in
       let (ab, c) = neither (tooLarge (leastDelay g) || tooLarge (greatestDelay g)) (tooLarge (leastCount g)) abc in
       let (a, b) = neither (tooLarge (leastDelay g)) (tooLarge (greatestDelay g)) ab in (
         kind-fits (leastDelay g),

@@ -1,0 +1,38 @@
+-- What an accepted record holds, of whatever keeps the promises: the record's octets are at the front, and their fields read back as the four kinds and
+-- figures (rules' `record-read`). Assumes nothing.
+use mathlib.Core.List.{List, [], _∷_, _++_}
+use mathlib.Core.Path.{_≡_, sym, ap, _∙_}
+use Prim.Native.Nat.{ℕ}
+use lib.ListN.{getD, drop}
+use Rattle.field.specs.Field.{Field, unpack}
+use Rattle.graph.specs.Graph.{Graph}
+use Rattle.rules.specs.declared.Written.the-variants.{Length}
+use Rattle.rules.specs.Image.{field}
+use Rattle.rules.specs.Quotations.{recordFields, recordOctets, recordRule}
+use Rattle.rules.specs.Refusal.{accepted}
+use Rattle.rules.specs.Rules.{written}
+use Rattle.rules.proofs.Record.{length-record, accepted-record, record-read}
+use Rattle.plan.specs.declared.Plan.{Plan}
+use Rattle.plan.specs.View.{view}
+use Rattle.demands.specs.Calculator.{Calculator, Promises}
+use Rattle.demands.specs.Record.{Recorded}
+
+valueAt : ℕ → List Field → ℕ
+valueAt i fs = getD fs i (field 0 0) .value
+
+pub recorded : (c : Calculator) → Promises c → {p : Plan} {before after : List ℕ} (n : ℕ) → c .records p before after (Length n)
+    → Recorded (view p) before after
+unfolding recordFields unpack valueAt
+recorded c keeps {p} {before} {after} n x =
+    let g : Graph = view p in
+    let a : recordRule g before ≡ accepted n = sym (keeps .records x .answer) in
+    let e : after ≡ recordOctets g ++ drop n before = keeps .records x .buffer ∙ ap (written (recordOctets g) before) a in
+    let f = ap (λ (os : List ℕ). unpack os 0 (2 ∷ 20 ∷ 2 ∷ 20 ∷ 2 ∷ 20 ∷ 2 ∷ 20 ∷ [])) e ∙ record-read g before n a (drop n before) in
+    record {
+      octets = e ∙ ap {B = List ℕ} (λ (k : ℕ). recordOctets g ++ drop k before) (accepted-record g before n a .0);
+      long = length-record g;
+      least-delay = (ap (valueAt 0) f, ap (valueAt 1) f);
+      greatest-delay = (ap (valueAt 2) f, ap (valueAt 3) f);
+      least-count = (ap (valueAt 4) f, ap (valueAt 5) f);
+      greatest-count = (ap (valueAt 6) f, ap (valueAt 7) f);
+    }
