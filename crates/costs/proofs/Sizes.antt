@@ -15,6 +15,7 @@ use Rattle.graph.specs.Compute.{least, greatest, leastDelay, greatestDelay, lea
 use Rattle.rules.specs.Limits.{within}
 use Rattle.rules.specs.Quotations.{LeastDelay, GreatestDelay, LeastCount, GreatestCount, tooLarge, recordRule}
 use Rattle.rules.specs.Refusal.{accepted, refused}
+use Rattle.rules.proofs.Basic.{record-0, record-11, record-done as done-where}
 use Rattle.rules.proofs.Figures.{least-exists, greatest-exists, least-delay-bound, greatest-delay-bound, least-count-bound, greatest-count-bound}
 
 -- a figure whose number has a bound: its value in the record has it too
@@ -81,22 +82,13 @@ module _ (g : Graph) (w : within g ≡ true) where
 
 -- so the record is refused by 0, or by 11, or accepted, and never refused by 13
 module _ (g : Graph) (buffer : List ℕ) where
-  pub record-0 : within g ≡ false → recordRule g buffer ≡ refused 0
-  unfolding recordRule
-  record-0 w = rw w
-
-  pub record-11 : within g ≡ true → ltb (length buffer) 11 ≡ true → recordRule g buffer ≡ refused 11
-  unfolding recordRule
-  record-11 w l = rw (w, l)
-
   pub record-done : within g ≡ true → ltb (length buffer) 11 ≡ false → recordRule g buffer ≡ accepted 11
-  unfolding recordRule
-  record-done w l = rw (w, l, none-too-large g w)
+  record-done w l = done-where g buffer w l (none-too-large g w)
 
   pub record-never-13 : recordRule g buffer ≡ refused 13 → ⊥
   record-never-13 e = go (within g) (ltb (length buffer) 11) refl refl
     where
       go : (b short : Bool) → within g ≡ b → ltb (length buffer) 11 ≡ short → ⊥
-      go false short w l = let z : _≡_ {A = ℕ} 0 1 = cc (record-0 w) in omega arith
-      go true true w l = let z : _≡_ {A = ℕ} 0 1 = cc (record-11 w l) in omega arith
+      go false short w l = let z : _≡_ {A = ℕ} 0 1 = cc (record-0 g buffer w) in omega arith
+      go true true w l = let z : _≡_ {A = ℕ} 0 1 = cc (record-11 g buffer w l) in omega arith
       go true false w l = let z : _≡_ {A = ℕ} 0 1 = cc (record-done w l) in omega arith

@@ -1,8 +1,9 @@
 -- The driver's promise from those of the calls that it makes: what is no list of calls gets the plan of a refused fresh, and a list of calls is a run
--- from the plan of an accepted one. Assumes nothing.
+-- from the plan of an accepted one. The quotations are of the plan value that is returned, so of the run's plan; where there was no list of calls it has no
+-- states, and each is refused by 0. Assumes nothing.
 use mathlib.Core.Bool.{true, false}
 use mathlib.Core.List.{List, map}
-use mathlib.Core.Path.{_≡_, refl, ap, _∙_}
+use mathlib.Core.Path.{_≡_, refl, ap, _∙_, subst}
 use Prim.Native.Nat.{ℕ, _/_}
 use native.Mathlib.Omega.{arith}
 use borrow.Author.Tests.{leb-true}
@@ -13,14 +14,19 @@ use Rattle.arrays.specs.Tables.{over}
 use Rattle.arrays.proofs.Lists.{all-at}
 use Rattle.rules.specs.Calls.{Call, run}
 use Rattle.rules.specs.Limits.{stateCountOk}
-use Rattle.rules.specs.Refusal.{code}
+use Rattle.rules.specs.declared.Quotation.{Quotation}
+use Rattle.rules.specs.Quotations.{Says, Quotes, saidQuotation, quoteRule}
+use Rattle.rules.specs.Refusal.{code, refused}
 use Rattle.rules.specs.Rules.{freshRule, freshGraph, next}
-use Rattle.rules.proofs.Basic.{fresh-4, fresh-done}
+use Rattle.rules.proofs.Basic.{fresh-4, fresh-done, quote-0}
 use Rattle.rules.proofs.Results.{and-true}
 use Rattle.plan.specs.declared.Edited.{Edited}
 use Rattle.plan.specs.declared.Plan.{Plan}
 use Rattle.plan.specs.Promise.{Edit, nextValue}
 use Rattle.plan.specs.View.{view, laid, noPlan}
+use Rattle.plan.proofs.Values.{within-view}
+use Rattle.replay.specs.declared.Replayed.{Replayed}
+use Rattle.replay.specs.Replayed.{Walks, Four, Replays}
 use Rattle.replay.specs.declared.Outcome.the-variants.{Done, NoCalls}
 use Rattle.replay.specs.Applied.{Applies, Callable, InTurn, runValue}
 use Rattle.replay.specs.Slices.{itemAt, isCall, callsIn, areCalls}
@@ -42,7 +48,7 @@ module _ (n : ℕ) (kinds arguments octets before : List ℕ) where
       never h = let z : _≡_ {A = ℕ} 0 1 = cc in omega arith
 
   module _ (are : areCalls n kinds arguments octets before ≡ true) where
-    n-ok : stateCountOk n ≡ true
+    pub n-ok : stateCountOk n ≡ true
     unfolding areCalls
     n-ok = and-true (stateCountOk n) _ are .0
 
@@ -73,3 +79,32 @@ module _ (n : ℕ) (kinds arguments octets before : List ℕ) where
           plan = λ h. ap view (t .whole) ∙ view-value (e .plan) calls ∙ ap (λ (g : Graph). run g calls .last) v;
           whole = λ h. t .whole ∙ ap (λ (p : Plan). runValue p calls) w;
         }
+
+-- ---- the quotations
+
+-- of the plan value with no states each is refused by 0, and leaves its places
+none-quoted : {P : Says} {before after : List ℕ} {q : Quotation} → Quotes P (view noPlan) before after q → (saidQuotation q ≡ refused 0) × (after ≡ before)
+none-quoted {P} {before} x =
+    let r : quoteRule (view noPlan) before ≡ refused 0 = quote-0 (view noPlan) before (within-view noPlan) in
+    (x .answer ∙ r, x .kept 0 r)
+
+pub replayed : (n : ℕ) (kinds arguments octets before after : List ℕ) (lent left : Walks) (r : Replayed)
+    → Applies n kinds arguments octets before after (r .applied) → Four (view (r .applied .plan)) lent left r
+    → Replays n kinds arguments octets before after lent left r
+replayed n kinds arguments octets before after lent left r x f = record {
+  list = x;
+  quoted = λ are. subst (λ (g : Graph). Four g lent left r) (x .plan are) f;
+  none-quoted = λ are-not.
+      let f₀ : Four (view noPlan) lent left r = subst (λ (p : Plan). Four (view p) lent left r) (x .no-calls are-not .1) f in
+      let (a, a′) = none-quoted (f₀ .least-delay) in
+      let (b, b′) = none-quoted (f₀ .greatest-delay) in
+      let (c, c′) = none-quoted (f₀ .least-count) in
+      let (d, d′) = none-quoted (f₀ .greatest-count) in
+      record {
+        least-delay = a;
+        greatest-delay = b;
+        least-count = c;
+        greatest-count = d;
+        places = λ i. record { least-delay = a′ i; greatest-delay = b′ i; least-count = c′ i; greatest-count = d′ i };
+      };
+}

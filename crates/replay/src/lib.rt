@@ -1,4 +1,4 @@
-// Lists of calls on a plan, lent as slices of numbers, applied in turn from a fresh plan.
+// Lists of calls on a plan, lent as slices of numbers: applied in turn from a fresh plan, and the last plan quoted.
 ghost use mathlib.Core.Path.{_≡_};
 ghost use mathlib.Core.Bool.{true, _&&_, _||_};
 ghost use lib.Dec.{leb, ltb, eqb};
@@ -12,11 +12,13 @@ ghost use Rattle.rules.specs.Refusal.{code as codeOf, said};
 ghost use Rattle.plan.specs.Promise.{Edit};
 ghost use Rattle.plan.specs.View.{view, noPlan};
 ghost use Rattle.replay.specs.Slices.{callOf, isCall, itemAt, callsIn, areCalls};
+ghost use Rattle.replay.specs.Replayed.{Replays, walks};
 ghost use Rattle.replay.specs.Applied.{Applies, Callable, InTurn};
 use arrays::limits;
 use plan::Edited;
 use plan::Plan;
 use rules::Answer;
+use rules::Quotation;
 
 // Whether the slices were a list of calls, which was then applied.
 pub enum Outcome {
@@ -28,6 +30,19 @@ pub enum Outcome {
 pub struct Applied {
     pub outcome: Outcome,
     pub plan: Plan,
+}
+
+// The quotations of a least and of a greatest figure.
+pub struct Quoted {
+    pub least: Quotation,
+    pub greatest: Quotation,
+}
+
+// What came of a list of calls, and the four quotations of the plan after it.
+pub struct Replayed {
+    pub applied: Applied,
+    pub delay: Quoted,
+    pub count: Quoted,
 }
 
 // An answer as one number: 256 for accepted, or the refusal's.
@@ -119,18 +134,18 @@ fn in_turn(
         (now (answers .entry)) (now (answers .exit)) r ⌝ }
 {
     let mut plan = first;
-    let mut i = 0;
-    while i < kinds.len() {
-        let at = 4 * i;
+    let mut turn = 0;
+    while turn < kinds.len() {
+        let at = 4 * turn;
         let a = arguments[at];
         let b = arguments[at + 1];
         let c = arguments[at + 2];
         let d = arguments[at + 3];
-        let edited = perform(plan, kinds[i], a, b, c, d, octets);
+        let edited = perform(plan, kinds[turn], a, b, c, d, octets);
         let answer = edited.answer;
-        answers[i] = code(answer);
+        answers[turn] = code(answer);
         plan = edited.plan;
-        i += 1;
+        turn += 1;
     }
     plan
 }
@@ -158,5 +173,42 @@ pub fn apply(
     Applied {
         outcome: Outcome::Done,
         plan,
+    }
+}
+
+// Applies a list of calls to a fresh plan of n states, and quotes the plan after it. A slice is lent for each walk: those of the least and the
+// greatest delay, and those of the least and the greatest count.
+pub fn replay(
+    n: usize,
+    kinds: &[u8],
+    arguments: &[usize],
+    octets: &[u8],
+    answers: &mut [u32],
+    shortest: &mut [u16],
+    longest: &mut [u16],
+    fewest: &mut [u16],
+    most: &mut [u16],
+) -> Replayed
+    ensures { λ r. ⌜ Replays n (now (kinds .entry)) (now (arguments .entry)) (now (octets .entry))
+        (now (answers .entry)) (now (answers .exit))
+        (walks (now (shortest .entry)) (now (longest .entry)) (now (fewest .entry)) (now (most .entry)))
+        (walks (now (shortest .exit)) (now (longest .exit)) (now (fewest .exit)) (now (most .exit))) r ⌝ }
+{
+    let applied = apply(n, kinds, arguments, octets, answers);
+    let plan = applied.plan;
+    let least_delay = quotation::least_delay(plan, shortest);
+    let greatest_delay = quotation::greatest_delay(plan, longest);
+    let least_count = quotation::least_count(plan, fewest);
+    let greatest_count = quotation::greatest_count(plan, most);
+    Replayed {
+        applied,
+        delay: Quoted {
+            least: least_delay,
+            greatest: greatest_delay,
+        },
+        count: Quoted {
+            least: least_count,
+            greatest: greatest_count,
+        },
     }
 }

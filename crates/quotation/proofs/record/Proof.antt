@@ -13,7 +13,8 @@ use lib.ListN.{length, getD, set, take, drop, length-set}
 use lib.Seq.{getD-set-same, getD-set-other}
 use borrow.Author.Needs.{needs}
 use Rattle.quotation.proofs.Recorded.{put-record, record-refusal, record-acceptance}
-use Rattle.costs.proofs.Sizes.{least-delay-value, greatest-delay-value, least-count-value, greatest-count-value, record-0, record-11, record-done}
+use Rattle.costs.proofs.Sizes.{least-delay-value, greatest-delay-value, least-count-value, greatest-count-value, record-done}
+use Rattle.rules.proofs.Basic.{record-0, record-11}
 use Rattle.plan.specs.View.{view}
 use Rattle.rules.specs.Quotations.{meant, figureFields}
 use Rattle.rules.specs.Limits.{within}

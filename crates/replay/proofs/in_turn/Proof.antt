@@ -83,7 +83,7 @@ shared-slice-read-perform c = search needs
 
 -- src/lib.rt:119:13
 perform-requires : tie.Need-perform-requires Inv-loop μ-loop
-perform-requires c κs = c .before .before .before .before .before .before .before .before .before .before .before .pre .each (c .before .before .before .before .before .before .loop .i) (omega arith)
+perform-requires c κs = c .before .before .before .before .before .before .before .before .before .before .before .pre .each (c .before .before .before .before .before .before .loop .turn) (omega arith)
 
 -- src/lib.rt:121:22
 code-requires : tie.Need-code-requires Inv-loop μ-loop
@@ -98,8 +98,8 @@ slice-write-answers : tie.Need-slice-write-answers Inv-loop μ-loop
 slice-write-answers c = omega (arith, c .before .before .before .before .before .before .before .before .before .before .before .before .before .pre .room)
 
 -- src/lib.rt:123:9
-add-i : tie.Need-add-i Inv-loop μ-loop
-add-i c = search needs
+add-turn : tie.Need-add-turn Inv-loop μ-loop
+add-turn c = search needs
 
 -- src/lib.rt:113:5
 loop-less : tie.Need-loop-less Inv-loop μ-loop
@@ -111,9 +111,9 @@ loop-again c =
     let a = c .before .before .before .before .before .before .before .before .before .before .before .before .before .before .args in
     let l = c .before .before .before .before .before .before .before .before .before .loop in (
       omega arith,
-      length-set (l .answers) (l .i) _ ∙ l .inv .1,
+      length-set (l .answers) (l .turn) _ ∙ l .inv .1,
       rw (c .before .code .ensures)
-          (after-more (λ k. callIn (a .octets .now) (itemAt (a .kinds .now) (a .arguments .now) k)) (a .first) (a .answers .now) (l .i) (l .answers) (l .plan) (c .before .before .perform .result)
+          (after-more (λ k. callIn (a .octets .now) (itemAt (a .kinds .now) (a .arguments .now) k)) (a .first) (a .answers .now) (l .turn) (l .answers) (l .plan) (c .before .before .perform .result)
           (omega (arith, c .before .before .before .before .before .before .before .before .before .before .before .before .before .before .pre .room)) (l .inv .2) (c .before .before .perform .ensures)),
     )
 
@@ -127,7 +127,7 @@ unfolding callsIn
 returns c =
     let a = c .before .before .before .before .before .before .args in
     let l = c .before .loop in
-    let e : l .i ≡ length (a .kinds .now) = omega arith in
+    let e : l .turn ≡ length (a .kinds .now) = omega arith in
     let f : ℕ → Call = λ k. callIn (a .octets .now) (itemAt (a .kinds .now) (a .arguments .now) k) in
     record {
       answers = l .inv .2 .answers ∙ ap (λ (n : ℕ). over (map code (run (view (a .first)) (tabulate n f) .answers)) (a .answers .now)) e;
@@ -158,7 +158,7 @@ in-turn-spec =
     code-requires
     mul-answers
     slice-write-answers
-    add-i
+    add-turn
     loop-less
     loop-again
     same-length
