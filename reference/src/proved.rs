@@ -25,7 +25,7 @@ pub const OUT: usize = 4;
 pub const WALKS: usize = 4 * MAX_STATES;
 
 extern "C" {
-    fn callplan_fresh(
+    fn callplan_lent_fresh(
         n: usize,
         counts: *mut usize,
         counts_len: usize,
@@ -35,7 +35,7 @@ extern "C" {
         fields_len: usize,
     ) -> u32;
 
-    fn callplan_mark(
+    fn callplan_lent_mark(
         counts: *mut usize,
         counts_len: usize,
         marks: *mut u8,
@@ -46,7 +46,7 @@ extern "C" {
         value: u32,
     ) -> u32;
 
-    fn callplan_join(
+    fn callplan_lent_join(
         counts: *mut usize,
         counts_len: usize,
         marks: *mut u8,
@@ -59,7 +59,7 @@ extern "C" {
         high: u32,
     ) -> u32;
 
-    fn callplan_unjoin(
+    fn callplan_lent_unjoin(
         counts: *mut usize,
         counts_len: usize,
         marks: *mut u8,
@@ -69,7 +69,7 @@ extern "C" {
         number: usize,
     ) -> u32;
 
-    fn callplan_read(
+    fn callplan_lent_read(
         counts: *mut usize,
         counts_len: usize,
         marks: *mut u8,
@@ -80,7 +80,7 @@ extern "C" {
         octets_len: usize,
     ) -> u32;
 
-    fn callplan_write(
+    fn callplan_lent_write(
         counts: *const usize,
         counts_len: usize,
         marks: *const u8,
@@ -94,7 +94,7 @@ extern "C" {
 
 #[cfg(feature = "quotations")]
 extern "C" {
-    fn callplan_least_delay(
+    fn callplan_lent_least_delay(
         counts: *const usize,
         counts_len: usize,
         marks: *const u8,
@@ -107,7 +107,7 @@ extern "C" {
         out_len: usize,
     ) -> u32;
 
-    fn callplan_greatest_delay(
+    fn callplan_lent_greatest_delay(
         counts: *const usize,
         counts_len: usize,
         marks: *const u8,
@@ -120,7 +120,7 @@ extern "C" {
         out_len: usize,
     ) -> u32;
 
-    fn callplan_least_count(
+    fn callplan_lent_least_count(
         counts: *const usize,
         counts_len: usize,
         marks: *const u8,
@@ -133,7 +133,7 @@ extern "C" {
         out_len: usize,
     ) -> u32;
 
-    fn callplan_greatest_count(
+    fn callplan_lent_greatest_count(
         counts: *const usize,
         counts_len: usize,
         marks: *const u8,
@@ -146,7 +146,7 @@ extern "C" {
         out_len: usize,
     ) -> u32;
 
-    fn callplan_record(
+    fn callplan_lent_record(
         counts: *const usize,
         counts_len: usize,
         marks: *const u8,
@@ -182,7 +182,7 @@ impl LentPlan {
 
     pub fn fresh(&mut self, n: usize) -> u32 {
         unsafe {
-            callplan_fresh(
+            callplan_lent_fresh(
                 n,
                 self.counts.as_mut_ptr(),
                 self.counts.len(),
@@ -196,7 +196,7 @@ impl LentPlan {
 
     pub fn mark(&mut self, state: usize, value: u32) -> u32 {
         unsafe {
-            callplan_mark(
+            callplan_lent_mark(
                 self.counts.as_mut_ptr(),
                 self.counts.len(),
                 self.marks.as_mut_ptr(),
@@ -211,7 +211,7 @@ impl LentPlan {
 
     pub fn join(&mut self, transition: Transition) -> u32 {
         unsafe {
-            callplan_join(
+            callplan_lent_join(
                 self.counts.as_mut_ptr(),
                 self.counts.len(),
                 self.marks.as_mut_ptr(),
@@ -228,7 +228,7 @@ impl LentPlan {
 
     pub fn unjoin(&mut self, number: usize) -> u32 {
         unsafe {
-            callplan_unjoin(
+            callplan_lent_unjoin(
                 self.counts.as_mut_ptr(),
                 self.counts.len(),
                 self.marks.as_mut_ptr(),
@@ -242,7 +242,7 @@ impl LentPlan {
 
     pub fn read(&mut self, octets: &[u8]) -> u32 {
         unsafe {
-            callplan_read(
+            callplan_lent_read(
                 self.counts.as_mut_ptr(),
                 self.counts.len(),
                 self.marks.as_mut_ptr(),
@@ -257,7 +257,7 @@ impl LentPlan {
 
     pub fn write(&self, buffer: &mut [u8]) -> u32 {
         unsafe {
-            callplan_write(
+            callplan_lent_write(
                 self.counts.as_ptr(),
                 self.counts.len(),
                 self.marks.as_ptr(),
@@ -318,10 +318,10 @@ impl LentPlan {
     /// Quotes a figure, the walk into `walk` and the rest of the answer into `out`.
     pub fn quote(&self, figure: Figure, walk: &mut [u16], out: &mut [u32]) -> u32 {
         let call = match figure {
-            Figure::LeastDelay => callplan_least_delay,
-            Figure::GreatestDelay => callplan_greatest_delay,
-            Figure::LeastCount => callplan_least_count,
-            Figure::GreatestCount => callplan_greatest_count,
+            Figure::LeastDelay => callplan_lent_least_delay,
+            Figure::GreatestDelay => callplan_lent_greatest_delay,
+            Figure::LeastCount => callplan_lent_least_count,
+            Figure::GreatestCount => callplan_lent_greatest_count,
         };
         unsafe {
             call(
@@ -341,7 +341,7 @@ impl LentPlan {
 
     pub fn record(&self, buffer: &mut [u8]) -> u32 {
         unsafe {
-            callplan_record(
+            callplan_lent_record(
                 self.counts.as_ptr(),
                 self.counts.len(),
                 self.marks.as_ptr(),

@@ -144,7 +144,7 @@ fn finish(edited: Edited, counts: &mut [usize], marks: &mut [u8], fields: &mut [
 
 // A fresh plan with n states.
 #[no_mangle]
-pub extern "C" fn callplan_fresh(
+pub extern "C" fn callplan_lent_fresh(
     n: usize,
     counts: &mut [usize],
     marks: &mut [u8],
@@ -163,7 +163,7 @@ pub extern "C" fn callplan_fresh(
 
 // Makes a state's marks value the value given.
 #[no_mangle]
-pub extern "C" fn callplan_mark(
+pub extern "C" fn callplan_lent_mark(
     counts: &mut [usize],
     marks: &mut [u8],
     fields: &mut [u16],
@@ -189,7 +189,7 @@ pub extern "C" fn callplan_mark(
 
 // Puts a transition at the end of the list.
 #[no_mangle]
-pub extern "C" fn callplan_join(
+pub extern "C" fn callplan_lent_join(
     counts: &mut [usize],
     marks: &mut [u8],
     fields: &mut [u16],
@@ -223,7 +223,7 @@ pub extern "C" fn callplan_join(
 
 // Takes a transition out of the list.
 #[no_mangle]
-pub extern "C" fn callplan_unjoin(
+pub extern "C" fn callplan_lent_unjoin(
     counts: &mut [usize],
     marks: &mut [u8],
     fields: &mut [u16],
@@ -248,7 +248,7 @@ pub extern "C" fn callplan_unjoin(
 
 // Reads an image.
 #[no_mangle]
-pub extern "C" fn callplan_read(
+pub extern "C" fn callplan_lent_read(
     counts: &mut [usize],
     marks: &mut [u8],
     fields: &mut [u16],
@@ -273,7 +273,7 @@ pub extern "C" fn callplan_read(
 
 // Puts the image at the front of the buffer.
 #[no_mangle]
-pub extern "C" fn callplan_write(
+pub extern "C" fn callplan_lent_write(
     counts: &[usize],
     marks: &[u8],
     fields: &[u16],
@@ -364,7 +364,7 @@ fn answer(quotation: Quotation, out: &mut [u32]) -> u32
 
 // The least delay, with a route that attains it.
 #[no_mangle]
-pub extern "C" fn callplan_least_delay(
+pub extern "C" fn callplan_lent_least_delay(
     counts: &[usize],
     marks: &[u8],
     fields: &[u16],
@@ -384,7 +384,7 @@ pub extern "C" fn callplan_least_delay(
 
 // The greatest delay, with the walk that shows it.
 #[no_mangle]
-pub extern "C" fn callplan_greatest_delay(
+pub extern "C" fn callplan_lent_greatest_delay(
     counts: &[usize],
     marks: &[u8],
     fields: &[u16],
@@ -404,7 +404,7 @@ pub extern "C" fn callplan_greatest_delay(
 
 // The least count, with a route that attains it.
 #[no_mangle]
-pub extern "C" fn callplan_least_count(
+pub extern "C" fn callplan_lent_least_count(
     counts: &[usize],
     marks: &[u8],
     fields: &[u16],
@@ -424,7 +424,7 @@ pub extern "C" fn callplan_least_count(
 
 // The greatest count, with the walk that shows it.
 #[no_mangle]
-pub extern "C" fn callplan_greatest_count(
+pub extern "C" fn callplan_lent_greatest_count(
     counts: &[usize],
     marks: &[u8],
     fields: &[u16],
@@ -444,7 +444,7 @@ pub extern "C" fn callplan_greatest_count(
 
 // Puts the record of the four figures at the front of the buffer.
 #[no_mangle]
-pub extern "C" fn callplan_record(
+pub extern "C" fn callplan_lent_record(
     counts: &[usize],
     marks: &[u8],
     fields: &[u16],

@@ -1,4 +1,4 @@
--- `binding::callplan_read` meets its contract: what the plan's own call promises, on the slices.
+-- `binding::callplan_lent_read` meets its contract: what the plan's own call promises, on the slices.
 -- Assumes nothing.
 use mathlib.Core.Path.{sym, _∙_, subst}
 use borrow.Author.Needs.{needs}
@@ -9,10 +9,10 @@ use Rattle.plan.specs.View.{view}
 use Rattle.rules.specs.Rules.{readRule}
 use Rattle.binding.specs.Lent.{Slices, slices, planIn}
 use Rattle.binding.proofs.Stores.{has-room, too-short, finished}
-use Rattle.binding.proofs.callplan_read.Statement.{statement}
-use Rattle.binding.proofs.callplan_read.Tie as tie
-use Rattle.binding.proofs.callplan_read.Reads as reads
-use Rattle.binding.proofs.callplan_read.Lts as lts
+use Rattle.binding.proofs.callplan_lent_read.Statement.{statement}
+use Rattle.binding.proofs.callplan_lent_read.Tie as tie
+use Rattle.binding.proofs.callplan_lent_read.Reads as reads
+use Rattle.binding.proofs.callplan_lent_read.Lts as lts
 use Rattle.binding.proofs.finish.Reads as finish-reads
 use Rattle.binding.proofs.has_room.Reads as has-room-reads
 use Rattle.binding.proofs.load.Reads as load-reads
@@ -52,8 +52,8 @@ returns-2 c =
     let x : Edit (planIn s) (readRule (view (planIn s)) (a .octets .now)) (c .before .before .before .before .before .before .before .before .before .before .read .result) = subst (λ (q : Plan). Edit q (readRule (view q) (a .octets .now)) (c .before .before .before .before .before .before .before .before .before .before .read .result)) (c .before .before .before .before .before .before .before .before .before .before .before .load .ensures) (c .before .before .before .before .before .before .before .before .before .before .read .ensures) in
     finished (planIn s) s _ (readRule (view (planIn s)) (a .octets .now)) (c .before .before .before .before .before .before .before .before .before .before .read .result) (c .before .before .before .before .before .before .finish .result) (sym (c .before .before .before .before .before .before .before .before .before .before .before .before .before .before .before .before .has-room .ensures) ∙ not-false _ (c .before .before .before .before .before .before .before .before .before .before .before .before .before .before .before .if1 .left)) x (c .before .before .before .before .before .before .finish .ensures)
 
-pub callplan-read-spec : {M : Type 1} → statement M
-callplan-read-spec =
+pub callplan-lent-read-spec : {M : Type 1} → statement M
+callplan-lent-read-spec =
     tie.close
     (tie.spec
     has-room-requires

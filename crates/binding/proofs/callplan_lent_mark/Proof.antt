@@ -1,4 +1,4 @@
--- `binding::callplan_unjoin` meets its contract: what the plan's own call promises, on the slices.
+-- `binding::callplan_lent_mark` meets its contract: what the plan's own call promises, on the slices.
 -- Assumes nothing.
 use mathlib.Core.Path.{sym, _∙_, subst}
 use borrow.Author.Needs.{needs}
@@ -6,17 +6,17 @@ use borrow.Author.Tests.{not-true, not-false}
 use Rattle.plan.specs.declared.Plan.{Plan}
 use Rattle.plan.specs.Promise.{Edit}
 use Rattle.plan.specs.View.{view}
-use Rattle.rules.specs.Rules.{unjoinRule}
+use Rattle.rules.specs.Rules.{markRule}
 use Rattle.binding.specs.Lent.{Slices, slices, planIn}
 use Rattle.binding.proofs.Stores.{has-room, too-short, finished}
-use Rattle.binding.proofs.callplan_unjoin.Statement.{statement}
-use Rattle.binding.proofs.callplan_unjoin.Tie as tie
-use Rattle.binding.proofs.callplan_unjoin.Reads as reads
-use Rattle.binding.proofs.callplan_unjoin.Lts as lts
+use Rattle.binding.proofs.callplan_lent_mark.Statement.{statement}
+use Rattle.binding.proofs.callplan_lent_mark.Tie as tie
+use Rattle.binding.proofs.callplan_lent_mark.Reads as reads
+use Rattle.binding.proofs.callplan_lent_mark.Lts as lts
 use Rattle.binding.proofs.finish.Reads as finish-reads
 use Rattle.binding.proofs.has_room.Reads as has-room-reads
 use Rattle.binding.proofs.load.Reads as load-reads
-use Rattle.plan.proofs.unjoin.Reads as unjoin-reads
+use Rattle.plan.proofs.mark.Reads as mark-reads
 
 has-room-requires : tie.Need-has-room-requires
 has-room-requires c κs = search needs
@@ -25,13 +25,13 @@ returns : tie.Need-returns
 returns c =
     let a = c .before .before .before .before .before .args in
     let q = planIn (slices (a .counts .now) (a .marks .now) (a .fields .now)) in
-    too-short q (slices (a .counts .now) (a .marks .now) (a .fields .now)) (unjoinRule (view q) (a .number)) (sym (c .before .has-room .ensures) ∙ not-true _ (c .if1 .taken))
+    too-short q (slices (a .counts .now) (a .marks .now) (a .fields .now)) (markRule (view q) (a .state) (a .value)) (sym (c .before .has-room .ensures) ∙ not-true _ (c .if1 .taken))
 
 load-requires : tie.Need-load-requires
 load-requires c κs = has-room (c .before .before .before .before .before .before .before .before .args .counts .now) (c .before .before .before .before .before .before .before .before .args .marks .now) (c .before .before .before .before .before .before .before .before .args .fields .now) (sym (c .before .before .before .before .has-room .ensures) ∙ not-false _ (c .before .before .before .if1 .left))
 
-unjoin-requires : tie.Need-unjoin-requires
-unjoin-requires c κs = search needs
+mark-requires : tie.Need-mark-requires
+mark-requires c κs = search needs
 
 finish-requires : tie.Need-finish-requires
 finish-requires c κs = has-room (c .before .before .before .before .before .before .before .before .before .before .before .before .before .args .counts .now) (c .before .before .before .before .before .before .before .before .before .before .before .before .before .args .marks .now) (c .before .before .before .before .before .before .before .before .before .before .before .before .before .args .fields .now) (sym (c .before .before .before .before .before .before .before .before .before .has-room .ensures) ∙ not-false _ (c .before .before .before .before .before .before .before .before .if1 .left))
@@ -49,17 +49,17 @@ returns-2 : tie.Need-returns-2
 returns-2 c =
     let a = c .before .before .before .before .before .before .before .before .before .before .before .before .before .before .before .before .before .before .before .before .args in
     let s : Slices = slices (a .counts .now) (a .marks .now) (a .fields .now) in
-    let x : Edit (planIn s) (unjoinRule (view (planIn s)) (a .number)) (c .before .before .before .before .before .before .before .before .before .before .unjoin .result) = subst (λ (q : Plan). Edit q (unjoinRule (view q) (a .number)) (c .before .before .before .before .before .before .before .before .before .before .unjoin .result)) (c .before .before .before .before .before .before .before .before .before .before .before .load .ensures) (c .before .before .before .before .before .before .before .before .before .before .unjoin .ensures) in
-    finished (planIn s) s _ (unjoinRule (view (planIn s)) (a .number)) (c .before .before .before .before .before .before .before .before .before .before .unjoin .result) (c .before .before .before .before .before .before .finish .result) (sym (c .before .before .before .before .before .before .before .before .before .before .before .before .before .before .before .before .has-room .ensures) ∙ not-false _ (c .before .before .before .before .before .before .before .before .before .before .before .before .before .before .before .if1 .left)) x (c .before .before .before .before .before .before .finish .ensures)
+    let x : Edit (planIn s) (markRule (view (planIn s)) (a .state) (a .value)) (c .before .before .before .before .before .before .before .before .before .before .mark .result) = subst (λ (q : Plan). Edit q (markRule (view q) (a .state) (a .value)) (c .before .before .before .before .before .before .before .before .before .before .mark .result)) (c .before .before .before .before .before .before .before .before .before .before .before .load .ensures) (c .before .before .before .before .before .before .before .before .before .before .mark .ensures) in
+    finished (planIn s) s _ (markRule (view (planIn s)) (a .state) (a .value)) (c .before .before .before .before .before .before .before .before .before .before .mark .result) (c .before .before .before .before .before .before .finish .result) (sym (c .before .before .before .before .before .before .before .before .before .before .before .before .before .before .before .before .has-room .ensures) ∙ not-false _ (c .before .before .before .before .before .before .before .before .before .before .before .before .before .before .before .if1 .left)) x (c .before .before .before .before .before .before .finish .ensures)
 
-pub callplan-unjoin-spec : {M : Type 1} → statement M
-callplan-unjoin-spec =
+pub callplan-lent-mark-spec : {M : Type 1} → statement M
+callplan-lent-mark-spec =
     tie.close
     (tie.spec
     has-room-requires
     returns
     load-requires
-    unjoin-requires
+    mark-requires
     finish-requires
     same-length
     same-length-2

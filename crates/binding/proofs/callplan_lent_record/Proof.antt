@@ -1,4 +1,4 @@
--- `binding::callplan_record` meets its contract: what the plan's own call promises, on the slices.
+-- `binding::callplan_lent_record` meets its contract: what the plan's own call promises, on the slices.
 -- Assumes nothing.
 use mathlib.Core.Path.{sym, ap, _∙_}
 use native.Mathlib.Omega.{arith}
@@ -12,10 +12,10 @@ use Rattle.rules.specs.Refusal.{wrote}
 use Rattle.rules.specs.declared.Written.{Written}
 use Rattle.binding.specs.Lent.{lengthCode}
 use Rattle.binding.proofs.Stores.{has-room, record-length, write-short, write-finished}
-use Rattle.binding.proofs.callplan_record.Statement.{statement}
-use Rattle.binding.proofs.callplan_record.Tie as tie
-use Rattle.binding.proofs.callplan_record.Reads as reads
-use Rattle.binding.proofs.callplan_record.Lts as lts
+use Rattle.binding.proofs.callplan_lent_record.Statement.{statement}
+use Rattle.binding.proofs.callplan_lent_record.Tie as tie
+use Rattle.binding.proofs.callplan_lent_record.Reads as reads
+use Rattle.binding.proofs.callplan_lent_record.Lts as lts
 use Rattle.binding.proofs.has_room.Reads as has-room-reads
 use Rattle.binding.proofs.load.Reads as load-reads
 use Rattle.rules.proofs.number.Reads as number-reads
@@ -73,8 +73,8 @@ returns-3 c =
     write-finished recordOctets (λ (g : Graph). recordRule g (a .buffer .now)) (c .before .before .before .before .before .before .before .before .load .result) (slices (a .counts .now) (a .marks .now) (a .fields .now)) (a .buffer .now) _ (c .before .before .before .before .before .before .record .result) _ (sym (c .before .before .before .before .before .before .before .before .before .before .has-room .ensures) ∙ not-false _ (c .before .before .before .before .before .before .before .before .before .if1 .left)) (c .before .before .before .before .before .before .before .before .load .ensures) (c .before .before .before .before .before .before .record .ensures)
     (c .number .ensures ∙ ap (λ (w : Written). lengthCode (wrote w)) (sym (c .before .before .written2 .given .1)))
 
-pub callplan-record-spec : {M : Type 1} → statement M
-callplan-record-spec =
+pub callplan-lent-record-spec : {M : Type 1} → statement M
+callplan-lent-record-spec =
     tie.close
     (tie.spec
     has-room-requires

@@ -1,4 +1,4 @@
--- `binding::callplan_mark` meets its contract: what the plan's own call promises, on the slices.
+-- `binding::callplan_lent_join` meets its contract: what the plan's own call promises, on the slices.
 -- Assumes nothing.
 use mathlib.Core.Path.{sym, _∙_, subst}
 use borrow.Author.Needs.{needs}
@@ -6,17 +6,18 @@ use borrow.Author.Tests.{not-true, not-false}
 use Rattle.plan.specs.declared.Plan.{Plan}
 use Rattle.plan.specs.Promise.{Edit}
 use Rattle.plan.specs.View.{view}
-use Rattle.rules.specs.Rules.{markRule}
+use Rattle.rules.specs.Rules.{joinRule}
+use Rattle.arrays.specs.Tables.{transition}
 use Rattle.binding.specs.Lent.{Slices, slices, planIn}
 use Rattle.binding.proofs.Stores.{has-room, too-short, finished}
-use Rattle.binding.proofs.callplan_mark.Statement.{statement}
-use Rattle.binding.proofs.callplan_mark.Tie as tie
-use Rattle.binding.proofs.callplan_mark.Reads as reads
-use Rattle.binding.proofs.callplan_mark.Lts as lts
+use Rattle.binding.proofs.callplan_lent_join.Statement.{statement}
+use Rattle.binding.proofs.callplan_lent_join.Tie as tie
+use Rattle.binding.proofs.callplan_lent_join.Reads as reads
+use Rattle.binding.proofs.callplan_lent_join.Lts as lts
 use Rattle.binding.proofs.finish.Reads as finish-reads
 use Rattle.binding.proofs.has_room.Reads as has-room-reads
 use Rattle.binding.proofs.load.Reads as load-reads
-use Rattle.plan.proofs.mark.Reads as mark-reads
+use Rattle.plan.proofs.join.Reads as join-reads
 
 has-room-requires : tie.Need-has-room-requires
 has-room-requires c κs = search needs
@@ -25,13 +26,13 @@ returns : tie.Need-returns
 returns c =
     let a = c .before .before .before .before .before .args in
     let q = planIn (slices (a .counts .now) (a .marks .now) (a .fields .now)) in
-    too-short q (slices (a .counts .now) (a .marks .now) (a .fields .now)) (markRule (view q) (a .state) (a .value)) (sym (c .before .has-room .ensures) ∙ not-true _ (c .if1 .taken))
+    too-short q (slices (a .counts .now) (a .marks .now) (a .fields .now)) (joinRule (view q) (transition (a .from) (a .to) (a .low) (a .high))) (sym (c .before .has-room .ensures) ∙ not-true _ (c .if1 .taken))
 
 load-requires : tie.Need-load-requires
 load-requires c κs = has-room (c .before .before .before .before .before .before .before .before .args .counts .now) (c .before .before .before .before .before .before .before .before .args .marks .now) (c .before .before .before .before .before .before .before .before .args .fields .now) (sym (c .before .before .before .before .has-room .ensures) ∙ not-false _ (c .before .before .before .if1 .left))
 
-mark-requires : tie.Need-mark-requires
-mark-requires c κs = search needs
+join-requires : tie.Need-join-requires
+join-requires c κs = search needs
 
 finish-requires : tie.Need-finish-requires
 finish-requires c κs = has-room (c .before .before .before .before .before .before .before .before .before .before .before .before .before .args .counts .now) (c .before .before .before .before .before .before .before .before .before .before .before .before .before .args .marks .now) (c .before .before .before .before .before .before .before .before .before .before .before .before .before .args .fields .now) (sym (c .before .before .before .before .before .before .before .before .before .has-room .ensures) ∙ not-false _ (c .before .before .before .before .before .before .before .before .if1 .left))
@@ -49,17 +50,17 @@ returns-2 : tie.Need-returns-2
 returns-2 c =
     let a = c .before .before .before .before .before .before .before .before .before .before .before .before .before .before .before .before .before .before .before .before .args in
     let s : Slices = slices (a .counts .now) (a .marks .now) (a .fields .now) in
-    let x : Edit (planIn s) (markRule (view (planIn s)) (a .state) (a .value)) (c .before .before .before .before .before .before .before .before .before .before .mark .result) = subst (λ (q : Plan). Edit q (markRule (view q) (a .state) (a .value)) (c .before .before .before .before .before .before .before .before .before .before .mark .result)) (c .before .before .before .before .before .before .before .before .before .before .before .load .ensures) (c .before .before .before .before .before .before .before .before .before .before .mark .ensures) in
-    finished (planIn s) s _ (markRule (view (planIn s)) (a .state) (a .value)) (c .before .before .before .before .before .before .before .before .before .before .mark .result) (c .before .before .before .before .before .before .finish .result) (sym (c .before .before .before .before .before .before .before .before .before .before .before .before .before .before .before .before .has-room .ensures) ∙ not-false _ (c .before .before .before .before .before .before .before .before .before .before .before .before .before .before .before .if1 .left)) x (c .before .before .before .before .before .before .finish .ensures)
+    let x : Edit (planIn s) (joinRule (view (planIn s)) (transition (a .from) (a .to) (a .low) (a .high))) (c .before .before .before .before .before .before .before .before .before .before .join .result) = subst (λ (q : Plan). Edit q (joinRule (view q) (transition (a .from) (a .to) (a .low) (a .high))) (c .before .before .before .before .before .before .before .before .before .before .join .result)) (c .before .before .before .before .before .before .before .before .before .before .before .load .ensures) (c .before .before .before .before .before .before .before .before .before .before .join .ensures) in
+    finished (planIn s) s _ (joinRule (view (planIn s)) (transition (a .from) (a .to) (a .low) (a .high))) (c .before .before .before .before .before .before .before .before .before .before .join .result) (c .before .before .before .before .before .before .finish .result) (sym (c .before .before .before .before .before .before .before .before .before .before .before .before .before .before .before .before .has-room .ensures) ∙ not-false _ (c .before .before .before .before .before .before .before .before .before .before .before .before .before .before .before .if1 .left)) x (c .before .before .before .before .before .before .finish .ensures)
 
-pub callplan-mark-spec : {M : Type 1} → statement M
-callplan-mark-spec =
+pub callplan-lent-join-spec : {M : Type 1} → statement M
+callplan-lent-join-spec =
     tie.close
     (tie.spec
     has-room-requires
     returns
     load-requires
-    mark-requires
+    join-requires
     finish-requires
     same-length
     same-length-2

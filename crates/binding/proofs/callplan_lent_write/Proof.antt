@@ -1,4 +1,4 @@
--- `binding::callplan_write` meets its contract: what the plan's own call promises, on the slices.
+-- `binding::callplan_lent_write` meets its contract: what the plan's own call promises, on the slices.
 -- Assumes nothing.
 use mathlib.Core.Path.{sym, ap, _∙_}
 use native.Mathlib.Omega.{arith}
@@ -13,10 +13,10 @@ use Rattle.rules.specs.Refusal.{wrote}
 use Rattle.rules.specs.declared.Written.{Written}
 use Rattle.binding.specs.Lent.{lengthCode}
 use Rattle.binding.proofs.Stores.{has-room, write-length, write-short, write-finished}
-use Rattle.binding.proofs.callplan_write.Statement.{statement}
-use Rattle.binding.proofs.callplan_write.Tie as tie
-use Rattle.binding.proofs.callplan_write.Reads as reads
-use Rattle.binding.proofs.callplan_write.Lts as lts
+use Rattle.binding.proofs.callplan_lent_write.Statement.{statement}
+use Rattle.binding.proofs.callplan_lent_write.Tie as tie
+use Rattle.binding.proofs.callplan_lent_write.Reads as reads
+use Rattle.binding.proofs.callplan_lent_write.Lts as lts
 use Rattle.binding.proofs.has_room.Reads as has-room-reads
 use Rattle.binding.proofs.load.Reads as load-reads
 use Rattle.rules.proofs.number.Reads as number-reads
@@ -74,8 +74,8 @@ returns-3 c =
     write-finished image (λ (g : Graph). writeRule g (a .buffer .now)) (c .before .before .before .before .before .before .before .before .load .result) (slices (a .counts .now) (a .marks .now) (a .fields .now)) (a .buffer .now) _ (c .before .before .before .before .before .before .write .result) _ (sym (c .before .before .before .before .before .before .before .before .before .before .has-room .ensures) ∙ not-false _ (c .before .before .before .before .before .before .before .before .before .if1 .left)) (c .before .before .before .before .before .before .before .before .load .ensures) (c .before .before .before .before .before .before .write .ensures)
     (c .number .ensures ∙ ap (λ (w : Written). lengthCode (wrote w)) (sym (c .before .before .written2 .given .1)))
 
-pub callplan-write-spec : {M : Type 1} → statement M
-callplan-write-spec =
+pub callplan-lent-write-spec : {M : Type 1} → statement M
+callplan-lent-write-spec =
     tie.close
     (tie.spec
     has-room-requires

@@ -1,4 +1,4 @@
--- `binding::callplan_fresh` meets its contract: what the plan's own call promises, on the slices.
+-- `binding::callplan_lent_fresh` meets its contract: what the plan's own call promises, on the slices.
 -- Assumes nothing.
 use mathlib.Core.Path.{sym, _∙_}
 use borrow.Author.Needs.{needs}
@@ -7,10 +7,10 @@ use Rattle.plan.specs.View.{noPlan}
 use Rattle.rules.specs.Rules.{freshRule}
 use Rattle.binding.specs.Lent.{slices}
 use Rattle.binding.proofs.Stores.{has-room, too-short, finished}
-use Rattle.binding.proofs.callplan_fresh.Statement.{statement}
-use Rattle.binding.proofs.callplan_fresh.Tie as tie
-use Rattle.binding.proofs.callplan_fresh.Reads as reads
-use Rattle.binding.proofs.callplan_fresh.Lts as lts
+use Rattle.binding.proofs.callplan_lent_fresh.Statement.{statement}
+use Rattle.binding.proofs.callplan_lent_fresh.Tie as tie
+use Rattle.binding.proofs.callplan_lent_fresh.Reads as reads
+use Rattle.binding.proofs.callplan_lent_fresh.Lts as lts
 use Rattle.binding.proofs.finish.Reads as finish-reads
 use Rattle.binding.proofs.has_room.Reads as has-room-reads
 use Rattle.plan.proofs.fresh.Reads as fresh-reads
@@ -43,8 +43,8 @@ returns-2 c =
     let a = c .before .before .before .before .before .before .before .before .before .before .before .before .before .before .before .before .args in
     finished noPlan (slices (a .counts .now) (a .marks .now) (a .fields .now)) _ (freshRule (a .n)) (c .before .before .before .before .before .before .before .before .before .before .fresh .result) (c .before .before .before .before .before .before .finish .result) (sym (c .before .before .before .before .before .before .before .before .before .before .before .before .has-room .ensures) ∙ not-false _ (c .before .before .before .before .before .before .before .before .before .before .before .if1 .left)) (c .before .before .before .before .before .before .before .before .before .before .fresh .ensures) (c .before .before .before .before .before .before .finish .ensures)
 
-pub callplan-fresh-spec : {M : Type 1} → statement M
-callplan-fresh-spec =
+pub callplan-lent-fresh-spec : {M : Type 1} → statement M
+callplan-lent-fresh-spec =
     tie.close
     (tie.spec
     has-room-requires

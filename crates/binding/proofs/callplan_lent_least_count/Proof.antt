@@ -1,4 +1,4 @@
--- `binding::callplan_least_count` meets its contract: what the plan's own call promises, on the slices.
+-- `binding::callplan_lent_least_count` meets its contract: what the plan's own call promises, on the slices.
 -- Assumes nothing.
 use mathlib.Core.Path.{sym, _∙_}
 use borrow.Author.Needs.{needs}
@@ -9,10 +9,10 @@ use Rattle.binding.specs.Lent.{slices}
 use Rattle.plan.specs.View.{view}
 use Rattle.rules.specs.Quotations.{LeastCount}
 use Rattle.graph.specs.Figure.{countCost}
-use Rattle.binding.proofs.callplan_least_count.Statement.{statement}
-use Rattle.binding.proofs.callplan_least_count.Tie as tie
-use Rattle.binding.proofs.callplan_least_count.Reads as reads
-use Rattle.binding.proofs.callplan_least_count.Lts as lts
+use Rattle.binding.proofs.callplan_lent_least_count.Statement.{statement}
+use Rattle.binding.proofs.callplan_lent_least_count.Tie as tie
+use Rattle.binding.proofs.callplan_lent_least_count.Reads as reads
+use Rattle.binding.proofs.callplan_lent_least_count.Lts as lts
 use Rattle.binding.proofs.answer.Reads as answer-reads
 use Rattle.binding.proofs.can_answer.Reads as can-answer-reads
 use Rattle.binding.proofs.load.Reads as load-reads
@@ -51,8 +51,8 @@ returns-2 c =
     let a = c .before .before .before .before .before .before .before .before .before .before .before .before .before .before .before .before .args in
     quote-finished LeastCount (c .before .before .before .before .before .before .before .before .load .result) (slices (a .counts .now) (a .marks .now) (a .fields .now)) (a .walk .now) _ (a .out .now) _ (c .before .before .before .before .before .before .least-count .result) _ (sym (c .before .before .before .before .before .before .before .before .before .before .can-answer .ensures) ∙ not-false _ (c .before .before .before .before .before .before .before .before .before .if1 .left)) (c .before .before .before .before .before .before .before .before .load .ensures) (c .before .before .before .before .before .before .least-count .ensures) (c .before .before .answer .ensures)
 
-pub callplan-least-count-spec : {M : Type 1} → statement M
-callplan-least-count-spec =
+pub callplan-lent-least-count-spec : {M : Type 1} → statement M
+callplan-lent-least-count-spec =
     tie.close
     (tie.spec
     can-answer-requires
