@@ -1,0 +1,242 @@
+/* Every call of callplan.h, accepted and refused, with every place that it is lent. C99 and C++11. The last line is 'N passed, M failed'. */
+#include <stdio.h>
+#include <string.h>
+
+#include "callplan.h"
+
+static int passed, failed;
+
+#define CHECK(condition) check((condition) ? 1 : 0, __LINE__, #condition)
+
+static void check(int holds, int line, const char *text)
+{
+    if (holds) {
+        passed++;
+    } else {
+        failed++;
+        printf("line %d: not so: %s\n", line, text);
+    }
+}
+
+/* Plan P1 of document 01: its image, its record, and the plan made by edits. */
+static const uint8_t p1_image[28] = {0x10, 0x10, 0x01, 0x00, 0x80, 0x20, 0x20, 0x40, 0x00, 0x00, 0x40, 0x28, 0x14, 0x00,
+                                     0x80, 0x80, 0x18, 0x0F, 0x00, 0x80, 0xC0, 0x10, 0x1E, 0x01, 0x00, 0xC0, 0x20, 0x19};
+static const uint8_t p1_record[CALLPLAN_RECORD_OCTETS] = {0x00, 0x00, 0x1C, 0x00, 0x03, 0xC0, 0x00, 0x00, 0x40, 0x00, 0x02};
+
+static callplan_plan p1(void)
+{
+    callplan_plan plan;
+    CHECK(callplan_fresh(&plan, 4) == CALLPLAN_ACCEPTED);
+    CHECK(callplan_mark(&plan, 0, CALLPLAN_START) == CALLPLAN_ACCEPTED);
+    CHECK(callplan_mark(&plan, 1, CALLPLAN_COUNTED) == CALLPLAN_ACCEPTED);
+    CHECK(callplan_mark(&plan, 2, CALLPLAN_COUNTED) == CALLPLAN_ACCEPTED);
+    CHECK(callplan_mark(&plan, 3, CALLPLAN_FINAL) == CALLPLAN_ACCEPTED);
+    CHECK(callplan_join(&plan, 0, 1, 5, 20) == CALLPLAN_ACCEPTED);
+    CHECK(callplan_join(&plan, 1, 2, 3, 15) == CALLPLAN_ACCEPTED);
+    CHECK(callplan_join(&plan, 1, 3, 2, 30) == CALLPLAN_ACCEPTED);
+    CHECK(callplan_join(&plan, 2, 3, 4, 25) == CALLPLAN_ACCEPTED);
+    return plan;
+}
+
+static int is_same_plan(const callplan_plan *a, const callplan_plan *b)
+{
+    return memcmp(a, b, sizeof *a) == 0;
+}
+
+static void edits(void)
+{
+    callplan_plan plan = p1();
+    const callplan_plan before = plan;
+    callplan_transition transition;
+
+    CHECK(callplan_fresh(&plan, 0) == CALLPLAN_REFUSED_STATE_COUNT);
+    CHECK(callplan_fresh(&plan, CALLPLAN_MAX_STATES + 1) == CALLPLAN_REFUSED_STATE_COUNT);
+    CHECK(callplan_mark(&plan, 4, 8) == CALLPLAN_REFUSED_STATE_NUMBER);
+    CHECK(callplan_mark(&plan, 3, 8) == CALLPLAN_REFUSED_MARKS_VALUE);
+    CHECK(callplan_join(&plan, 4, 0, 1, 0) == CALLPLAN_REFUSED_STATE_NUMBER);
+    CHECK(callplan_join(&plan, 0, SIZE_MAX, 0, 0) == CALLPLAN_REFUSED_STATE_NUMBER);
+    CHECK(callplan_join(&plan, 0, 0, 1, 0) == CALLPLAN_REFUSED_DURATION);
+    CHECK(callplan_join(&plan, 0, 0, 0, CALLPLAN_MAX_DURATION + 1) == CALLPLAN_REFUSED_DURATION);
+    CHECK(callplan_unjoin(&plan, 4) == CALLPLAN_REFUSED_TRANSITION_NUMBER);
+    CHECK(is_same_plan(&plan, &before));
+
+    CHECK(callplan_unjoin(&plan, 0) == CALLPLAN_ACCEPTED);
+    CHECK(callplan_states(&plan) == 4);
+    CHECK(callplan_transitions(&plan) == 3);
+    CHECK(callplan_marks(&plan, 0) == CALLPLAN_START);
+    CHECK(callplan_marks(&plan, 3) == CALLPLAN_FINAL);
+    transition = callplan_transition_at(&plan, 1);
+    CHECK(transition.from == 1 && transition.to == 3 && transition.low == 2 && transition.high == 30);
+
+    CHECK(callplan_fresh(&plan, CALLPLAN_MAX_STATES) == CALLPLAN_ACCEPTED);
+    CHECK(callplan_states(&plan) == CALLPLAN_MAX_STATES && callplan_transitions(&plan) == 0);
+    for (size_t number = 0; number < CALLPLAN_MAX_TRANSITIONS; number++) {
+        if (callplan_join(&plan, number % 512, 511, 1, CALLPLAN_MAX_DURATION) != CALLPLAN_ACCEPTED) {
+            CHECK(!"joined");
+        }
+    }
+    CHECK(callplan_join(&plan, 0, 0, 0, 0) == CALLPLAN_REFUSED_LIST_FULL);
+    CHECK(callplan_mark(&plan, 511, 7) == CALLPLAN_ACCEPTED);
+    CHECK(callplan_marks(&plan, 511) == 7);
+    transition = callplan_transition_at(&plan, 2047);
+    CHECK(transition.from == 511 && transition.to == 511 && transition.low == 1 && transition.high == 2047);
+    transition = callplan_transition_at(&plan, 2048);
+    CHECK(transition.from == 0 && transition.to == 0 && transition.low == 0 && transition.high == 0);
+    CHECK(callplan_marks(&plan, 512) == 0 && callplan_marks(&plan, SIZE_MAX) == 0);
+}
+
+static void images(void)
+{
+    const callplan_plan plan = p1();
+    callplan_plan other;
+    uint8_t octets[29];
+    uint8_t buffer[CALLPLAN_MAX_IMAGE_OCTETS];
+    size_t written = 77;
+
+    CHECK(callplan_write(&plan, NULL, 0, &written) == CALLPLAN_REFUSED_BUFFER_LENGTH);
+    memset(buffer, 0xAA, sizeof buffer);
+    CHECK(callplan_write(&plan, buffer, 27, &written) == CALLPLAN_REFUSED_BUFFER_LENGTH);
+    CHECK(written == 77 && buffer[0] == 0xAA && buffer[26] == 0xAA);
+    CHECK(callplan_write(&plan, buffer, sizeof buffer, &written) == CALLPLAN_ACCEPTED);
+    CHECK(written == 28 && memcmp(buffer, p1_image, 28) == 0 && buffer[28] == 0xAA);
+    CHECK(callplan_write(&plan, buffer, 28, NULL) == CALLPLAN_ACCEPTED);
+
+    CHECK(callplan_fresh(&other, 1) == CALLPLAN_ACCEPTED);
+    CHECK(callplan_read(&other, NULL, 0) == CALLPLAN_REFUSED_IMAGE_SHORT);
+    CHECK(callplan_read(&other, p1_image, 3) == CALLPLAN_REFUSED_IMAGE_SHORT);
+    CHECK(callplan_read(&other, p1_image, 27) == CALLPLAN_REFUSED_IMAGE_SHORT);
+    memcpy(octets, p1_image, 28);
+    octets[28] = 0;
+    CHECK(callplan_read(&other, octets, 29) == CALLPLAN_REFUSED_IMAGE_LONG);
+    octets[0] = 0x20;
+    CHECK(callplan_read(&other, octets, 28) == CALLPLAN_REFUSED_VERSION);
+    octets[0] = 0x1F;
+    CHECK(callplan_read(&other, octets, 28) == CALLPLAN_REFUSED_STATE_COUNT);
+    octets[0] = 0x10;
+    octets[1] = 0x13;
+    octets[2] = 0xFF;
+    CHECK(callplan_read(&other, octets, 28) == CALLPLAN_REFUSED_TRANSITION_COUNT);
+    octets[1] = 0x10;
+    octets[2] = 0x01;
+    octets[3] = 0x01;
+    CHECK(callplan_read(&other, octets, 28) == CALLPLAN_REFUSED_SPARE_BITS);
+    octets[3] = 0x00;
+    octets[8] = 0xFF;
+    CHECK(callplan_read(&other, octets, 28) == CALLPLAN_REFUSED_STATE_NUMBER);
+    octets[8] = 0x00;
+    octets[12] = 0x00;
+    CHECK(callplan_read(&other, octets, 28) == CALLPLAN_REFUSED_DURATION);
+    CHECK(callplan_states(&other) == 1 && callplan_transitions(&other) == 0);
+    CHECK(callplan_read(&other, p1_image, sizeof p1_image) == CALLPLAN_ACCEPTED);
+    CHECK(is_same_plan(&other, &plan));
+}
+
+static int is_figure(const callplan_figure *figure, callplan_kind kind, uint32_t value, size_t k, size_t j)
+{
+    return figure->kind == kind && figure->value == value && figure->k == k && figure->j == j;
+}
+
+static void quotations(void)
+{
+    callplan_plan plan = p1();
+    callplan_figure figure;
+    uint8_t buffer[CALLPLAN_RECORD_OCTETS + 1];
+    size_t written = 77;
+
+    memset(&figure, 0xAA, sizeof figure);
+    CHECK(callplan_least_delay(&plan, &figure) == CALLPLAN_ACCEPTED);
+    CHECK(is_figure(&figure, CALLPLAN_NUMBER, 7, 2, 0) && figure.walk[0] == 0 && figure.walk[1] == 2);
+    CHECK(figure.walk[2] == 0xAAAA && figure.walk[511] == 0xAAAA);
+    CHECK(callplan_greatest_delay(&plan, &figure) == CALLPLAN_ACCEPTED);
+    CHECK(is_figure(&figure, CALLPLAN_NUMBER, 60, 3, 0) && figure.walk[1] == 1 && figure.walk[2] == 3);
+    CHECK(callplan_least_count(&plan, &figure) == CALLPLAN_ACCEPTED);
+    CHECK(is_figure(&figure, CALLPLAN_NUMBER, 1, 2, 0) && figure.walk[1] == 2);
+    CHECK(callplan_greatest_count(&plan, &figure) == CALLPLAN_ACCEPTED);
+    CHECK(is_figure(&figure, CALLPLAN_NUMBER, 2, 3, 0) && figure.walk[1] == 1);
+
+    memset(buffer, 0xAA, sizeof buffer);
+    CHECK(callplan_record(&plan, NULL, 0, &written) == CALLPLAN_REFUSED_BUFFER_LENGTH);
+    CHECK(callplan_record(&plan, buffer, CALLPLAN_RECORD_OCTETS - 1, &written) == CALLPLAN_REFUSED_BUFFER_LENGTH);
+    CHECK(written == 77 && buffer[0] == 0xAA);
+    CHECK(callplan_record(&plan, buffer, sizeof buffer, &written) == CALLPLAN_ACCEPTED);
+    CHECK(written == CALLPLAN_RECORD_OCTETS && memcmp(buffer, p1_record, sizeof p1_record) == 0);
+    CHECK(buffer[CALLPLAN_RECORD_OCTETS] == 0xAA);
+    CHECK(callplan_record(&plan, buffer, CALLPLAN_RECORD_OCTETS, NULL) == CALLPLAN_ACCEPTED);
+
+    /* P3, then P4, then no start. */
+    CHECK(callplan_fresh(&plan, 2) == CALLPLAN_ACCEPTED);
+    CHECK(callplan_mark(&plan, 0, CALLPLAN_START) == CALLPLAN_ACCEPTED);
+    CHECK(callplan_mark(&plan, 1, CALLPLAN_FINAL) == CALLPLAN_ACCEPTED);
+    CHECK(callplan_least_count(&plan, &figure) == CALLPLAN_ACCEPTED);
+    CHECK(is_figure(&figure, CALLPLAN_NONE, 0, 0, 0));
+    CHECK(callplan_greatest_count(&plan, &figure) == CALLPLAN_ACCEPTED);
+    CHECK(is_figure(&figure, CALLPLAN_STRANDED, 0, 0, 0));
+    CHECK(callplan_join(&plan, 0, 0, 0, 0) == CALLPLAN_ACCEPTED);
+    CHECK(callplan_join(&plan, 0, 1, 1, 1) == CALLPLAN_ACCEPTED);
+    CHECK(callplan_least_delay(&plan, &figure) == CALLPLAN_ACCEPTED);
+    CHECK(is_figure(&figure, CALLPLAN_NUMBER, 1, 1, 0) && figure.walk[0] == 1);
+    CHECK(callplan_greatest_delay(&plan, &figure) == CALLPLAN_ACCEPTED);
+    CHECK(is_figure(&figure, CALLPLAN_ENDLESS, 0, 1, 0) && figure.walk[0] == 0);
+    CHECK(callplan_mark(&plan, 0, 0) == CALLPLAN_ACCEPTED);
+    CHECK(callplan_greatest_delay(&plan, &figure) == CALLPLAN_ACCEPTED);
+    CHECK(is_figure(&figure, CALLPLAN_NONE, 0, 0, 0));
+}
+
+/* A plan that was filled in by hand and breaks a limit. */
+static void broken_plan(void)
+{
+    callplan_plan plan = p1();
+    callplan_plan before;
+    callplan_figure figure;
+    callplan_figure blank;
+    uint8_t buffer[CALLPLAN_MAX_IMAGE_OCTETS] = {0};
+    size_t written = 77;
+
+    plan.counts[0] = SIZE_MAX;
+    before = plan;
+    memset(&figure, 0, sizeof figure);
+    blank = figure;
+    CHECK(callplan_mark(&plan, 0, 0) == CALLPLAN_REFUSED_PLAN_LIMITS);
+    CHECK(callplan_join(&plan, 0, 0, 0, 0) == CALLPLAN_REFUSED_PLAN_LIMITS);
+    CHECK(callplan_unjoin(&plan, 0) == CALLPLAN_REFUSED_PLAN_LIMITS);
+    CHECK(callplan_read(&plan, p1_image, sizeof p1_image) == CALLPLAN_REFUSED_PLAN_LIMITS);
+    CHECK(callplan_write(&plan, buffer, sizeof buffer, &written) == CALLPLAN_REFUSED_PLAN_LIMITS);
+    CHECK(callplan_record(&plan, buffer, sizeof buffer, &written) == CALLPLAN_REFUSED_PLAN_LIMITS);
+    CHECK(callplan_least_delay(&plan, &figure) == CALLPLAN_REFUSED_PLAN_LIMITS);
+    CHECK(callplan_greatest_delay(&plan, &figure) == CALLPLAN_REFUSED_PLAN_LIMITS);
+    CHECK(callplan_least_count(&plan, &figure) == CALLPLAN_REFUSED_PLAN_LIMITS);
+    CHECK(callplan_greatest_count(&plan, &figure) == CALLPLAN_REFUSED_PLAN_LIMITS);
+    CHECK(is_same_plan(&plan, &before) && written == 77 && memcmp(&figure, &blank, sizeof figure) == 0);
+    CHECK(callplan_fresh(&plan, 1) == CALLPLAN_ACCEPTED);
+    CHECK(callplan_mark(&plan, 0, 7) == CALLPLAN_ACCEPTED);
+}
+
+/* The archive's own functions, lent too few places. */
+static void short_slices(void)
+{
+    callplan_plan plan = p1();
+    uint16_t walk[4] = {0};
+    uint32_t out[4] = {0};
+
+    CHECK(callplan_lent_fresh(1, plan.counts, 1, plan.marks, 512, plan.fields, 8192) == CALLPLAN_SHORT_SLICE);
+    CHECK(callplan_lent_fresh(1, plan.counts, 2, plan.marks, 511, plan.fields, 8192) == CALLPLAN_SHORT_SLICE);
+    CHECK(callplan_lent_fresh(1, plan.counts, 2, plan.marks, 512, plan.fields, 8191) == CALLPLAN_SHORT_SLICE);
+    CHECK(callplan_lent_least_delay(plan.counts, 2, plan.marks, 512, plan.fields, 8192, walk, 4, out, 3) == CALLPLAN_SHORT_SLICE);
+    CHECK(callplan_lent_least_delay(plan.counts, 2, plan.marks, 512, plan.fields, 8192, walk, 3, out, 4) ==
+          CALLPLAN_REFUSED_BUFFER_LENGTH);
+    CHECK(callplan_lent_least_delay(plan.counts, 2, plan.marks, 512, plan.fields, 8192, walk, 4, out, 4) == CALLPLAN_ACCEPTED);
+    CHECK(out[0] == 0 && out[1] == 7 && out[2] == 2 && out[3] == 0 && walk[1] == 2);
+}
+
+int main(void)
+{
+    CHECK(sizeof(callplan_plan) == 2 * sizeof(size_t) + 512 + 2 * 8192);
+    CHECK(CALLPLAN_MAX_IMAGE_OCTETS == 4 + CALLPLAN_MAX_STATES + 5 * CALLPLAN_MAX_TRANSITIONS);
+    edits();
+    images();
+    quotations();
+    broken_plan();
+    short_slices();
+    printf("%d passed, %d failed\n", passed, failed);
+    return failed == 0 ? 0 : 1;
+}

@@ -1,0 +1,265 @@
+#!/usr/bin/env python3
+"""Compares callplan.h, and the declarations in Rust, with the Rattle sources: functions, refusals, constants, versions.
+
+Then damages each text in memory, one damage at a time, and sees that the comparison notices. The last line is 'N passed, M failed'.
+"""
+
+import re
+import sys
+from pathlib import Path
+
+ROOT = Path(__file__).resolve().parent.parent
+FILES = {
+    "binding": "crates/binding/src/lib.rt",
+    "lent": "crates/binding/specs/Lent.antt",
+    "quoted": "crates/binding/specs/Quoted.antt",
+    "figure": "crates/graph/specs/Figure.antt",
+    "graph": "crates/graph/specs/Graph.antt",
+    "rules": "crates/rules/src/lib.rt",
+    "refusal": "crates/rules/specs/Refusal.antt",
+    "limits": "crates/rules/specs/Limits.antt",
+    "image": "crates/rules/specs/Image.antt",
+    "quotations": "crates/rules/specs/Quotations.antt",
+    "header": "include/callplan.h",
+    "package": "include/callplan.pc",
+    "cargo": "rust/callplan/Cargo.toml",
+    "crate": "rust/callplan/src/lib.rs",
+    "archive": "rust/callplan/src/archive.rs",
+    "refusals": "rust/callplan/src/refusal.rs",
+    "proved": "reference/src/proved.rs",
+}
+C_TYPES = {"size_t": "usize", "uint8_t": "u8", "uint16_t": "u16", "uint32_t": "u32", "void": "()"}
+
+
+# ---- Functions, each as (name, parameters, result) in Rust's words. A slice is a pointer and its length.
+
+
+def of_rattle(text):
+    pattern = r'#\[no_mangle\]\s+pub extern "C" fn (\w+)\(([^)]*)\)(?:\s*->\s*([^\s{]+))?'
+    for name, parameters, result in re.findall(pattern, text):
+        out = []
+        for parameter in filter(None, map(str.strip, parameters.split(","))):
+            label, kind = map(str.strip, parameter.split(":"))
+            lent = re.fullmatch(r"&(mut )?\[(\w+)\]", kind)
+            if lent:
+                out += [f"{label}: *{'mut' if lent[1] else 'const'} {lent[2]}", f"{label}_len: usize"]
+            else:
+                out.append(f"{label}: {kind}")
+        yield name, out, result or "()"
+
+
+def of_c(text):
+    text = re.sub(r"/\*.*?\*/", "", text, flags=re.S)
+    for result, name, parameters in re.findall(r"^(\w+) (\w+)\(([^)]*)\);", text, flags=re.M):
+        out = []
+        for parameter in filter(None, map(str.strip, parameters.split(","))):
+            const, kind, star, label = re.fullmatch(r"(const )?(\w+) (\*?)(\w+)", parameter).groups()
+            pointer = f"*{'const' if const else 'mut'} " if star else ""
+            out.append(f"{label}: {pointer}{C_TYPES[kind]}")
+        yield name, out, C_TYPES[result]
+
+
+def of_rust(text):
+    for block in re.findall(r'^extern "C" \{\n(.*?)^\}', text, flags=re.S | re.M):
+        for name, parameters, result in re.findall(r"fn (\w+)\(([^)]*)\)(?: -> (\w+))?;", block):
+            yield name, [" ".join(p.split()) for p in parameters.split(",") if p.strip()], result or "()"
+
+
+# ---- Numbers.
+
+
+def number(text, pattern):
+    """The one number that the pattern finds, with its commas and underscores left out."""
+    found = re.findall(pattern, text)
+    return int(re.sub("[,_]", "", found[0])) if len(found) == 1 else None
+
+
+def numbers(text, pattern):
+    return [(name, int(value)) for name, value in re.findall(pattern, text)]
+
+
+def between(text, first, last):
+    return text.split(first, 1)[1].split(last, 1)[0] if first in text else ""
+
+
+def constant(name):
+    return re.sub(r"(?<!^)(?=[A-Z])", "_", name).upper()
+
+
+def comparisons(t):
+    """Everything that is compared, as (what, in the source, found)."""
+    functions = list(of_rattle(t["binding"]))
+    yield "some functions are exported", True, len(functions) > 0
+    yield "exported functions are all found", t["binding"].count("#[no_mangle]"), len(functions)
+    for place, found in ("header", of_c), ("archive", of_rust), ("proved", of_rust):
+        declared = list(found(t[place]))
+        yield f"{FILES[place]}: the functions", [f[0] for f in functions], [f[0] for f in declared]
+        for one, other in zip(functions, declared):
+            yield f"{FILES[place]}: {one[0]}", one, other
+
+    answers = between(t["header"], "typedef enum callplan_answer {", "} callplan_answer;")
+    answers = numbers(answers, r"(?m)^ *CALLPLAN_(\w+) = (\d+)")
+    table = numbers(between(t["rules"], "match refusal {", "}"), r"Refusal::(\w+) => (\d+),")
+    yield "crates/rules: number and its definition", table, numbers(t["refusal"], r"(?m)^number (\w+) = (\d+)$")
+    short = number(t["lent"], r"short : hasRoom before ≡ false → \(r ≡ (\d+)\)")
+    accepted = number(t["refusal"], r"code \(accepted a\) = (\d+)")
+    yield "the answer with a length", accepted, number(t["lent"], r"lengthCode \(accepted n\) = (\d+) \+ n")
+    expected = [("REFUSED_" + constant(name), value) for name, value in table]
+    yield "include/callplan.h: the answers", expected + [("SHORT_SLICE", short), ("ACCEPTED", accepted)], answers
+    declared = between(t["refusals"], "pub enum Refusal {", "}")
+    yield "rust/callplan: the refusals", table, numbers(declared, r"(?m)^ *(\w+) = (\d+),")
+    listed = between(t["refusals"], "const REFUSALS", "];")
+    yield "rust/callplan: the refusals by number", [name for name, _ in table], re.findall(r"Refusal::(\w+)", listed)
+    yield "rust/callplan: accepted", accepted, number(t["crate"], r"const ACCEPTED: u32 = (\d+)")
+    yield "reference: accepted", accepted, number(t["proved"], r"const ACCEPTED: u32 = (\d+)")
+    yield "reference: short slices", short, number(t["proved"], r"const SHORT_SLICE: u32 = (\d+)")
+
+    states = number(t["limits"], r"stateCountOk n = leb 1 n && leb n (\d+)")
+    transitions = number(t["limits"], r"transitionCountOk m = leb m (\d+)")
+    length = re.findall(r"imageLength n m = (\d+) \+ n \+ (\d+) \* m", t["image"])
+    octets = int(length[0][0]) + states + int(length[0][1]) * transitions if len(length) == 1 else None
+    constants = {
+        "MAX_STATES": states,
+        "MAX_TRANSITIONS": transitions,
+        "MAX_DURATION": number(t["limits"], r"leb \(t \.high\) (\d+)"),
+        "MAX_IMAGE_OCTETS": octets,
+        "RECORD_OCTETS": number(t["quotations"], r"ltb \(length buffer\) (\d+)"),
+    }
+    yield "the record's length", constants["RECORD_OCTETS"], number(t["quotations"], r"(?m)^  accepted (\d+)$")
+    marks = {
+        "START": number(t["graph"], r"start g s = eqb \(marksOf g s / (\d) % 2\) 1"),
+        "FINAL": number(t["graph"], r"final g s = eqb \(marksOf g s / (\d) % 2\) 1"),
+        "COUNTED": 1 if "counted g s = eqb (marksOf g s % 2) 1" in t["graph"] else None,
+    }
+    kinds = [("NUMBER" if k == "(number k)" else k, v) for k, v in numbers(t["figure"], r"(?m)^kind (.*) = (\d)$")]
+    for name, value in constants.items():
+        yield f"{name} is found", True, value is not None
+        yield f"include/callplan.h: {name}", value, number(t["header"], rf"#define CALLPLAN_{name} (\d+)")
+        yield f"rust/callplan: {name}", value, number(t["crate"], rf"pub const {name}: \w+ = ([\d_]+);")
+    for name, value in marks.items():
+        yield f"{name} is found", True, value is not None
+        yield f"include/callplan.h: {name}", value, number(t["header"], rf"\bCALLPLAN_{name} = (\d)")
+        yield f"rust/callplan: {name}", value, number(t["crate"], rf"pub const {name}: u32 = (\d);")
+    declared = between(t["header"], "typedef enum callplan_kind {", "} callplan_kind;")
+    yield "include/callplan.h: the kinds", kinds, numbers(declared, r"CALLPLAN_(\w+) = (\d)")
+
+    room = re.findall(r"= leb (\d+) counts && \(leb (\d+) marks && leb (\d+) fields\)", t["lent"])
+    room = [tuple(map(int, r)) for r in room]
+    yield "the places of a plan", [(2, states, 4 * transitions)], room
+    slices = between(t["header"], "#define CALLPLAN_SLICES(plan)", "\n\n")
+    given = "(plan)->counts, 2, (plan)->marks, CALLPLAN_MAX_STATES, (plan)->fields, 4 * CALLPLAN_MAX_TRANSITIONS"
+    yield "include/callplan.h: the slices", given, slices.replace("\\", "").strip()
+    out = number(t["quoted"], r"canAnswer s out = hasRoom s && leb (\d+) \(length out\)")
+    yield "include/callplan.h: the places of an answer", out, number(t["header"], r"figure->walk, CALLPLAN_MAX_STATES, out, (\d+)\)")
+
+    version = re.findall(r'#define CALLPLAN_VERSION "([\d.]+)"', t["header"])
+    yield "include/callplan.pc: the version", version, re.findall(r"(?m)^Version: (.*)$", t["package"])
+    yield "rust/callplan: the version", version, re.findall(r'(?m)^version = "(.*)"$', t["cargo"])
+
+
+def compare(texts):
+    """How many comparisons hold, and those that do not."""
+    try:
+        made = list(comparisons(texts))
+    except (AttributeError, KeyError, TypeError, ValueError) as error:
+        return 0, [("a text is not of the form that is compared", "another form", repr(error))]
+    wrong = [one for one in made if one[1] != one[2]]
+    return len(made) - len(wrong), wrong
+
+
+# ---- Damages: a text, what stands in it, and what is put in the place of the first.
+
+DAMAGES = [
+    ("binding", "callplan_lent_unjoin(", "callplan_lent_remove("),
+    ("binding", "    n: usize,", "    n: u32,"),
+    ("binding", "    octets: &[u8],", "    octets: &mut [u8],"),
+    ("binding", "    walk: &mut [u16],", "    walk: &mut [u32],"),
+    ("binding", "    from: usize,\n    to: usize,", "    to: usize,\n    from: usize,"),
+    ("binding", "    value: u32,\n) -> u32", "    value: u32,\n) -> u64"),
+    ("binding", "#[no_mangle]\n", "#[no_mangle]\npub extern \"C\" fn callplan_lent_more(n: usize) -> u32\n{ 0 }\n\n#[no_mangle]\n"),
+    ("binding", "#[no_mangle]\npub extern", "pub extern"),
+    ("rules", "Refusal::Duration => 8", "Refusal::Duration => 9"),
+    ("rules", "Refusal::SpareBits => 6,", ""),
+    ("refusal", "number ListFull = 9", "number ListFull = 8"),
+    ("refusal", "code (accepted a) = 256", "code (accepted a) = 512"),
+    ("lent", "(r ≡ 255)", "(r ≡ 254)"),
+    ("lent", "= 256 + n", "= 255 + n"),
+    ("lent", "leb 8192 fields", "leb 8191 fields"),
+    ("quoted", "leb 4 (length out)", "leb 5 (length out)"),
+    ("limits", "leb n 512", "leb n 511"),
+    ("limits", "leb m 2048", "leb m 4096"),
+    ("limits", "leb (t .high) 2047", "leb (t .high) 2046"),
+    ("image", "4 + n + 5 * m", "4 + n + 6 * m"),
+    ("quotations", "ltb (length buffer) 11", "ltb (length buffer) 16"),
+    ("quotations", "accepted 11", "accepted 16"),
+    ("graph", "marksOf g s / 4 % 2", "marksOf g s / 8 % 2"),
+    ("graph", "marksOf g s / 2 % 2", "marksOf g s / 4 % 2"),
+    ("graph", "counted g s = eqb (marksOf g s % 2) 1", "counted g s = eqb (marksOf g s / 8 % 2) 1"),
+    ("figure", "kind STRANDED = 2", "kind STRANDED = 3"),
+    ("header", "uint32_t callplan_lent_read(", "uint64_t callplan_lent_read("),
+    ("header", "uint32_t callplan_lent_write(const size_t *counts", "uint32_t callplan_lent_write(size_t *counts"),
+    ("header", "size_t from, size_t to", "size_t to, size_t from"),
+    ("header", "uint32_t low, uint32_t high);", "uint32_t low, uint16_t high);"),
+    ("header", "uint16_t *walk, size_t walk_len,", "uint16_t *walk,"),
+    ("header", "uint32_t callplan_lent_record(", "uint32_t callplan_lent_records("),
+    ("header", "CALLPLAN_REFUSED_DURATION = 8", "CALLPLAN_REFUSED_DURATION = 7"),
+    ("header", "CALLPLAN_REFUSED_LIST_FULL = 9", "CALLPLAN_REFUSED_FULL = 9"),
+    ("header", "CALLPLAN_SHORT_SLICE = 255", "CALLPLAN_SHORT_SLICE = 254"),
+    ("header", "CALLPLAN_ACCEPTED = 256", "CALLPLAN_ACCEPTED = 0"),
+    ("header", "CALLPLAN_MAX_STATES 512", "CALLPLAN_MAX_STATES 511"),
+    ("header", "CALLPLAN_MAX_TRANSITIONS 2048", "CALLPLAN_MAX_TRANSITIONS 2047"),
+    ("header", "CALLPLAN_MAX_DURATION 2047", "CALLPLAN_MAX_DURATION 2048"),
+    ("header", "CALLPLAN_MAX_IMAGE_OCTETS 10756", "CALLPLAN_MAX_IMAGE_OCTETS 10755"),
+    ("header", "CALLPLAN_RECORD_OCTETS 11", "CALLPLAN_RECORD_OCTETS 16"),
+    ("header", "CALLPLAN_START = 4", "CALLPLAN_START = 1"),
+    ("header", "CALLPLAN_FINAL = 2", "CALLPLAN_FINAL = 3"),
+    ("header", "CALLPLAN_COUNTED = 1", "CALLPLAN_COUNTED = 4"),
+    ("header", "CALLPLAN_ENDLESS = 3", "CALLPLAN_ENDLESS = 4"),
+    ("header", "(plan)->counts, 2", "(plan)->counts, 1"),
+    ("header", "CALLPLAN_MAX_STATES, out, 4)", "CALLPLAN_MAX_STATES, out, 3)"),
+    ("header", 'CALLPLAN_VERSION "0', 'CALLPLAN_VERSION "1'),
+    ("package", "Version: 0", "Version: 1"),
+    ("cargo", 'version = "0', 'version = "1'),
+    ("crate", "MAX_STATES: usize = 512", "MAX_STATES: usize = 1024"),
+    ("crate", "MAX_TRANSITIONS: usize = 2048", "MAX_TRANSITIONS: usize = 1024"),
+    ("crate", "MAX_IMAGE_OCTETS: usize = 10756", "MAX_IMAGE_OCTETS: usize = 10757"),
+    ("crate", "ACCEPTED: u32 = 256", "ACCEPTED: u32 = 255"),
+    ("crate", "FINAL: u32 = 2", "FINAL: u32 = 1"),
+    ("archive", "fields: *mut u16", "fields: *mut u32"),
+    ("archive", "octets: *const u8", "octets: *mut u8"),
+    ("archive", "        number: usize,\n", ""),
+    ("archive", "callplan_lent_least_delay(", "callplan_lent_delay("),
+    ("refusals", "StateNumber = 7", "StateNumber = 17"),
+    ("refusals", "Refusal::ImageShort,\n    Refusal::ImageLong", "Refusal::ImageLong,\n    Refusal::ImageShort"),
+    ("proved", "value: u32,\n    ) -> u32", "value: u32,\n    ) -> u16"),
+    ("proved", "walk_len: usize", "length: usize"),
+    ("proved", "SHORT_SLICE: u32 = 255", "SHORT_SLICE: u32 = 254"),
+    ("proved", "ACCEPTED: u32 = 256", "ACCEPTED: u32 = 257"),
+]
+
+
+def main():
+    texts = {name: (ROOT / path).read_text(encoding="utf-8") for name, path in FILES.items()}
+    passed, wrong = compare(texts)
+    failed = len(wrong)
+    for what, source, found in wrong:
+        print(f"{what}\n    source: {source}\n    found:  {found}")
+
+    for name, old, new in DAMAGES:
+        damaged = dict(texts, **{name: texts[name].replace(old, new, 1)})
+        if old in texts[name] and compare(damaged)[1] != wrong:
+            passed += 1
+        else:
+            failed += 1
+            print(f"{FILES[name]}: not noticed: {new!r} in the place of {old!r}")
+    for name in FILES:
+        if name not in [damage[0] for damage in DAMAGES]:
+            failed += 1
+            print(f"{FILES[name]}: no damage is tried")
+
+    print(f"{passed} passed, {failed} failed")
+    return 0 if failed == 0 else 1
+
+
+if __name__ == "__main__":
+    sys.exit(main())

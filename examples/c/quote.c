@@ -1,0 +1,78 @@
+/* Reads the image in a file and prints its four figures with their walks, or the number that it is refused by: the lines of ./quote. */
+#include <inttypes.h>
+#include <stdio.h>
+
+#include "callplan.h"
+
+static void print_figure(const char *name, const callplan_figure *figure)
+{
+    printf("%s ", name);
+    switch (figure->kind) {
+    case CALLPLAN_NUMBER:
+        printf("%" PRIu32 ":", figure->value);
+        break;
+    case CALLPLAN_NONE:
+        printf("NONE:");
+        break;
+    case CALLPLAN_STRANDED:
+        printf("STRANDED:");
+        break;
+    case CALLPLAN_ENDLESS:
+        printf("ENDLESS:");
+        break;
+    }
+    for (size_t i = 0; i < figure->k; i++) {
+        printf(" %u", (unsigned)figure->walk[i]);
+    }
+    if (figure->kind == CALLPLAN_ENDLESS) {
+        printf(" @%zu", figure->j);
+    }
+    printf("\n");
+}
+
+int main(int count, char **arguments)
+{
+    static const struct {
+        const char *name;
+        callplan_answer (*quote)(const callplan_plan *, callplan_figure *);
+    } figures[] = {
+        {"least delay", callplan_least_delay},
+        {"greatest delay", callplan_greatest_delay},
+        {"least count", callplan_least_count},
+        {"greatest count", callplan_greatest_count},
+    };
+    if (count != 2) {
+        fprintf(stderr, "usage: quote FILE\n");
+        return 2;
+    }
+    FILE *file = fopen(arguments[1], "rb");
+    if (file == NULL) {
+        perror(arguments[1]);
+        return 1;
+    }
+    /* One octet more than an image can have, so that a longer file is refused as one. */
+    uint8_t octets[CALLPLAN_MAX_IMAGE_OCTETS + 1];
+    const size_t length = fread(octets, 1, sizeof octets, file);
+    const int failed = ferror(file);
+    fclose(file);
+    if (failed) {
+        fprintf(stderr, "%s: cannot be read\n", arguments[1]);
+        return 1;
+    }
+
+    callplan_plan plan;
+    callplan_fresh(&plan, 1);
+    const callplan_answer answer = callplan_read(&plan, octets, length);
+    if (answer != CALLPLAN_ACCEPTED) {
+        printf("refused %d\n", (int)answer);
+        return 0;
+    }
+    for (size_t i = 0; i < sizeof figures / sizeof figures[0]; i++) {
+        callplan_figure figure;
+        if (figures[i].quote(&plan, &figure) != CALLPLAN_ACCEPTED) {
+            return 1; /* An accepted plan is within its limits, so this does not happen. */
+        }
+        print_figure(figures[i].name, &figure);
+    }
+    return 0;
+}

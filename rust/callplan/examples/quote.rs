@@ -1,0 +1,42 @@
+//! Reads the image in a file and prints its four figures with their walks, or the number that it is
+//! refused by: the lines of ./quote.
+
+#![deny(warnings)]
+
+use std::io::{self, stdout, Write};
+use std::{env, fs};
+
+use callplan::{Figure, Plan, Quotation};
+
+fn line(name: &str, quotation: &Quotation) -> String {
+    let mut line = match quotation.figure() {
+        Figure::Number(value) => format!("{name} {value}:"),
+        Figure::None => format!("{name} NONE:"),
+        Figure::Stranded => format!("{name} STRANDED:"),
+        Figure::Endless { .. } => format!("{name} ENDLESS:"),
+    };
+    for number in quotation.walk() {
+        line += &format!(" {number}");
+    }
+    if let Figure::Endless { j } = quotation.figure() {
+        line += &format!(" @{j}");
+    }
+    line + "\n"
+}
+
+fn main() -> io::Result<()> {
+    let Some(path) = env::args_os().nth(1) else {
+        return Err(io::Error::other("usage: quote FILE"));
+    };
+    let text = match Plan::from_image(&fs::read(path)?) {
+        Ok(plan) => [
+            line("least delay", &plan.least_delay()),
+            line("greatest delay", &plan.greatest_delay()),
+            line("least count", &plan.least_count()),
+            line("greatest count", &plan.greatest_count()),
+        ]
+        .concat(),
+        Err(refusal) => format!("refused {}\n", refusal.number()),
+    };
+    stdout().write_all(text.as_bytes())
+}

@@ -1,0 +1,132 @@
+//! The functions of the archive. `checks/header.py` compares them with the source of the library.
+
+extern "C" {
+    pub fn callplan_lent_fresh(
+        n: usize,
+        counts: *mut usize,
+        counts_len: usize,
+        marks: *mut u8,
+        marks_len: usize,
+        fields: *mut u16,
+        fields_len: usize,
+    ) -> u32;
+
+    pub fn callplan_lent_mark(
+        counts: *mut usize,
+        counts_len: usize,
+        marks: *mut u8,
+        marks_len: usize,
+        fields: *mut u16,
+        fields_len: usize,
+        state: usize,
+        value: u32,
+    ) -> u32;
+
+    pub fn callplan_lent_join(
+        counts: *mut usize,
+        counts_len: usize,
+        marks: *mut u8,
+        marks_len: usize,
+        fields: *mut u16,
+        fields_len: usize,
+        from: usize,
+        to: usize,
+        low: u32,
+        high: u32,
+    ) -> u32;
+
+    pub fn callplan_lent_unjoin(
+        counts: *mut usize,
+        counts_len: usize,
+        marks: *mut u8,
+        marks_len: usize,
+        fields: *mut u16,
+        fields_len: usize,
+        number: usize,
+    ) -> u32;
+
+    pub fn callplan_lent_read(
+        counts: *mut usize,
+        counts_len: usize,
+        marks: *mut u8,
+        marks_len: usize,
+        fields: *mut u16,
+        fields_len: usize,
+        octets: *const u8,
+        octets_len: usize,
+    ) -> u32;
+
+    pub fn callplan_lent_write(
+        counts: *const usize,
+        counts_len: usize,
+        marks: *const u8,
+        marks_len: usize,
+        fields: *const u16,
+        fields_len: usize,
+        buffer: *mut u8,
+        buffer_len: usize,
+    ) -> u32;
+
+    pub fn callplan_lent_least_delay(
+        counts: *const usize,
+        counts_len: usize,
+        marks: *const u8,
+        marks_len: usize,
+        fields: *const u16,
+        fields_len: usize,
+        walk: *mut u16,
+        walk_len: usize,
+        out: *mut u32,
+        out_len: usize,
+    ) -> u32;
+
+    pub fn callplan_lent_greatest_delay(
+        counts: *const usize,
+        counts_len: usize,
+        marks: *const u8,
+        marks_len: usize,
+        fields: *const u16,
+        fields_len: usize,
+        walk: *mut u16,
+        walk_len: usize,
+        out: *mut u32,
+        out_len: usize,
+    ) -> u32;
+
+    pub fn callplan_lent_least_count(
+        counts: *const usize,
+        counts_len: usize,
+        marks: *const u8,
+        marks_len: usize,
+        fields: *const u16,
+        fields_len: usize,
+        walk: *mut u16,
+        walk_len: usize,
+        out: *mut u32,
+        out_len: usize,
+    ) -> u32;
+
+    pub fn callplan_lent_greatest_count(
+        counts: *const usize,
+        counts_len: usize,
+        marks: *const u8,
+        marks_len: usize,
+        fields: *const u16,
+        fields_len: usize,
+        walk: *mut u16,
+        walk_len: usize,
+        out: *mut u32,
+        out_len: usize,
+    ) -> u32;
+
+    pub fn callplan_lent_record(
+        counts: *const usize,
+        counts_len: usize,
+        marks: *const u8,
+        marks_len: usize,
+        fields: *const u16,
+        fields_len: usize,
+        buffer: *mut u8,
+        buffer_len: usize,
+    ) -> u32;
+}

@@ -1,0 +1,343 @@
+//! The call plan calculator: a call plan is edited, read and written as an image, and quoted.
+//!
+//! The calls are those of the proved archive, `libcallplan.a`, and each answers as `callplan.h`
+//! says. No call keeps anything when it has returned, so plans may be used from any thread.
+
+#![deny(warnings, missing_docs)]
+
+mod archive;
+mod refusal;
+
+use std::fmt;
+
+pub use refusal::Refusal;
+
+/// The most states of a plan.
+pub const MAX_STATES: usize = 512;
+/// The most transitions of a plan.
+pub const MAX_TRANSITIONS: usize = 2048;
+/// The longest duration, in seconds.
+pub const MAX_DURATION: u32 = 2047;
+/// The most octets of an image.
+pub const MAX_IMAGE_OCTETS: usize = 10756;
+/// The octets of a record.
+pub const RECORD_OCTETS: usize = 11;
+
+/// A marks value is a sum of [`START`], [`FINAL`] and [`COUNTED`].
+pub const START: u32 = 4;
+/// A person has answered.
+pub const FINAL: u32 = 2;
+/// The state counts.
+pub const COUNTED: u32 = 1;
+
+/// What the archive answers for accepted. Write and record add the octets' number.
+const ACCEPTED: u32 = 256;
+
+/// A transition: it takes from `low` to `high` seconds.
+#[derive(Clone, Copy, Debug, PartialEq, Eq, Hash)]
+#[allow(missing_docs)]
+pub struct Transition {
+    pub from: usize,
+    pub to: usize,
+    pub low: u32,
+    pub high: u32,
+}
+
+/// A figure: its number or kind.
+#[derive(Clone, Copy, Debug, PartialEq, Eq, Hash)]
+pub enum Figure {
+    /// Seconds, or counted states.
+    Number(u32),
+    /// A least figure of a plan without routes, or a greatest one of a plan without a start.
+    None,
+    /// A call can end unanswered, in a state that nothing leaves.
+    Stranded,
+    /// A call can go on forever unanswered: the walk arrives where it was after `j` transitions.
+    #[allow(missing_docs)]
+    Endless { j: usize },
+}
+
+/// A figure, with a walk that shows it.
+#[derive(Clone)]
+pub struct Quotation {
+    figure: Figure,
+    k: usize,
+    places: [u16; MAX_STATES],
+}
+
+impl Quotation {
+    /// The figure.
+    pub fn figure(&self) -> Figure {
+        self.figure
+    }
+
+    /// The walk, as transition numbers. Beside a number or [`Figure::Stranded`] an empty one is a
+    /// start alone.
+    pub fn walk(&self) -> &[u16] {
+        &self.places[..self.k]
+    }
+
+    /// The quotation with a kind, value, k and j of the archive.
+    fn of([kind, value, k, j]: [u32; 4], places: [u16; MAX_STATES]) -> Quotation {
+        let figure = match kind {
+            0 => Figure::Number(value),
+            1 => Figure::None,
+            2 => Figure::Stranded,
+            _ => Figure::Endless { j: j as usize },
+        };
+        Quotation {
+            figure,
+            k: k as usize,
+            places,
+        }
+    }
+}
+
+impl fmt::Debug for Quotation {
+    fn fmt(&self, f: &mut fmt::Formatter) -> fmt::Result {
+        f.debug_struct("Quotation")
+            .field("figure", &self.figure)
+            .field("walk", &self.walk())
+            .finish()
+    }
+}
+
+/// A quotation of the archive.
+type Quote = unsafe extern "C" fn(
+    *const usize,
+    usize,
+    *const u8,
+    usize,
+    *const u16,
+    usize,
+    *mut u16,
+    usize,
+    *mut u32,
+    usize,
+) -> u32;
+
+/// A plan, always within the limits. It is 16,912 octets large, and is kept where it is put.
+#[derive(Clone)]
+pub struct Plan {
+    counts: [usize; 2],
+    marks: [u8; MAX_STATES],
+    fields: [u16; 4 * MAX_TRANSITIONS],
+}
+
+// SAFETY, of each call of the archive: every pointer stands beside its number of places, which live
+// through the call, and those that it may write to are borrowed for it alone.
+impl Plan {
+    /// A plan with n states, all marks 0, and no transitions.
+    pub fn fresh(n: usize) -> Result<Plan, Refusal> {
+        let mut plan = Plan {
+            counts: [0; 2],
+            marks: [0; MAX_STATES],
+            fields: [0; 4 * MAX_TRANSITIONS],
+        };
+        let answer = unsafe {
+            archive::callplan_lent_fresh(
+                n,
+                plan.counts.as_mut_ptr(),
+                plan.counts.len(),
+                plan.marks.as_mut_ptr(),
+                plan.marks.len(),
+                plan.fields.as_mut_ptr(),
+                plan.fields.len(),
+            )
+        };
+        accepted(answer).map(|_| plan)
+    }
+
+    /// The plan that the octets are the image of.
+    pub fn from_image(octets: &[u8]) -> Result<Plan, Refusal> {
+        let mut plan = Plan::fresh(1)?;
+        plan.read(octets)?;
+        Ok(plan)
+    }
+
+    /// Makes the marks value of a state the value given.
+    pub fn mark(&mut self, state: usize, value: u32) -> Result<(), Refusal> {
+        let answer = unsafe {
+            archive::callplan_lent_mark(
+                self.counts.as_mut_ptr(),
+                self.counts.len(),
+                self.marks.as_mut_ptr(),
+                self.marks.len(),
+                self.fields.as_mut_ptr(),
+                self.fields.len(),
+                state,
+                value,
+            )
+        };
+        accepted(answer).map(|_| ())
+    }
+
+    /// Puts a transition at the end of the list.
+    pub fn join(&mut self, transition: Transition) -> Result<(), Refusal> {
+        let answer = unsafe {
+            archive::callplan_lent_join(
+                self.counts.as_mut_ptr(),
+                self.counts.len(),
+                self.marks.as_mut_ptr(),
+                self.marks.len(),
+                self.fields.as_mut_ptr(),
+                self.fields.len(),
+                transition.from,
+                transition.to,
+                transition.low,
+                transition.high,
+            )
+        };
+        accepted(answer).map(|_| ())
+    }
+
+    /// Takes the transition with this number out of the list. The later ones move down by one.
+    pub fn unjoin(&mut self, number: usize) -> Result<(), Refusal> {
+        let answer = unsafe {
+            archive::callplan_lent_unjoin(
+                self.counts.as_mut_ptr(),
+                self.counts.len(),
+                self.marks.as_mut_ptr(),
+                self.marks.len(),
+                self.fields.as_mut_ptr(),
+                self.fields.len(),
+                number,
+            )
+        };
+        accepted(answer).map(|_| ())
+    }
+
+    /// Becomes the plan that the octets are the image of.
+    pub fn read(&mut self, octets: &[u8]) -> Result<(), Refusal> {
+        let answer = unsafe {
+            archive::callplan_lent_read(
+                self.counts.as_mut_ptr(),
+                self.counts.len(),
+                self.marks.as_mut_ptr(),
+                self.marks.len(),
+                self.fields.as_mut_ptr(),
+                self.fields.len(),
+                octets.as_ptr(),
+                octets.len(),
+            )
+        };
+        accepted(answer).map(|_| ())
+    }
+
+    /// Puts the image at the front of the buffer, and gives the number of its octets.
+    pub fn write(&self, buffer: &mut [u8]) -> Result<usize, Refusal> {
+        accepted(unsafe {
+            archive::callplan_lent_write(
+                self.counts.as_ptr(),
+                self.counts.len(),
+                self.marks.as_ptr(),
+                self.marks.len(),
+                self.fields.as_ptr(),
+                self.fields.len(),
+                buffer.as_mut_ptr(),
+                buffer.len(),
+            )
+        })
+    }
+
+    /// The smallest sum of lows over all routes.
+    pub fn least_delay(&self) -> Quotation {
+        self.quote(archive::callplan_lent_least_delay)
+    }
+
+    /// The largest sum of highs over all routes, unless calls can go unanswered.
+    pub fn greatest_delay(&self) -> Quotation {
+        self.quote(archive::callplan_lent_greatest_delay)
+    }
+
+    /// The smallest number of counted states on a route, first and last included.
+    pub fn least_count(&self) -> Quotation {
+        self.quote(archive::callplan_lent_least_count)
+    }
+
+    /// The largest number of counted states on a route, unless calls can go unanswered.
+    pub fn greatest_count(&self) -> Quotation {
+        self.quote(archive::callplan_lent_greatest_count)
+    }
+
+    /// Puts the record of the four figures at the front of the buffer, and gives the number of its
+    /// octets.
+    pub fn record(&self, buffer: &mut [u8]) -> Result<usize, Refusal> {
+        accepted(unsafe {
+            archive::callplan_lent_record(
+                self.counts.as_ptr(),
+                self.counts.len(),
+                self.marks.as_ptr(),
+                self.marks.len(),
+                self.fields.as_ptr(),
+                self.fields.len(),
+                buffer.as_mut_ptr(),
+                buffer.len(),
+            )
+        })
+    }
+
+    /// The number of states.
+    pub fn states(&self) -> usize {
+        self.counts[0]
+    }
+
+    /// The number of transitions.
+    pub fn transitions(&self) -> usize {
+        self.counts[1]
+    }
+
+    /// The marks value of a state.
+    pub fn marks(&self, state: usize) -> Option<u32> {
+        (state < self.states()).then(|| self.marks[state].into())
+    }
+
+    /// The transition with this number.
+    pub fn transition(&self, number: usize) -> Option<Transition> {
+        (number < self.transitions()).then(|| Transition {
+            from: self.fields[number].into(),
+            to: self.fields[MAX_TRANSITIONS + number].into(),
+            low: self.fields[2 * MAX_TRANSITIONS + number].into(),
+            high: self.fields[3 * MAX_TRANSITIONS + number].into(),
+        })
+    }
+
+    fn quote(&self, quote: Quote) -> Quotation {
+        let mut places = [0; MAX_STATES];
+        let mut out = [0; 4];
+        let answer = unsafe {
+            quote(
+                self.counts.as_ptr(),
+                self.counts.len(),
+                self.marks.as_ptr(),
+                self.marks.len(),
+                self.fields.as_ptr(),
+                self.fields.len(),
+                places.as_mut_ptr(),
+                places.len(),
+                out.as_mut_ptr(),
+                out.len(),
+            )
+        };
+        assert_eq!(answer, ACCEPTED, "a plan within the limits is quoted");
+        Quotation::of(out, places)
+    }
+}
+
+impl fmt::Debug for Plan {
+    fn fmt(&self, f: &mut fmt::Formatter) -> fmt::Result {
+        f.debug_struct("Plan")
+            .field("states", &self.states())
+            .field("transitions", &self.transitions())
+            .finish_non_exhaustive()
+    }
+}
+
+/// What an answer of the archive says: accepted, with a length from the calls that have one, or
+/// refused.
+fn accepted(answer: u32) -> Result<usize, Refusal> {
+    match answer.checked_sub(ACCEPTED) {
+        Some(length) => Ok(length as usize),
+        None => Err(Refusal::of(answer)),
+    }
+}

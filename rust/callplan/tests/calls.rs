@@ -1,0 +1,172 @@
+//! Every call of the crate, accepted and refused.
+
+#![deny(warnings)]
+
+use std::thread;
+
+use callplan::{Figure, Plan, Refusal, Transition, COUNTED, FINAL, MAX_TRANSITIONS, START};
+
+/// The image of plan P1 of document 01.
+const P1: [u8; 28] = [
+    0x10, 0x10, 0x01, 0x00, 0x80, 0x20, 0x20, 0x40, 0x00, 0x00, 0x40, 0x28, 0x14, 0x00, 0x80, 0x80,
+    0x18, 0x0F, 0x00, 0x80, 0xC0, 0x10, 0x1E, 0x01, 0x00, 0xC0, 0x20, 0x19,
+];
+
+fn transition(from: usize, to: usize, low: u32, high: u32) -> Transition {
+    Transition {
+        from,
+        to,
+        low,
+        high,
+    }
+}
+
+fn p1() -> Result<Plan, Refusal> {
+    let mut plan = Plan::fresh(4)?;
+    plan.mark(0, START)?;
+    plan.mark(1, COUNTED)?;
+    plan.mark(2, COUNTED)?;
+    plan.mark(3, FINAL)?;
+    plan.join(transition(0, 1, 5, 20))?;
+    plan.join(transition(1, 2, 3, 15))?;
+    plan.join(transition(1, 3, 2, 30))?;
+    plan.join(transition(2, 3, 4, 25))?;
+    Ok(plan)
+}
+
+fn image(plan: &Plan) -> Vec<u8> {
+    let mut buffer = [0; callplan::MAX_IMAGE_OCTETS];
+    let length = plan.write(&mut buffer).unwrap();
+    buffer[..length].to_vec()
+}
+
+#[test]
+fn a_plan_is_made_by_edits_and_holds_what_it_was_given() {
+    let mut plan = p1().unwrap();
+    assert_eq!((plan.states(), plan.transitions()), (4, 4));
+    assert_eq!((plan.marks(3), plan.marks(4)), (Some(FINAL), None));
+    assert_eq!(plan.transition(3), Some(transition(2, 3, 4, 25)));
+    assert_eq!(plan.transition(4), None);
+    assert_eq!(plan.unjoin(0), Ok(()));
+    assert_eq!(plan.transition(0), Some(transition(1, 2, 3, 15)));
+    assert_eq!(plan.transition(3), None);
+}
+
+#[test]
+fn edits_are_refused_and_change_nothing() {
+    let mut plan = p1().unwrap();
+    assert_eq!(Plan::fresh(0).unwrap_err(), Refusal::StateCount);
+    assert_eq!(Plan::fresh(513).unwrap_err(), Refusal::StateCount);
+    assert_eq!(plan.mark(4, 8), Err(Refusal::StateNumber));
+    assert_eq!(plan.mark(3, 8), Err(Refusal::MarksValue));
+    assert_eq!(
+        plan.join(transition(0, usize::MAX, 0, 0)),
+        Err(Refusal::StateNumber)
+    );
+    assert_eq!(plan.join(transition(0, 1, 2, 1)), Err(Refusal::Duration));
+    assert_eq!(plan.join(transition(0, 1, 0, 2048)), Err(Refusal::Duration));
+    assert_eq!(plan.unjoin(4), Err(Refusal::TransitionNumber));
+    assert_eq!(image(&plan), P1);
+
+    for _ in plan.transitions()..MAX_TRANSITIONS {
+        plan.join(transition(0, 1, 0, 2047)).unwrap();
+    }
+    assert_eq!(plan.join(transition(0, 1, 0, 0)), Err(Refusal::ListFull));
+    assert_eq!(
+        image(&plan).len(),
+        callplan::MAX_IMAGE_OCTETS - (callplan::MAX_STATES - 4)
+    );
+}
+
+#[test]
+fn images_are_written_and_read() {
+    assert_eq!(image(&p1().unwrap()), P1);
+    assert_eq!(image(&Plan::from_image(&P1).unwrap()), P1);
+
+    let mut buffer = [0xAA; 29];
+    let plan = p1().unwrap();
+    assert_eq!(plan.write(&mut buffer[..27]), Err(Refusal::BufferLength));
+    assert_eq!(plan.write(&mut []), Err(Refusal::BufferLength));
+    assert_eq!(buffer, [0xAA; 29]);
+    assert_eq!(plan.write(&mut buffer), Ok(28));
+    assert_eq!(buffer[28], 0xAA);
+
+    let mut plan = Plan::fresh(1).unwrap();
+    assert_eq!(plan.read(&[]), Err(Refusal::ImageShort));
+    assert_eq!(plan.read(&P1[..27]), Err(Refusal::ImageShort));
+    assert_eq!(
+        plan.read(&[&P1[..], &[0]].concat()),
+        Err(Refusal::ImageLong)
+    );
+    for (place, octet, refusal) in [
+        (0, 0x20, Refusal::Version),
+        (0, 0x1F, Refusal::StateCount),
+        (1, 0x13, Refusal::TransitionCount),
+        (3, 0x01, Refusal::SpareBits),
+        (4, 0x81, Refusal::SpareBits),
+        (8, 0xFF, Refusal::StateNumber),
+        (12, 0x00, Refusal::Duration),
+    ] {
+        let mut octets = P1;
+        octets[place] = octet;
+        if refusal == Refusal::TransitionCount {
+            octets[2] = 0xFF;
+        }
+        assert_eq!(plan.read(&octets), Err(refusal));
+    }
+    assert_eq!((plan.states(), plan.transitions()), (1, 0));
+}
+
+#[test]
+fn figures_are_quoted_with_their_walks() {
+    let plan = p1().unwrap();
+    for (quotation, value, walk) in [
+        (plan.least_delay(), 7, &[0, 2][..]),
+        (plan.greatest_delay(), 60, &[0, 1, 3]),
+        (plan.least_count(), 1, &[0, 2]),
+        (plan.greatest_count(), 2, &[0, 1, 3]),
+    ] {
+        assert_eq!(quotation.figure(), Figure::Number(value));
+        assert_eq!(quotation.walk(), walk);
+    }
+
+    let mut plan = Plan::fresh(2).unwrap();
+    assert_eq!(plan.greatest_delay().figure(), Figure::None);
+    plan.mark(0, START).unwrap();
+    plan.mark(1, FINAL).unwrap();
+    assert_eq!(plan.least_delay().figure(), Figure::None);
+    assert_eq!(plan.greatest_count().figure(), Figure::Stranded);
+    assert!(plan.greatest_count().walk().is_empty());
+    plan.join(transition(0, 0, 0, 0)).unwrap();
+    plan.join(transition(0, 1, 1, 1)).unwrap();
+    assert_eq!(plan.greatest_delay().figure(), Figure::Endless { j: 0 });
+    assert_eq!(plan.greatest_delay().walk(), [0]);
+    assert_eq!(plan.least_delay().walk(), [1]);
+}
+
+#[test]
+fn the_record_is_that_of_document_01() {
+    let plan = p1().unwrap();
+    let mut buffer = [0xAA; 12];
+    assert_eq!(plan.record(&mut buffer[..10]), Err(Refusal::BufferLength));
+    assert_eq!(plan.record(&mut buffer), Ok(callplan::RECORD_OCTETS));
+    assert_eq!(
+        buffer,
+        [0x00, 0x00, 0x1C, 0x00, 0x03, 0xC0, 0x00, 0x00, 0x40, 0x00, 0x02, 0xAA]
+    );
+}
+
+#[test]
+fn one_plan_is_quoted_from_many_threads() {
+    let plan = p1().unwrap();
+    thread::scope(|scope| {
+        for _ in 0..4 {
+            scope.spawn(|| {
+                for _ in 0..200 {
+                    assert_eq!(plan.least_delay().figure(), Figure::Number(7));
+                    assert_eq!(plan.greatest_delay().walk(), [0, 1, 3]);
+                }
+            });
+        }
+    });
+}
