@@ -91,13 +91,18 @@ typedef struct callplan_figure {
     uint16_t walk[CALLPLAN_MAX_STATES];
 } callplan_figure;
 
-/* ---- The functions of the archive.
+/* ---- The functions of the archive, for programs that keep the arrays of a plan apart. The inline functions after them call them.
  *
- * They are what the functions after them call, for programs that keep a plan's parts apart. A lent slice is a pointer, aligned and
- * never null, and its number of places. Places past those used stay. They answer as the functions after them do, but
- * CALLPLAN_SHORT_SLICE before all else where counts has fewer than 2 places, marks than 512, fields than 8,192 or out than 4;
- * a walk with fewer places than the plan has states is refused by CALLPLAN_REFUSED_BUFFER_LENGTH. Write and record answer
- * CALLPLAN_ACCEPTED plus the octets that they put into buffer. A quotation puts kind, value, k and j into out. */
+ * A lent slice is a pointer, aligned and never null, and its number of places:
+ *     counts, marks, fields   the arrays of a callplan_plan, with 2, 512 and 8,192 places at least
+ *     octets                  the image that is read
+ *     buffer                  where write puts the image, and record the record
+ *     walk                    where a quotation puts the walk; with fewer places than the plan has states it is refused by
+ *                             CALLPLAN_REFUSED_BUFFER_LENGTH
+ *     out                     where a quotation puts kind, value, k and j, with 4 places at least
+ * With fewer places in counts, marks, fields or out a function answers CALLPLAN_SHORT_SLICE, before all else, and changes nothing.
+ * Otherwise it answers as the inline function of its name does; write and record answer CALLPLAN_ACCEPTED plus the octets' number.
+ * Later places stay. The other arguments are those of the inline functions. */
 
 uint32_t callplan_lent_fresh(size_t n, size_t *counts, size_t counts_len, uint8_t *marks, size_t marks_len,
                              uint16_t *fields, size_t fields_len);

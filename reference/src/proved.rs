@@ -1,7 +1,7 @@
 //! The proved library, called through its static archive.
 //!
-//! A plan crosses the boundary as three lent slices. Nothing checks the declarations here against
-//! the library's source, so they are few and of one shape.
+//! A plan crosses the boundary as three lent slices. `checks/header.py` compares the declarations
+//! here with the library's source.
 
 #[cfg(feature = "quotations")]
 use crate::figure::{Figure, FIGURES};
