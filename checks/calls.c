@@ -231,6 +231,7 @@ static void short_slices(void)
 int main(void)
 {
     CHECK(sizeof(callplan_plan) == 2 * sizeof(size_t) + 512 + 2 * 8192);
+    CHECK(sizeof(callplan_figure) == 24 + 2 * 512);
     CHECK(CALLPLAN_MAX_IMAGE_OCTETS == 4 + CALLPLAN_MAX_STATES + 5 * CALLPLAN_MAX_TRANSITIONS);
     edits();
     images();
