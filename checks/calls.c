@@ -1,4 +1,4 @@
-/* Every call of callplan.h, accepted and refused, with every place that it is lent. C99 and C++11. The last line is 'N passed, M failed'. */
+/* Every call of callplan.h, accepted and refused. C99 and C++11. The last line is 'N passed, M failed'. */
 #include <stdio.h>
 #include <string.h>
 

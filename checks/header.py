@@ -69,9 +69,9 @@ def of_rust(text):
 
 
 def number(text, pattern):
-    """The one number that the pattern finds, with its commas and underscores left out."""
+    """The number that the pattern finds, if it finds just one."""
     found = re.findall(pattern, text)
-    return int(re.sub("[,_]", "", found[0])) if len(found) == 1 else None
+    return int(found[0]) if len(found) == 1 else None
 
 
 def numbers(text, pattern):
@@ -87,9 +87,8 @@ def constant(name):
 
 
 def comparisons(t):
-    """Everything that is compared, as (what, in the source, found)."""
+    """Everything that is compared, as (what, in the source, found). Nothing in the source is no source, and wrong."""
     functions = list(of_rattle(t["binding"]))
-    yield "some functions are exported", True, len(functions) > 0
     yield "exported functions are all found", t["binding"].count("#[no_mangle]"), len(functions)
     for place, found in ("header", of_c), ("archive", of_rust), ("proved", of_rust):
         declared = list(found(t[place]))
@@ -133,11 +132,9 @@ def comparisons(t):
     }
     kinds = [("NUMBER" if k == "(number k)" else k, v) for k, v in numbers(t["figure"], r"(?m)^kind (.*) = (\d)$")]
     for name, value in constants.items():
-        yield f"{name} is found", True, value is not None
         yield f"include/callplan.h: {name}", value, number(t["header"], rf"#define CALLPLAN_{name} (\d+)")
-        yield f"rust/callplan: {name}", value, number(t["crate"], rf"pub const {name}: \w+ = ([\d_]+);")
+        yield f"rust/callplan: {name}", value, number(t["crate"], rf"pub const {name}: \w+ = (\d+);")
     for name, value in marks.items():
-        yield f"{name} is found", True, value is not None
         yield f"include/callplan.h: {name}", value, number(t["header"], rf"\bCALLPLAN_{name} = (\d)")
         yield f"rust/callplan: {name}", value, number(t["crate"], rf"pub const {name}: u32 = (\d);")
     declared = between(t["header"], "typedef enum callplan_kind {", "} callplan_kind;")
@@ -163,7 +160,7 @@ def compare(texts):
         made = list(comparisons(texts))
     except (AttributeError, KeyError, TypeError, ValueError) as error:
         return 0, [("a text is not of the form that is compared", "another form", repr(error))]
-    wrong = [one for one in made if one[1] != one[2]]
+    wrong = [one for one in made if one[1] != one[2] or one[1] in (None, [])]
     return len(made) - len(wrong), wrong
 
 
