@@ -7,10 +7,12 @@ ghost use Rattle.costs.specs.Scaled.{divided};
 ghost use Rattle.search.specs.Arrays.{Ends};
 ghost use Rattle.search.specs.Chain.{Chains};
 ghost use Rattle.search.specs.Explored.{table, Reached};
-ghost use Rattle.figures.specs.Figures.{Lent, LeastDelayOf, GreatestDelayOf, LeastCountOf, GreatestCountOf};
+ghost use Rattle.figures.specs.Figures.{Lent, LeastDelayOf, GreatestDelayOf, LeastCountOf, GreatestCountOf, LeastOf, GreatestOf};
 use rules::Figure;
+use rules::Pair;
 use rules::Quote;
 use search::Reach;
+use search::chain;
 use search::greatest;
 use search::least;
 
@@ -204,4 +206,120 @@ pub fn greatest_count(
         &close,
         walk,
     )
+}
+
+// Both least figures. The walks go to the first and the third of four parts of 512 places.
+pub fn least(
+    n: usize,
+    m: usize,
+    marks: &[u8; 512],
+    from: &[u16; 2048],
+    to: &[u16; 2048],
+    low: &[u16; 2048],
+    out: &[u16; 512],
+    out_link: &[u16; 2048],
+    walks: &mut [u16],
+) -> Pair
+    requires { ⌜ Lent n m (now from) (now to) (now low) × Chains (now from) m (now out) (now «out_link») × (2048 ≤ length (now walks)) ⌝ }
+    ensures { λ r. ⌜ LeastOf n m (now (marks .entry)) (now (from .entry)) (now (to .entry)) (now (low .entry)) r (now (walks .entry)) (now (walks .exit)) ⌝ }
+{
+    let mut into = [2048u16; 512];
+    let mut into_link = [0u16; 2048];
+    chain::chains(to, m, &mut into, &mut into_link);
+    let delay = least_delay(
+        n,
+        m,
+        marks,
+        from,
+        to,
+        low,
+        &into,
+        &into_link,
+        out,
+        out_link,
+        &mut walks[0..512],
+    );
+    let count = least_count(
+        n,
+        m,
+        marks,
+        from,
+        to,
+        &into,
+        &into_link,
+        out,
+        out_link,
+        &mut walks[1024..1536],
+    );
+    Pair { delay, count }
+}
+
+// Both greatest figures, by one search. The walks go to the second and the fourth of four parts of 512 places.
+pub fn greatest(
+    n: usize,
+    m: usize,
+    marks: &[u8; 512],
+    from: &[u16; 2048],
+    to: &[u16; 2048],
+    high: &[u16; 2048],
+    out: &[u16; 512],
+    out_link: &[u16; 2048],
+    walks: &mut [u16],
+) -> Pair
+    requires { ⌜ Lent n m (now from) (now to) (now high) × Chains (now from) m (now out) (now «out_link») × (2048 ≤ length (now walks)) ⌝ }
+    ensures { λ r. ⌜ GreatestOf n m (now (marks .entry)) (now (from .entry)) (now (to .entry)) (now (high .entry)) r (now (walks .entry)) (now (walks .exit)) ⌝ }
+{
+    let mut rank = [0u16; 512];
+    let mut cursor = [0u16; 512];
+    let mut stack = [0u16; 512];
+    let mut order = [0u16; 512];
+    let mut via = [0u16; 512];
+    let found = greatest::reach(
+        n,
+        m,
+        marks,
+        from,
+        to,
+        out,
+        out_link,
+        &mut rank,
+        &mut cursor,
+        &mut stack,
+        &mut order,
+        &mut via,
+    );
+    let delay = greatest_delay(
+        found,
+        n,
+        m,
+        marks,
+        from,
+        to,
+        high,
+        out,
+        out_link,
+        &rank,
+        &cursor,
+        &stack,
+        &order,
+        &via,
+        &mut walks[512..1024],
+    );
+    let count = greatest_count(
+        found,
+        n,
+        m,
+        marks,
+        from,
+        to,
+        out,
+        out_link,
+        &rank,
+        &cursor,
+        &stack,
+        &order,
+        &via,
+        &mut walks[1536..2048],
+    );
+    Pair { delay, count }
 }

@@ -4,7 +4,7 @@ use mathlib.Core.Bool.{Bool, not, _||_}
 use mathlib.Core.List.{List, [], _∷_, _++_}
 use mathlib.Core.Logic.{_↔_}
 use mathlib.Core.Path.{_≡_}
-use Prim.Native.Nat.{ℕ, _≤_}
+use Prim.Native.Nat.{ℕ, _*_, _≤_}
 use lib.Dec.{ltb}
 use lib.ListN.{length, take, drop}
 use Rattle.graph.specs.Graph.{Graph, states}
@@ -18,6 +18,9 @@ use Rattle.rules.specs.declared.Figure.the-variants.{Number, None, Stran
 use Rattle.rules.specs.declared.Quote.{Quote}
 use Rattle.rules.specs.declared.Quotation.{Quotation}
 use Rattle.rules.specs.declared.Quotation.the-variants.{Quoted, Refused}
+use Rattle.rules.specs.declared.FourQuotes.{FourQuotes}
+use Rattle.rules.specs.declared.Quotations.{Quotations}
+use Rattle.rules.specs.declared.Quotations.the-variants.{Quoted as AllQuoted, Refused as NoneQuoted}
 use Rattle.rules.specs.declared.Refusal.the-variants.{BufferLength, FigureSize}
 use Rattle.rules.specs.Image.{field}
 use Rattle.rules.specs.Refusal.{Result, accepted, refused, _>>_, refuseIf}
@@ -38,6 +41,10 @@ abbrev pub saidQuotation : Quotation → Result (Unit {0})
 saidQuotation (Quoted q) = accepted tt
 saidQuotation (Refused r) = refused (numberOf r)
 
+abbrev pub saidQuotations : Quotations → Result (Unit {0})
+saidQuotations (AllQuoted q) = accepted tt
+saidQuotations (NoneQuoted r) = refused (numberOf r)
+
 -- ---- the rules
 
 -- a quotation that was lent places for its walk: 0, then 11 for fewer than "n places"
@@ -45,6 +52,12 @@ unfoldable pub quoteRule : Graph → List ℕ → Result (Unit {0})
 quoteRule g places = do
   givenPlan g
   refuseIf (ltb (length places) (states g)) BufferLength
+
+-- all four quotations, lent places for four walks, 512 each: 0, then 11 for fewer than 2,048
+unfoldable pub allRule : Graph → List ℕ → Result (Unit {0})
+allRule g places = do
+  givenPlan g
+  refuseIf (ltb (length places) 2048) BufferLength
 
 -- "a kind of 2 bits (0 number, 1 NONE, 2 STRANDED, 3 ENDLESS) and a figure of 20 bits, zero unless the kind is 0"
 abbrev pub figureFields : Figure → List Field
@@ -134,3 +147,27 @@ pub record Quotes (P : Says) (g : Graph) (before after : List ℕ) (r : Quotatio
   pub answer : saidQuotation r ≡ quoteRule g before
   pub kept : (k : ℕ) → quoteRule g before ≡ refused k → after ≡ before
   pub quoted : (q : Quote) → r ≡ Quoted q → P (meant (q .figure)) (q .k) (q .j) before after
+
+-- ---- all four at once
+
+-- the places of a walk: the i-th 512 of the lent ones
+abbrev pub part : ℕ → List ℕ → List ℕ
+part i places = take 512 (drop (512 * i) places)
+
+-- P holds of a quote, and of the lent places before and after
+abbrev pub Stated : Says → Quote → List ℕ → List ℕ → Type 0
+Stated P q before after = P (meant (q .figure)) (q .k) (q .j) before after
+
+-- the quotes of the four figures, "least delay, greatest delay, least count, greatest count in turn", each with its walk in its part of the lent places
+pub record AllStated (g : Graph) (q : FourQuotes) (before after : List ℕ) : Type 0 where
+  pub least-delay : Stated (LeastDelay g) (q .least .delay) (part 0 before) (part 0 after)
+  pub greatest-delay : Stated (GreatestDelay g) (q .greatest .delay) (part 1 before) (part 1 after)
+  pub least-count : Stated (LeastCount g) (q .least .count) (part 2 before) (part 2 after)
+  pub greatest-count : Stated (GreatestCount g) (q .greatest .count) (part 3 before) (part 3 after)
+  pub later : drop 2048 after ≡ drop 2048 before
+
+-- a quotation of all four figures of the plan g: its answer is the rule's, a refusal leaves every lent place, and of an accepted one the four hold
+pub record QuotesAll (g : Graph) (before after : List ℕ) (r : Quotations) : Type 0 where
+  pub answer : saidQuotations r ≡ allRule g before
+  pub kept : (k : ℕ) → allRule g before ≡ refused k → after ≡ before
+  pub quoted : (q : FourQuotes) → r ≡ AllQuoted q → AllStated g q before after

@@ -1,6 +1,8 @@
 // The grounds on which a call is refused, and the answers of calls that edit a plan or fill a lent buffer. The rules themselves are definitions, in specs/.
 
 ghost use mathlib.Core.Path.{_≡_};
+ghost use Rattle.graph.specs.Figure.{kind as kindOf, value as valueOf};
+ghost use Rattle.rules.specs.Quotations.{meant};
 ghost use Rattle.rules.specs.Refusal.{number as numberOf};
 
 // A row of document 01's table of refused calls. specs/Refusal.antt gives the number of each.
@@ -66,6 +68,48 @@ pub struct Quote {
 pub enum Quotation {
     Quoted(Quote),
     Refused(Refusal),
+}
+
+// The quotes of a delay and of a count.
+pub struct Pair {
+    pub delay: Quote,
+    pub count: Quote,
+}
+
+// The quotes of the four figures.
+pub struct FourQuotes {
+    pub least: Pair,
+    pub greatest: Pair,
+}
+
+// The answer of a quotation of all four figures.
+pub enum Quotations {
+    Quoted(FourQuotes),
+    Refused(Refusal),
+}
+
+// The kind of a figure, as the record has it.
+pub fn kind(figure: Figure) -> u8
+    ensures { λ r. ⌜ r ≡ kindOf (meant figure) ⌝ }
+{
+    match figure {
+        Figure::Number(_) => 0,
+        Figure::None => 1,
+        Figure::Stranded => 2,
+        Figure::Endless => 3,
+    }
+}
+
+// The number of a figure, zero where it is a kind.
+pub fn value(figure: Figure) -> u32
+    ensures { λ r. ⌜ r ≡ valueOf (meant figure) ⌝ }
+{
+    match figure {
+        Figure::Number(x) => x,
+        Figure::None => 0,
+        Figure::Stranded => 0,
+        Figure::Endless => 0,
+    }
 }
 
 // The number of a refusal, as the table has it.
