@@ -39,7 +39,7 @@ module _ (a : ℕ) (ys xs : List ℕ) (h : a + 512 ≤ length xs) (l : length ys
   front : (p q r : List ℕ) (c : ℕ) → c + 512 ≤ length p → cut c (p ++ q) ≡ cut c (p ++ r)
   front p q r c g =
       let one : (q : List ℕ) → cut c (p ++ q) ≡ cut c p = λ q. ap (λ (z : List ℕ). take 512 z) (drop-append-le c p q (omega arith))
-          ∙ take-append-le 512 (drop c p) q (omega (arith, length-drop c p)) in
+      ∙ take-append-le 512 (drop c p) q (omega (arith, length-drop c p)) in
       one q ∙ sym (one r)
 
   pub before-it : (c : ℕ) → c + 512 ≤ a → cut c (put a ys xs) ≡ cut c xs

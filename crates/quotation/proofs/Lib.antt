@@ -1,3 +1,4 @@
 -- What the limits give the searches, and promises kept by a refusal and by an accepted quotation.
 pub mod Asked
 pub mod Recorded
+pub mod Together

@@ -2,21 +2,20 @@
 // writes the walk that it shows, or the record, to the front of a lent slice.
 ghost use mathlib.Core.List.{List};
 ghost use mathlib.Core.Path.{_≡_};
-ghost use Prim.Native.Nat.{ℕ, _<_, _^_};
+ghost use Prim.Native.Nat.{ℕ, _≤_, _<_, _^_};
 ghost use lib.ListN.{length};
 ghost use Rattle.rules.specs.Refusal.{said};
-ghost use Rattle.graph.specs.Figure.{kind, value};
-ghost use Rattle.graph.specs.Compute.{leastDelay, greatestDelay, leastCount, greatestCount};
+ghost use Rattle.graph.specs.Figure.{value};
 ghost use Rattle.field.specs.Field.{Within, putAll};
 ghost use Rattle.plan.specs.Promise.{Write};
-ghost use Rattle.rules.specs.Quotations.{meant, figureFields, recordOctets, recordRule, quoteRule, Quotes, LeastDelay, GreatestDelay, LeastCount, GreatestCount};
+ghost use Rattle.rules.specs.Quotations.{meant, figureFields, quotesFields, recordOctets, recordRule, quoteRule, Quotes, QuotesAll, LeastDelay, GreatestDelay, LeastCount, GreatestCount};
 ghost use Rattle.plan.specs.View.{view};
-ghost use Rattle.rules.specs.Limits.{within as withinLimits};
-ghost use mathlib.Core.Bool.{true};
 use plan::Plan;
 use rules::Answer;
-use rules::Figure;
+use rules::FourQuotes;
 use rules::Quotation;
+use rules::Quotations;
+use rules::Quote;
 use rules::Refusal;
 use rules::Written;
 use search::chain;
@@ -212,91 +211,60 @@ pub fn greatest_count(plan: Plan, walk: &mut [u16]) -> Quotation
     ))
 }
 
-// The figure alone of a plan within the limits: the least delay.
-fn least_delay_figure(plan: Plan) -> Figure
-    requires { ⌜ withinLimits (view plan) ≡ true ⌝ }
-    ensures { λ r. ⌜ meant r ≡ leastDelay (view plan) ⌝ }
+// All four figures, with the walks that show them, one after another in four parts of 512 places.
+pub fn all(plan: Plan, walks: &mut [u16]) -> Quotations
+    ensures { λ r. ⌜ QuotesAll (view plan) (now (walks .entry)) (now (walks .exit)) r ⌝ }
 {
-    let mut walk = [0u16; 512];
-    let quotation = least_delay(plan, &mut walk);
-    match quotation {
-        Quotation::Quoted(q) => q.figure,
-        Quotation::Refused(_) => Figure::None,
+    if !plan::within(plan) {
+        return Quotations::Refused(Refusal::PlanLimits);
     }
+    if walks.len() < 2048 {
+        return Quotations::Refused(Refusal::BufferLength);
+    }
+    let n = plan.states;
+    let m = plan.transitions;
+    let marks = plan.marks;
+    let from = plan.from;
+    let to = plan.to;
+    let low = plan.low;
+    let high = plan.high;
+    let mut out = [2048u16; 512];
+    let mut out_link = [0u16; 2048];
+    chain::chains(&from, m, &mut out, &mut out_link);
+    let least = figures::least(n, m, &marks, &from, &to, &low, &out, &out_link, walks);
+    let greatest = figures::greatest(n, m, &marks, &from, &to, &high, &out, &out_link, walks);
+    Quotations::Quoted(FourQuotes { least, greatest })
 }
 
-// The figure alone of a plan within the limits: the greatest delay.
-fn greatest_delay_figure(plan: Plan) -> Figure
-    requires { ⌜ withinLimits (view plan) ≡ true ⌝ }
-    ensures { λ r. ⌜ meant r ≡ greatestDelay (view plan) ⌝ }
+// Puts the kind and the number of a quoted figure at a bit position: 2 bits and 20.
+fn put_figure(buffer: &mut [u8], at: usize, quote: Quote)
+    requires { ⌜ Within (now buffer) at 22 × (value (meant (quote .figure)) < 2 ^ 20) ⌝ }
+    ensures { λ r. ⌜ now (buffer .exit) ≡ putAll (now (buffer .entry)) at (figureFields (meant (quote .figure))) ⌝ }
 {
-    let mut walk = [0u16; 512];
-    let quotation = greatest_delay(plan, &mut walk);
-    match quotation {
-        Quotation::Quoted(q) => q.figure,
-        Quotation::Refused(_) => Figure::None,
-    }
-}
-
-// The figure alone of a plan within the limits: the least count.
-fn least_count_figure(plan: Plan) -> Figure
-    requires { ⌜ withinLimits (view plan) ≡ true ⌝ }
-    ensures { λ r. ⌜ meant r ≡ leastCount (view plan) ⌝ }
-{
-    let mut walk = [0u16; 512];
-    let quotation = least_count(plan, &mut walk);
-    match quotation {
-        Quotation::Quoted(q) => q.figure,
-        Quotation::Refused(_) => Figure::None,
-    }
-}
-
-// The figure alone of a plan within the limits: the greatest count.
-fn greatest_count_figure(plan: Plan) -> Figure
-    requires { ⌜ withinLimits (view plan) ≡ true ⌝ }
-    ensures { λ r. ⌜ meant r ≡ greatestCount (view plan) ⌝ }
-{
-    let mut walk = [0u16; 512];
-    let quotation = greatest_count(plan, &mut walk);
-    match quotation {
-        Quotation::Quoted(q) => q.figure,
-        Quotation::Refused(_) => Figure::None,
-    }
-}
-
-// The kind of a figure, as the record has it.
-fn kind_of(figure: Figure) -> u32
-    ensures { λ r. ⌜ r ≡ kind (meant figure) ⌝ }
-{
-    match figure {
-        Figure::Number(_) => 0,
-        Figure::None => 1,
-        Figure::Stranded => 2,
-        Figure::Endless => 3,
-    }
-}
-
-// The number of a figure, zero where it is a kind.
-fn number_of(figure: Figure) -> u32
-    ensures { λ r. ⌜ r ≡ value (meant figure) ⌝ }
-{
-    match figure {
-        Figure::Number(x) => x,
-        Figure::None => 0,
-        Figure::Stranded => 0,
-        Figure::Endless => 0,
-    }
-}
-
-// Puts the kind and the number of a figure at a bit position: 2 bits and 20.
-fn put_figure(buffer: &mut [u8], at: usize, figure: Figure)
-    requires { ⌜ Within (now buffer) at 22 × (value (meant figure) < 2 ^ 20) ⌝ }
-    ensures { λ r. ⌜ now (buffer .exit) ≡ putAll (now (buffer .entry)) at (figureFields (meant figure)) ⌝ }
-{
-    let kind = kind_of(figure);
-    let number = number_of(figure);
-    field::put(buffer, at, 2, kind);
+    let figure = quote.figure;
+    let kind = rules::kind(figure);
+    let number = rules::value(figure);
+    field::put(buffer, at, 2, kind as u32);
     field::put(buffer, at + 2, 20, number);
+}
+
+// Puts the record of four quotes at the front of the buffer.
+fn put_record(buffer: &mut [u8], quotes: FourQuotes)
+    requires { ⌜ 11 ≤ length (now buffer) ⌝ }
+    requires { ⌜ (value (meant (quotes .least .delay .figure)) < 2 ^ 20) × (value (meant (quotes .greatest .delay .figure)) < 2 ^ 20)
+        × (value (meant (quotes .least .count .figure)) < 2 ^ 20) × (value (meant (quotes .greatest .count .figure)) < 2 ^ 20) ⌝ }
+    ensures { λ r. ⌜ now (buffer .exit) ≡ putAll (now (buffer .entry)) 0 (quotesFields quotes) ⌝ }
+{
+    let least = quotes.least;
+    let greatest = quotes.greatest;
+    let first = least.delay;
+    let second = greatest.delay;
+    let third = least.count;
+    let fourth = greatest.count;
+    put_figure(buffer, 0, first);
+    put_figure(buffer, 22, second);
+    put_figure(buffer, 44, third);
+    put_figure(buffer, 66, fourth);
 }
 
 // Puts the record of the four figures, 11 octets, at the front of the buffer.
@@ -309,13 +277,13 @@ pub fn record(plan: Plan, buffer: &mut [u8]) -> Written
     if buffer.len() < 11 {
         return Written::Refused(Refusal::BufferLength);
     }
-    let first = least_delay_figure(plan);
-    let second = greatest_delay_figure(plan);
-    let third = least_count_figure(plan);
-    let fourth = greatest_count_figure(plan);
-    put_figure(buffer, 0, first);
-    put_figure(buffer, 22, second);
-    put_figure(buffer, 44, third);
-    put_figure(buffer, 66, fourth);
-    Written::Length(11)
+    let mut walks = [0u16; 2048];
+    let quotations = all(plan, &mut walks);
+    match quotations {
+        Quotations::Quoted(quotes) => {
+            put_record(buffer, quotes);
+            Written::Length(11)
+        }
+        Quotations::Refused(r) => Written::Refused(r),
+    }
 }

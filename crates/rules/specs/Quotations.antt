@@ -154,6 +154,12 @@ pub record Quotes (P : Says) (g : Graph) (before after : List ℕ) (r : Quotatio
 abbrev pub part : ℕ → List ℕ → List ℕ
 part i places = take 512 (drop (512 * i) places)
 
+-- the fields of the record of four quotes
+unfoldable pub quotesFields : FourQuotes → List Field
+quotesFields q =
+    figureFields (meant (q .least .delay .figure)) ++ figureFields (meant (q .greatest .delay .figure))
+    ++ figureFields (meant (q .least .count .figure)) ++ figureFields (meant (q .greatest .count .figure))
+
 -- P holds of a quote, and of the lent places before and after
 abbrev pub Stated : Says → Quote → List ℕ → List ℕ → Type 0
 Stated P q before after = P (meant (q .figure)) (q .k) (q .j) before after

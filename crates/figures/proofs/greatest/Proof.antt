@@ -94,8 +94,8 @@ returns c =
     let z = c .before .before .greatest-count .last .1 .1 .1 .1 .1 .1 .1 .1 .1 .1 .1 .1 .1 .0 in
     let lz : length z ≡ 512 = c .before .before .greatest-count .kept .1 .1 .1 .1 .1 .1 .1 .1 .1 .1 .1 .1 .1 .0 ∙ cut-length 1536 (put 512 y w) (omega (arith, q .2, l1)) in
     let t = two 512 1536 (Stated (GreatestDelayOf (a .n) (a .m) (a .marks .now) (a .from .now) (a .to .now) (a .high .now)) (c .before .before .before .before .before .before .before .before .before .before .before .greatest-delay .result))
-        (Stated (GreatestCountOf (a .n) (a .m) (a .marks .now) (a .from .now) (a .to .now)) (c .before .before .greatest-count .result)) w y z (omega arith) (omega (arith, q .2)) ly lz
-        (c .before .before .before .before .before .before .before .before .before .before .before .greatest-delay .ensures) (c .before .before .greatest-count .ensures) in
+    (Stated (GreatestCountOf (a .n) (a .m) (a .marks .now) (a .from .now) (a .to .now)) (c .before .before .greatest-count .result)) w y z (omega arith) (omega (arith, q .2)) ly lz
+    (c .before .before .before .before .before .before .before .before .before .before .before .greatest-delay .ensures) (c .before .before .greatest-count .ensures) in
     record {
       delay = t .first;
       count = t .second;

@@ -86,8 +86,8 @@ returns c =
     let lz : length z ≡ 512 = c .before .before .least-count .kept .1 .1 .1 .1 .1 .1 .1 .1 .1 .0
     ∙ cut-length 1024 (put 0 y w) (omega (arith, q .2, put-length 0 y w (omega (arith, q .2)) ly)) in
     let t = two 0 1024 (Stated (LeastDelayOf (a .n) (a .m) (a .marks .now) (a .from .now) (a .to .now) (a .low .now)) (c .before .before .before .before .before .before .before .before .least-delay .result))
-        (Stated (LeastCountOf (a .n) (a .m) (a .marks .now) (a .from .now) (a .to .now)) (c .before .before .least-count .result)) w y z (omega arith) (omega (arith, q .2)) ly lz
-        (c .before .before .before .before .before .before .before .before .least-delay .ensures) (c .before .before .least-count .ensures) in
+    (Stated (LeastCountOf (a .n) (a .m) (a .marks .now) (a .from .now) (a .to .now)) (c .before .before .least-count .result)) w y z (omega arith) (omega (arith, q .2)) ly lz
+    (c .before .before .before .before .before .before .before .before .least-delay .ensures) (c .before .before .least-count .ensures) in
     record {
       delay = t .first;
       count = t .second;
