@@ -40,7 +40,7 @@ four-stored (v ∷ w ∷ x ∷ y ∷ l) a b c d h = refl
 
 -- ---- k and j fit
 
-small-j : (g : Graph) (c : Cost) (f : Figure) (k j : ℕ) (before after : List ℕ) → Shows g c f k j before after → j ≤ k
+pub small-j : (g : Graph) (c : Cost) (f : Figure) (k j : ℕ) (before after : List ℕ) → Shows g c f k j before after → j ≤ k
 small-j g c (number x) k j before after s = omega (arith, s .walk .4)
 small-j g c NONE k j before after s = omega (arith, s .walk .1)
 small-j g c STRANDED k j before after s = omega (arith, s .walk .3)

@@ -1,7 +1,7 @@
 -- What the quotations promise of lent slices: the walk in one, and the figure's kind and number with k and j in the first four places of another.
 -- Assumes nothing.
 use mathlib.Core.Bool.{Bool, true, false, _&&_}
-use mathlib.Core.List.{List, [], _∷_}
+use mathlib.Core.List.{List, [], _∷_, _++_}
 use mathlib.Core.Path.{_≡_}
 use Prim.Native.Nat.{ℕ, _≤_}
 use lib.Dec.{leb}
@@ -9,9 +9,13 @@ use lib.ListN.{length}
 use Rattle.graph.specs.Graph.{Graph}
 use Rattle.graph.specs.Figure.{Figure, kind, value}
 use Rattle.rules.specs.declared.Quote.{Quote}
+use Rattle.rules.specs.declared.FourQuotes.{FourQuotes}
 use Rattle.rules.specs.declared.Quotation.{Quotation}
 use Rattle.rules.specs.declared.Quotation.the-variants.{Quoted, Refused}
-use Rattle.rules.specs.Quotations.{Says, quoteRule, meant}
+use Rattle.rules.specs.declared.Quotations.{Quotations}
+use Rattle.rules.specs.declared.Quotations.the-variants.{Quoted as AllQuoted, Refused as NoneQuoted}
+use Rattle.rules.specs.Image.{readImage}
+use Rattle.rules.specs.Quotations.{Says, AllStated, quoteRule, meant}
 use Rattle.rules.specs.Refusal.{accepted, refused, number, code}
 use Rattle.arrays.specs.Tables.{over}
 use Rattle.plan.specs.View.{view}
@@ -56,3 +60,41 @@ pub record LentQuote (P : Graph → Says) (s : Slices) (walk walk′ out out′ 
   pub answer : canAnswer s out ≡ true → r ≡ code (quoteRule (view (planIn s)) walk)
   pub kept : canAnswer s out ≡ true → (k : ℕ) → quoteRule (view (planIn s)) walk ≡ refused k → (walk′ ≡ walk) × (out′ ≡ out)
   pub quoted : canAnswer s out ≡ true → quoteRule (view (planIn s)) walk ≡ accepted tt → Stands (P (view (planIn s))) walk walk′ out out′
+
+-- ---- all four figures of an image
+
+-- the numbers of four quotes, "least delay, greatest delay, least count, greatest count in turn"
+abbrev pub fourNumbers : FourQuotes → List ℕ
+fourNumbers q = numbersOf (q .least .delay) ++ numbersOf (q .greatest .delay) ++ numbersOf (q .least .count) ++ numbersOf (q .greatest .count)
+
+-- they are small enough for the places of an answer
+pub record FourSmall (q : FourQuotes) : Type 0 where
+  pub least-delay : SmallQuote (q .least .delay)
+  pub greatest-delay : SmallQuote (q .greatest .delay)
+  pub least-count : SmallQuote (q .least .count)
+  pub greatest-count : SmallQuote (q .greatest .count)
+
+abbrev pub AllSmall : Quotations → Type 0
+AllSmall r = (q : FourQuotes) → r ≡ AllQuoted q → FourSmall q
+
+-- what is left in the places of an answer: the sixteen numbers at the front, or after a refusal every place as it was
+abbrev pub AllAnswered : Quotations → List ℕ → List ℕ → ℕ → Type 0
+AllAnswered (AllQuoted q) before after r = (r ≡ 256) × (after ≡ over (fourNumbers q) before)
+AllAnswered (NoneQuoted k) before after r = (r ≡ number k) × (after ≡ before)
+
+-- the quotes of the plan g, with their walks in the parts of the lent places and their numbers at the front of the answer's
+pub record AllStand (g : Graph) (walks walks′ out out′ : List ℕ) : Type 0 where
+  pub quotes : FourQuotes
+  pub stated : AllStated g quotes walks walks′
+  pub places : out′ ≡ over (fourNumbers quotes) out
+
+-- places for four walks, and for four answers
+abbrev pub canQuote : List ℕ → List ℕ → Bool
+canQuote walks out = leb 2048 (length walks) && leb 16 (length out)
+
+-- a call that reads an image and quotes the four figures of its plan: 255 where the places are too few, and otherwise the number by which the image is
+-- refused, which leaves every place, or 256 and the quotes of the plan that it holds
+pub record LentQuotes (image walks walks′ out out′ : List ℕ) (r : ℕ) : Type 0 where
+  pub short : canQuote walks out ≡ false → (r ≡ 255) × (walks′ ≡ walks) × (out′ ≡ out)
+  pub refusal : canQuote walks out ≡ true → (k : ℕ) → readImage image ≡ refused k → (r ≡ k) × (walks′ ≡ walks) × (out′ ≡ out)
+  pub quoted : canQuote walks out ≡ true → (g : Graph) → readImage image ≡ accepted g → (r ≡ 256) × AllStand g walks walks′ out out′

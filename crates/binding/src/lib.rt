@@ -11,16 +11,16 @@ ghost use lib.Seq.{paste};
 ghost use Rattle.arrays.specs.Tables.{transition, over};
 ghost use Rattle.plan.specs.View.{view, noPlan};
 ghost use Rattle.rules.specs.Image.{image};
-ghost use Rattle.graph.specs.Figure.{kind, value};
 ghost use Rattle.rules.specs.Quotations.{meant, recordOctets, recordRule, LeastDelay, GreatestDelay, LeastCount, GreatestCount};
 ghost use Rattle.rules.specs.Rules.{freshRule, markRule, joinRule, unjoinRule, readRule, writeRule};
 ghost use Rattle.binding.specs.Lent.{Roomy, roomy, lentPlan, planIn, slices, storing, Finished, LentEdit, LentWrite};
-ghost use Rattle.binding.specs.Quoted.{numbersOf, SmallQuote, Small, Answered, LentQuote};
+ghost use Rattle.binding.specs.Quoted.{numbersOf, SmallQuote, Small, Answered, LentQuote, fourNumbers, FourSmall, AllSmall, AllAnswered, LentQuotes};
 use plan::Edited;
 use plan::Plan;
 use rules::Answer;
-use rules::Figure;
+use rules::FourQuotes;
 use rules::Quotation;
+use rules::Quotations;
 use rules::Quote;
 use rules::Written;
 
@@ -306,30 +306,6 @@ fn can_answer(counts: usize, marks: usize, fields: usize, out: usize) -> bool
     }
 }
 
-// The kind of a figure, as the record has it.
-fn kind_of(figure: Figure) -> u32
-    ensures { λ r. ⌜ r ≡ kind (meant figure) ⌝ }
-{
-    match figure {
-        Figure::Number(_) => 0,
-        Figure::None => 1,
-        Figure::Stranded => 2,
-        Figure::Endless => 3,
-    }
-}
-
-// The number of a figure, zero for the other kinds.
-fn value_of(figure: Figure) -> u32
-    ensures { λ r. ⌜ r ≡ value (meant figure) ⌝ }
-{
-    match figure {
-        Figure::Number(x) => x,
-        Figure::None => 0,
-        Figure::Stranded => 0,
-        Figure::Endless => 0,
-    }
-}
-
 // Puts the four numbers of a quote at the front of a slice.
 fn put_quote(quote: Quote, out: &mut [u32])
     requires { ⌜ SmallQuote quote ⌝ }
@@ -339,9 +315,9 @@ fn put_quote(quote: Quote, out: &mut [u32])
     let figure = quote.figure;
     let k = quote.k;
     let j = quote.j;
-    let kind = kind_of(figure);
-    let value = value_of(figure);
-    out[0] = kind;
+    let kind = rules::kind(figure);
+    let value = rules::value(figure);
+    out[0] = kind as u32;
     out[1] = value;
     out[2] = k as u32;
     out[3] = j as u32;
@@ -464,4 +440,58 @@ pub extern "C" fn callplan_lent_record(
         Written::Length(n) => 256 + n as u32,
         Written::Refused(r) => rules::number(r),
     }
+}
+
+// Puts the sixteen numbers of four quotes at the front of a slice.
+fn put_quotes(quotes: FourQuotes, out: &mut [u32])
+    requires { ⌜ FourSmall quotes ⌝ }
+    requires { ⌜ 16 ≤ length (now out) ⌝ }
+    ensures { λ r. ⌜ now (out .exit) ≡ over (fourNumbers quotes) (now (out .entry)) ⌝ }
+{
+    let least = quotes.least;
+    let greatest = quotes.greatest;
+    let first = least.delay;
+    let second = greatest.delay;
+    let third = least.count;
+    let fourth = greatest.count;
+    put_quote(first, &mut out[0..4]);
+    put_quote(second, &mut out[4..8]);
+    put_quote(third, &mut out[8..12]);
+    put_quote(fourth, &mut out[12..16]);
+}
+
+// Puts the numbers of four accepted quotations at the front of a slice, and gives the number of their answer.
+fn answer_all(quotations: Quotations, out: &mut [u32]) -> u32
+    requires { ⌜ AllSmall quotations ⌝ }
+    requires { ⌜ 16 ≤ length (now out) ⌝ }
+    ensures { λ r. ⌜ AllAnswered quotations (now (out .entry)) (now (out .exit)) r ⌝ }
+{
+    match quotations {
+        Quotations::Quoted(quotes) => {
+            put_quotes(quotes, out);
+            256
+        }
+        Quotations::Refused(r) => rules::number(r),
+    }
+}
+
+// Reads an image, and quotes all four figures of its plan. The walks have 512 places each, the figures four.
+#[no_mangle]
+pub extern "C" fn callplan_lent_quote(octets: &[u8], walks: &mut [u16], out: &mut [u32]) -> u32
+    ensures { λ r. ⌜ LentQuotes (now (octets .entry)) (now (walks .entry)) (now (walks .exit)) (now (out .entry)) (now (out .exit)) r ⌝ }
+{
+    if walks.len() < 2048 {
+        return 255;
+    }
+    if out.len() < 16 {
+        return 255;
+    }
+    let edited = plan::held(octets);
+    let read = edited.answer;
+    if let Answer::Refused(r) = read {
+        return rules::number(r);
+    }
+    let plan = edited.plan;
+    let quotations = quotation::all(plan, walks);
+    answer_all(quotations, out)
 }

@@ -1,6 +1,5 @@
--- What is printed. A fresh plan is within the limits, so read answers as the image's own grounds do (`held`); a plan that was read is within the
--- limits, so it is quoted (`held-within`); and each answer prints what is promised (`prints-refusal`, `prints-figures`, `prints-nothing`). Assumes nothing.
-use mathlib.Core.Bool.{true}
+-- What is printed: a plan that was read is within the limits, so it is quoted; and each answer prints what is promised (`prints-refusal`,
+-- `prints-figures`, `prints-nothing`). Assumes nothing.
 use mathlib.Core.List.{List}
 use mathlib.Core.Path.{_≡_, refl, sym, ap, subst, _∙_}
 use Prim.Native.Nat.{ℕ, _^_, _≤_, _<_}
@@ -9,35 +8,18 @@ use lib.ListN.{length, take, length-append}
 use lib.Seq.{length-take-le}
 use Rattle.graph.specs.Graph.{Graph}
 use Rattle.plan.specs.declared.Edited.{Edited}
-use Rattle.plan.specs.Promise.{Edit}
-use Rattle.plan.specs.View.{view, noPlan}
+use Rattle.plan.specs.Promise.{Held}
+use Rattle.plan.specs.View.{view}
 use Rattle.rules.specs.declared.Answer.the-variants.{Accepted, Refused}
 use Rattle.rules.specs.declared.Refusal.{Refusal}
 use Rattle.rules.specs.Image.{readImage}
-use Rattle.rules.specs.Limits.{within}
 use Rattle.rules.specs.Refusal.{Result, refused, number, answerOf, said}
-use Rattle.rules.specs.Rules.{freshGraph, freshRule, readRule, next}
-use Rattle.rules.proofs.Basic.{fresh-done}
-use Rattle.rules.proofs.Kept.{fresh-within}
-use Rattle.rules.proofs.ReadWrite.{read-within}
-use Rattle.rules.proofs.Results.{never, accepted-as}
+use Rattle.rules.proofs.Results.{never}
 use Rattle.text.specs.Lines.{refusedLine}
 use Rattle.text.specs.Put.{Put}
 use Rattle.text.proofs.Numerals.{digits-length-u32}
 use Rattle.text.proofs.Printed.{refused-sum}
-use Rattle.lines.specs.Printed.{FourLines, Held, Printed, room}
-
--- ---- what is read
-
-read-as : (g : Graph) (image : List ℕ) → within g ≡ true → readRule g image ≡ readImage image
-unfolding readRule
-read-as g image w = rw w
-
-pub held : (image : List ℕ) (e f : Edited) → Edit noPlan (freshRule 1) e → Edit (e .plan) (readRule (view (e .plan)) image) f → Held image f
-held image e f x y =
-    let v : view (e .plan) ≡ freshGraph 1 = x .plan ∙ ap (next (view noPlan)) (fresh-done 1 refl) in
-    let r : readRule (view (e .plan)) image ≡ readImage image = read-as (view (e .plan)) image (ap within v ∙ fresh-within 1 refl) in
-    record { answer = y .answer ∙ ap answerOf r; plan = λ g h. y .plan ∙ ap (next (view (e .plan))) (r ∙ h) }
+use Rattle.lines.specs.Printed.{FourLines, Printed, room}
 
 pub refused-room : (n : ℕ) → n < 2 ^ 32 → length (refusedLine n) ≤ 19
 refused-room n h = omega (arith, refused-sum n, digits-length-u32 n h)
@@ -58,11 +40,6 @@ prints-nothing image before h = record {
 }
 
 module _ (image : List ℕ) (f : Edited) (h : Held image f) where
-  pub held-within : f .answer ≡ Accepted → within (view (f .plan)) ≡ true
-  held-within a =
-      let s = accepted-as (readImage image) (sym (ap said a) ∙ h .answer) in
-      ap within (h .plan (s .0) (s .1)) ∙ read-within image (s .0) (s .1)
-
   module _ {before after : List ℕ} {r : ℕ} (l : room ≤ length before) where
     pub prints-figures : f .answer ≡ Accepted → FourLines (view (f .plan)) before after r → Printed image before after r
     prints-figures a q = record {

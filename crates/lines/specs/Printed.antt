@@ -6,11 +6,9 @@ use Prim.Native.Nat.{ℕ, _+_, _≤_, _<_}
 use lib.ListN.{length, take, replicate}
 use Rattle.graph.specs.Figure.{Figure}
 use Rattle.graph.specs.Graph.{Graph}
-use Rattle.plan.specs.declared.Edited.{Edited}
-use Rattle.plan.specs.View.{view}
 use Rattle.rules.specs.Image.{readImage}
 use Rattle.rules.specs.Quotations.{Says, LeastDelay, GreatestDelay, LeastCount, GreatestCount}
-use Rattle.rules.specs.Refusal.{accepted, refused, answerOf, said}
+use Rattle.rules.specs.Refusal.{accepted, refused}
 use Rattle.text.specs.Lines.{Quotation, line, lines, refusedLine}
 use Rattle.text.specs.Put.{Put}
 
@@ -40,11 +38,6 @@ pub record FourLines (g : Graph) (before after : List ℕ) (r : ℕ) : Type 0 wh
   pub least-count : Quoting (LeastCount g)
   pub greatest-count : Quoting (GreatestCount g)
   pub put : Put before 0 (lines (shown least-delay) (shown greatest-delay) (shown least-count) (shown greatest-count)) after r
-
--- what is read of an image: its refusal, or the plan that it holds
-pub record Held (image : List ℕ) (r : Edited) : Type 0 where
-  pub answer : said (r .answer) ≡ answerOf (readImage image)
-  pub plan : (g : Graph) → readImage image ≡ accepted g → view (r .plan) ≡ g
 
 -- the octets that four lines can need
 abbrev pub room : ℕ

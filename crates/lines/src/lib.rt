@@ -3,45 +3,18 @@ ghost use mathlib.Core.Bool.{true};
 ghost use mathlib.Core.Path.{_≡_};
 ghost use Prim.Native.Nat.{_+_, _^_, _≤_, _<_};
 ghost use lib.ListN.{length, take};
-ghost use Rattle.graph.specs.Figure.{kind as kindOf, value as valueOf};
 ghost use Rattle.plan.specs.View.{view};
 ghost use Rattle.rules.specs.Limits.{within};
 ghost use Rattle.rules.specs.Quotations.{meant, LeastDelay, GreatestDelay, LeastCount, GreatestCount};
 ghost use Rattle.text.specs.Lines.{line as lineOf};
 ghost use Rattle.text.specs.Put.{Put};
 ghost use Rattle.text.specs.Text.{octets as word};
-ghost use Rattle.lines.specs.Printed.{OneLine, FourLines, Held, Printed};
-use plan::Edited;
+ghost use Rattle.lines.specs.Printed.{OneLine, FourLines, Printed};
 use plan::Plan;
 use rules::Answer;
-use rules::Figure;
 use rules::Quotation;
 use rules::Quote;
 use text::lines;
-
-// The record's kind of a figure.
-fn kind(figure: Figure) -> u8
-    ensures { λ r. ⌜ r ≡ kindOf (meant figure) ⌝ }
-{
-    match figure {
-        Figure::Number(_) => 0,
-        Figure::None => 1,
-        Figure::Stranded => 2,
-        Figure::Endless => 3,
-    }
-}
-
-// The number of a figure, and 0 for the other kinds.
-fn value(figure: Figure) -> u32
-    ensures { λ r. ⌜ r ≡ valueOf (meant figure) ⌝ }
-{
-    match figure {
-        Figure::Number(x) => x,
-        Figure::None => 0,
-        Figure::Stranded => 0,
-        Figure::Endless => 0,
-    }
-}
 
 // Puts the line of a quotation.
 fn line(buffer: &mut [u8], at: usize, name: &[u8], quote: Quote, walk: &[u16]) -> usize
@@ -55,7 +28,16 @@ fn line(buffer: &mut [u8], at: usize, name: &[u8], quote: Quote, walk: &[u16]) -
     let figure = quote.figure;
     let k = quote.k;
     let j = quote.j;
-    lines::line(buffer, at, name, kind(figure), value(figure), walk, k, j)
+    lines::line(
+        buffer,
+        at,
+        name,
+        rules::kind(figure),
+        rules::value(figure),
+        walk,
+        k,
+        j,
+    )
 }
 
 // Puts the line of the least delay.
@@ -121,15 +103,6 @@ fn four(plan: Plan, buffer: &mut [u8]) -> usize
     greatest_count(plan, buffer, third)
 }
 
-// The plan that an image holds, or the refusal of it: read into a fresh plan, which is within the limits.
-fn held(octets: &[u8]) -> Edited
-    ensures { λ r. ⌜ Held (now (octets .entry)) r ⌝ }
-{
-    let fresh = plan::fresh(1);
-    let blank = fresh.plan;
-    plan::read(blank, octets)
-}
-
 // Puts what is printed for an image at the front of the buffer, and returns its length. A buffer below 12,438 octets, which four lines could need, gets nothing.
 pub fn answer(octets: &[u8], buffer: &mut [u8]) -> usize
     ensures { λ r. ⌜ Printed (now (octets .entry)) (now (buffer .entry)) (now (buffer .exit)) r ⌝ }
@@ -137,7 +110,7 @@ pub fn answer(octets: &[u8], buffer: &mut [u8]) -> usize
     if buffer.len() < 12438 {
         return 0;
     }
-    let edited = held(octets);
+    let edited = plan::held(octets);
     let answer = edited.answer;
     let plan = edited.plan;
     match answer {

@@ -2,3 +2,4 @@ pub mod Values
 pub mod Edits
 pub mod Promises
 pub mod Impostors
+pub mod Holding

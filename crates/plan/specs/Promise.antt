@@ -7,6 +7,7 @@ use Rattle.graph.specs.Graph.{Graph}
 use Rattle.rules.specs.declared.Answer.{Answer}
 use Rattle.rules.specs.declared.Refusal.{Refusal}
 use Rattle.rules.specs.Calls.{Call, step}
+use Rattle.rules.specs.Image.{readImage}
 use Rattle.rules.specs.declared.Written.{Written}
 use Rattle.rules.specs.Refusal.{Result, accepted, refused, answerOf, said, wrote}
 use Rattle.rules.specs.Rules.{next, written}
@@ -32,6 +33,11 @@ pub record Edit (p : Plan) (o : Result Graph) (r : Edited) : Type 0 where
   pub answer : said (r .answer) ≡ answerOf o
   pub plan : view (r .plan) ≡ next (view p) o
   pub whole : r .plan ≡ nextValue p o
+
+-- what is read of an image into a fresh plan: its refusal, or the plan that it holds
+pub record Held (image : List ℕ) (r : Edited) : Type 0 where
+  pub answer : said (r .answer) ≡ answerOf (readImage image)
+  pub plan : (g : Graph) → readImage image ≡ accepted g → view (r .plan) ≡ g
 
 -- a call that puts octets at the front of a lent buffer and for which the rules give o: its answer and the buffer afterwards are the rules'
 pub record Write (octets : List ℕ) (o : Result ℕ) (before after : List ℕ) (r : Written) : Type 0 where

@@ -5,7 +5,7 @@ ghost use Rattle.rules.specs.Image.{image};
 ghost use Rattle.rules.specs.Rules.{freshRule, markRule, joinRule, unjoinRule, readRule, writeRule};
 ghost use Rattle.arrays.specs.Tables.{transition};
 ghost use Rattle.plan.specs.View.{view, blankPlan, noPlan};
-ghost use Rattle.plan.specs.Promise.{Edit, Write, refusing, accepting};
+ghost use Rattle.plan.specs.Promise.{Edit, Held, Write, refusing, accepting};
 use arrays::limits;
 use arrays::places;
 use image::reading;
@@ -209,6 +209,15 @@ pub fn read(plan: Plan, octets: &[u8]) -> Edited
         Answer::Accepted => accept(image),
         Answer::Refused(r) => refuse(plan, r), // the old plan
     }
+}
+
+// The plan that an image holds, or the refusal of it: read into a fresh plan, which is within the limits.
+pub fn held(octets: &[u8]) -> Edited
+    ensures { λ r. ⌜ Held (now (octets .entry)) r ⌝ }
+{
+    let fresh = fresh(1);
+    let blank = fresh.plan;
+    read(blank, octets)
 }
 
 // Puts the image at the front of the buffer, and returns its length.

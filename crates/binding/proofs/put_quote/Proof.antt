@@ -13,14 +13,17 @@ use Rattle.binding.proofs.put_quote.Statement.{statement}
 use Rattle.binding.proofs.put_quote.Tie as tie
 use Rattle.binding.proofs.put_quote.Reads as reads
 use Rattle.binding.proofs.put_quote.Lts as lts
-use Rattle.binding.proofs.kind_of.Reads as kind-of-reads
-use Rattle.binding.proofs.value_of.Reads as value-of-reads
+use Rattle.rules.proofs.kind.Reads as kind-reads
+use Rattle.rules.proofs.value.Reads as value-reads
 
-kind-of-requires : tie.Need-kind-of-requires
-kind-of-requires c κs = search needs
+kind-requires : tie.Need-kind-requires
+kind-requires c κs = search needs
 
-value-of-requires : tie.Need-value-of-requires
-value-of-requires c κs = search needs
+value-requires : tie.Need-value-requires
+value-requires c κs = search needs
+
+cast-out : tie.Need-cast-out
+cast-out c = search needs
 
 slice-write-out : tie.Need-slice-write-out
 slice-write-out c = search needs
@@ -28,14 +31,14 @@ slice-write-out c = search needs
 slice-write-out-2 : tie.Need-slice-write-out-2
 slice-write-out-2 c = simp length-set (omega (arith, c .before .before .before .pre .1))
 
-cast-out : tie.Need-cast-out
-cast-out c = search needs
+cast-out-2 : tie.Need-cast-out-2
+cast-out-2 c = search needs
 
 slice-write-out-3 : tie.Need-slice-write-out-3
 slice-write-out-3 c = simp length-set (omega (arith, c .before .before .before .pre .1))
 
-cast-out-2 : tie.Need-cast-out-2
-cast-out-2 c = search needs
+cast-out-3 : tie.Need-cast-out-3
+cast-out-3 c = search needs
 
 slice-write-out-4 : tie.Need-slice-write-out-4
 slice-write-out-4 c = search needs
@@ -47,20 +50,21 @@ returns : tie.Need-returns
 returns c =
     let a = c .before .before .before .args in
     let q = a .quote in
-    four-stored (a .out .now) (c .before .kind-of .result) (c .value-of .result) (q .k) (q .j) (c .before .before .before .pre .1)
-    ∙ ap₂ {C = List ℕ} (λ (x y : ℕ). over (x ∷ y ∷ q .k ∷ q .j ∷ []) (a .out .now)) (c .before .kind-of .ensures) (c .value-of .ensures)
+    four-stored (a .out .now) (c .before .kind .result) (c .value .result) (q .k) (q .j) (c .before .before .before .pre .1)
+    ∙ ap₂ {C = List ℕ} (λ (x y : ℕ). over (x ∷ y ∷ q .k ∷ q .j ∷ []) (a .out .now)) (c .before .kind .ensures) (c .value .ensures)
 
 pub put-quote-spec : {M : Type 1} → statement M
 put-quote-spec =
     tie.close
     (tie.spec
-    kind-of-requires
-    value-of-requires
+    kind-requires
+    value-requires
+    cast-out
     slice-write-out
     slice-write-out-2
-    cast-out
-    slice-write-out-3
     cast-out-2
+    slice-write-out-3
+    cast-out-3
     slice-write-out-4
     same-length
     returns)

@@ -1,7 +1,8 @@
 -- `lines::answer` meets its contract. Assumes nothing.
 use native.Mathlib.Omega.{arith}
 use borrow.Author.Needs.{needs}
-use Rattle.lines.proofs.Prints.{held-within, refused-room, prints-nothing, prints-figures, prints-refusal}
+use Rattle.lines.proofs.Prints.{refused-room, prints-nothing, prints-figures, prints-refusal}
+use Rattle.plan.proofs.Holding.{held-within}
 use Rattle.lines.proofs.answer.Statement.{statement}
 use Rattle.lines.proofs.answer.Tie as tie
 

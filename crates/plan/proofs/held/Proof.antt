@@ -1,8 +1,8 @@
--- `lines::held` meets its contract. Assumes nothing.
+-- `plan::held` meets its contract. Assumes nothing.
 use borrow.Author.Needs.{needs}
-use Rattle.lines.proofs.Prints.{held}
-use Rattle.lines.proofs.held.Statement.{statement}
-use Rattle.lines.proofs.held.Tie as tie
+use Rattle.plan.proofs.Holding.{held}
+use Rattle.plan.proofs.held.Statement.{statement}
+use Rattle.plan.proofs.held.Tie as tie
 
 fresh-requires : tie.Need-fresh-requires
 fresh-requires c κs = search needs
