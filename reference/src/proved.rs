@@ -4,7 +4,7 @@
 //! here with the library's source.
 
 #[cfg(feature = "quotations")]
-use crate::figure::{Figure, FIGURES};
+use crate::figure::Figure;
 use crate::plan::{Plan, Transition, MAX_STATES, MAX_TRANSITIONS};
 
 /// Places of a plan in `counts`: the state count and the transition count.
@@ -157,6 +157,14 @@ extern "C" {
         buffer_len: usize,
     ) -> u32;
 
+    fn callplan_lent_quote(
+        octets: *const u8,
+        octets_len: usize,
+        walks: *mut u16,
+        walks_len: usize,
+        out: *mut u32,
+        out_len: usize,
+    ) -> u32;
 }
 
 /// The slices that hold a plan for the library. They may be of any length: the library refuses
@@ -356,24 +364,17 @@ impl LentPlan {
 }
 
 /// Reads an image and quotes its four figures, with walks and answers one after another: 512
-/// places of `walks` and 4 of `out` for each. The library has no one call for it yet.
+/// places of `walks` and 4 of `out` for each.
 #[cfg(feature = "quotations")]
 pub fn quote(octets: &[u8], walks: &mut [u16], out: &mut [u32]) -> u32 {
-    if walks.len() < 4 * MAX_STATES || out.len() < 16 {
-        return SHORT_SLICE;
+    unsafe {
+        callplan_lent_quote(
+            octets.as_ptr(),
+            octets.len(),
+            walks.as_mut_ptr(),
+            walks.len(),
+            out.as_mut_ptr(),
+            out.len(),
+        )
     }
-    let mut plan = LentPlan::zeroed();
-    plan.fresh(1);
-    let answer = plan.read(octets);
-    if answer != ACCEPTED {
-        return answer;
-    }
-    for (i, figure) in FIGURES.into_iter().enumerate() {
-        let walk = &mut walks[MAX_STATES * i..MAX_STATES * (i + 1)];
-        let answer = plan.quote(figure, walk, &mut out[4 * i..4 * i + 4]);
-        if answer != ACCEPTED {
-            return answer;
-        }
-    }
-    ACCEPTED
 }
