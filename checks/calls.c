@@ -182,6 +182,32 @@ static void quotations(void)
     CHECK(is_figure(&figure, CALLPLAN_NONE, 0, 0, 0));
 }
 
+static void quotations_of_an_image(void)
+{
+    static callplan_quotations quotations;
+    static callplan_quotations before;
+    uint8_t octets[28];
+
+    memset(&quotations, 0xAA, sizeof quotations);
+    before = quotations;
+    memcpy(octets, p1_image, 28);
+    octets[3] = 0x01;
+    CHECK(callplan_quote(NULL, 0, &quotations) == CALLPLAN_REFUSED_IMAGE_SHORT);
+    CHECK(callplan_quote(p1_image, 27, &quotations) == CALLPLAN_REFUSED_IMAGE_SHORT);
+    CHECK(callplan_quote(octets, 28, &quotations) == CALLPLAN_REFUSED_SPARE_BITS);
+    CHECK(memcmp(&quotations, &before, sizeof quotations) == 0);
+
+    CHECK(callplan_quote(p1_image, 28, &quotations) == CALLPLAN_ACCEPTED);
+    CHECK(is_figure(&quotations.figures[CALLPLAN_LEAST_DELAY], CALLPLAN_NUMBER, 7, 2, 0));
+    CHECK(is_figure(&quotations.figures[CALLPLAN_GREATEST_DELAY], CALLPLAN_NUMBER, 60, 3, 0));
+    CHECK(is_figure(&quotations.figures[CALLPLAN_LEAST_COUNT], CALLPLAN_NUMBER, 1, 2, 0));
+    CHECK(is_figure(&quotations.figures[CALLPLAN_GREATEST_COUNT], CALLPLAN_NUMBER, 2, 3, 0));
+    for (size_t i = 0; i < 4; i++) {
+        const callplan_figure *figure = &quotations.figures[i];
+        CHECK(figure->walk[0] == 0 && figure->walk[figure->k - 1] == figure->k && figure->walk[figure->k] == 0xAAAA);
+    }
+}
+
 /* A plan that was filled in by hand and breaks a limit. */
 static void broken_plan(void)
 {
@@ -217,7 +243,13 @@ static void short_slices(void)
     callplan_plan plan = p1();
     uint16_t walk[4] = {0};
     uint32_t out[4] = {0};
+    uint16_t walks[2048] = {0};
+    uint32_t outs[16] = {0};
 
+    CHECK(callplan_lent_quote(p1_image, 28, walks, 2047, outs, 16) == CALLPLAN_SHORT_SLICE);
+    CHECK(callplan_lent_quote(p1_image, 28, walks, 2048, outs, 15) == CALLPLAN_SHORT_SLICE);
+    CHECK(callplan_lent_quote(p1_image, 28, walks, 2048, outs, 16) == CALLPLAN_ACCEPTED);
+    CHECK(outs[1] == 7 && outs[5] == 60 && outs[9] == 1 && outs[13] == 2 && walks[1] == 2 && walks[512 + 2] == 3);
     CHECK(callplan_lent_fresh(1, plan.counts, 1, plan.marks, 512, plan.fields, 8192) == CALLPLAN_SHORT_SLICE);
     CHECK(callplan_lent_fresh(1, plan.counts, 2, plan.marks, 511, plan.fields, 8192) == CALLPLAN_SHORT_SLICE);
     CHECK(callplan_lent_fresh(1, plan.counts, 2, plan.marks, 512, plan.fields, 8191) == CALLPLAN_SHORT_SLICE);
@@ -236,6 +268,7 @@ int main(void)
     edits();
     images();
     quotations();
+    quotations_of_an_image();
     broken_plan();
     short_slices();
     printf("%d passed, %d failed\n", passed, failed);

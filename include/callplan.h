@@ -16,6 +16,7 @@
 
 #include <stddef.h>
 #include <stdint.h>
+#include <string.h>
 
 #if SIZE_MAX != UINT64_MAX
 #error "callplan: a size_t is 64 bits in the archive"
@@ -91,6 +92,18 @@ typedef struct callplan_figure {
     uint16_t walk[CALLPLAN_MAX_STATES];
 } callplan_figure;
 
+/* The four figures of a plan. */
+typedef struct callplan_quotations {
+    callplan_figure figures[4]; /* CALLPLAN_LEAST_DELAY and so on are their places */
+} callplan_quotations;
+
+enum {
+    CALLPLAN_LEAST_DELAY = 0,
+    CALLPLAN_GREATEST_DELAY = 1,
+    CALLPLAN_LEAST_COUNT = 2,
+    CALLPLAN_GREATEST_COUNT = 3
+};
+
 /* ---- The functions of the archive, for programs that keep the arrays of a plan apart. The inline functions after them call them.
  *
  * A lent slice is a pointer, aligned and never null, and its number of places:
@@ -100,7 +113,9 @@ typedef struct callplan_figure {
  *     walk                    where a quotation puts the walk; with fewer places than the plan has states it is refused by
  *                             CALLPLAN_REFUSED_BUFFER_LENGTH
  *     out                     where a quotation puts kind, value, k and j, with 4 places at least
- * With fewer places in counts, marks, fields or out a function answers CALLPLAN_SHORT_SLICE, before all else, and changes nothing.
+ *     walks, out              of quote: four of either, one after another, with 2,048 and 16 places at least
+ * With fewer places in counts, marks, fields, walks or out a function answers CALLPLAN_SHORT_SLICE, before all else, and changes
+ * nothing.
  * Otherwise it answers as the inline function of its name does; write and record answer CALLPLAN_ACCEPTED plus the octets' number.
  * Later places stay. The other arguments are those of the inline functions. */
 
@@ -130,6 +145,8 @@ uint32_t callplan_lent_greatest_count(const size_t *counts, size_t counts_len, c
                                       uint32_t *out, size_t out_len);
 uint32_t callplan_lent_record(const size_t *counts, size_t counts_len, const uint8_t *marks, size_t marks_len,
                               const uint16_t *fields, size_t fields_len, uint8_t *buffer, size_t buffer_len);
+uint32_t callplan_lent_quote(const uint8_t *octets, size_t octets_len, uint16_t *walks, size_t walks_len, uint32_t *out,
+                             size_t out_len);
 
 /* The three slices of a plan, as arguments. */
 #define CALLPLAN_SLICES(plan) \
@@ -267,6 +284,26 @@ static inline callplan_answer callplan_record(const callplan_plan *plan, uint8_t
     uint8_t none = 0;
     return callplan_private_written(
         callplan_lent_record(CALLPLAN_SLICES(plan), length != 0 ? buffer : &none, length), written);
+}
+
+/* Reads an image and puts its four figures into *quotations, for programs that keep no plan. Each is what its own quotation says of
+ * the plan, and its places of walk from k on stay.
+ * Refused: as callplan_read, but for PLAN_LIMITS. */
+static inline callplan_answer callplan_quote(const uint8_t *octets, size_t length, callplan_quotations *quotations)
+{
+    const uint8_t none = 0;
+    uint16_t walks[4 * CALLPLAN_MAX_STATES] = {0};
+    uint32_t out[4 * 4] = {0};
+    const uint32_t answer =
+        callplan_lent_quote(length != 0 ? octets : &none, length, walks, 4 * CALLPLAN_MAX_STATES, out, 4 * 4);
+    if (answer == CALLPLAN_ACCEPTED) {
+        for (size_t i = 0; i < 4; i++) {
+            callplan_figure *figure = &quotations->figures[i];
+            callplan_private_fill(figure, out + 4 * i);
+            memcpy(figure->walk, walks + CALLPLAN_MAX_STATES * i, figure->k * sizeof figure->walk[0]);
+        }
+    }
+    return callplan_private_answer(answer);
 }
 
 /* ---- What a plan holds. Past the limits there are zeros. */

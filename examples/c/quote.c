@@ -32,15 +32,7 @@ static void print_figure(const char *name, const callplan_figure *figure)
 
 int main(int count, char **arguments)
 {
-    static const struct {
-        const char *name;
-        callplan_answer (*quote)(const callplan_plan *, callplan_figure *);
-    } figures[] = {
-        {"least delay", callplan_least_delay},
-        {"greatest delay", callplan_greatest_delay},
-        {"least count", callplan_least_count},
-        {"greatest count", callplan_greatest_count},
-    };
+    static const char *const names[] = {"least delay", "greatest delay", "least count", "greatest count"};
     if (count != 2) {
         fprintf(stderr, "usage: quote FILE\n");
         return 2;
@@ -60,19 +52,14 @@ int main(int count, char **arguments)
         return 1;
     }
 
-    callplan_plan plan;
-    callplan_fresh(&plan, 1);
-    const callplan_answer answer = callplan_read(&plan, octets, length);
+    callplan_quotations quotations;
+    const callplan_answer answer = callplan_quote(octets, length, &quotations);
     if (answer != CALLPLAN_ACCEPTED) {
         printf("refused %d\n", (int)answer);
         return 0;
     }
-    for (size_t i = 0; i < sizeof figures / sizeof figures[0]; i++) {
-        callplan_figure figure;
-        if (figures[i].quote(&plan, &figure) != CALLPLAN_ACCEPTED) {
-            return 1; /* An accepted plan is within its limits, so this does not happen. */
-        }
-        print_figure(figures[i].name, &figure);
+    for (size_t i = 0; i < 4; i++) {
+        print_figure(names[i], &quotations.figures[i]);
     }
     return 0;
 }

@@ -6,7 +6,7 @@
 use std::io::{self, stdout, Write};
 use std::{env, fs};
 
-use callplan::{Figure, Plan, Quotation};
+use callplan::{Figure, Quotation};
 
 fn line(name: &str, quotation: &Quotation) -> String {
     let mut line = match quotation.figure() {
@@ -28,14 +28,16 @@ fn main() -> io::Result<()> {
     let Some(path) = env::args_os().nth(1) else {
         return Err(io::Error::other("usage: quote FILE"));
     };
-    let text = match Plan::from_image(&fs::read(path)?) {
-        Ok(plan) => [
-            line("least delay", &plan.least_delay()),
-            line("greatest delay", &plan.greatest_delay()),
-            line("least count", &plan.least_count()),
-            line("greatest count", &plan.greatest_count()),
-        ]
-        .concat(),
+    let names = [
+        "least delay",
+        "greatest delay",
+        "least count",
+        "greatest count",
+    ];
+    let text = match callplan::quote(&fs::read(path)?) {
+        Ok(quotations) => (names.iter().zip(&quotations))
+            .map(|(name, quotation)| line(name, quotation))
+            .collect(),
         Err(refusal) => format!("refused {}\n", refusal.number()),
     };
     stdout().write_all(text.as_bytes())

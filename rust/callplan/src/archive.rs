@@ -129,4 +129,13 @@ extern "C" {
         buffer: *mut u8,
         buffer_len: usize,
     ) -> u32;
+
+    pub fn callplan_lent_quote(
+        octets: *const u8,
+        octets_len: usize,
+        walks: *mut u16,
+        walks_len: usize,
+        out: *mut u32,
+        out_len: usize,
+    ) -> u32;
 }

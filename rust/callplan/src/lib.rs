@@ -77,7 +77,7 @@ impl Quotation {
         &self.places[..self.k]
     }
 
-    /// The quotation with a kind, value, k and j of the archive.
+    /// The quotation with this kind, value, k and j.
     fn of([kind, value, k, j]: [u32; 4], places: [u16; MAX_STATES]) -> Quotation {
         let figure = match kind {
             0 => Figure::Number(value),
@@ -331,6 +331,24 @@ impl fmt::Debug for Plan {
             .field("transitions", &self.transitions())
             .finish_non_exhaustive()
     }
+}
+
+/// Reads an image and quotes its least delay, greatest delay, least count and greatest count.
+pub fn quote(octets: &[u8]) -> Result<[Quotation; 4], Refusal> {
+    let mut walks = [[0; MAX_STATES]; 4];
+    let mut out = [[0; 4]; 4];
+    // SAFETY: as of the calls of a plan.
+    let answer = unsafe {
+        archive::callplan_lent_quote(
+            octets.as_ptr(),
+            octets.len(),
+            walks.as_flattened_mut().as_mut_ptr(),
+            walks.as_flattened().len(),
+            out.as_flattened_mut().as_mut_ptr(),
+            out.as_flattened().len(),
+        )
+    };
+    accepted(answer).map(|_| [0, 1, 2, 3].map(|i: usize| Quotation::of(out[i], walks[i])))
 }
 
 /// What an answer of the archive says: accepted, with a length from the calls that have one, or

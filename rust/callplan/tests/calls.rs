@@ -145,6 +145,24 @@ fn figures_are_quoted_with_their_walks() {
 }
 
 #[test]
+fn an_image_is_quoted_at_once() {
+    let quotations = callplan::quote(&P1).unwrap();
+    let plan = Plan::from_image(&P1).unwrap();
+    let apart = [
+        plan.least_delay(),
+        plan.greatest_delay(),
+        plan.least_count(),
+        plan.greatest_count(),
+    ];
+    for (one, other) in quotations.iter().zip(&apart) {
+        assert_eq!(one.figure(), other.figure());
+        assert_eq!(one.walk(), other.walk());
+    }
+    assert_eq!(callplan::quote(&[]).unwrap_err(), Refusal::ImageShort);
+    assert_eq!(callplan::quote(&P1[..27]).unwrap_err(), Refusal::ImageShort);
+}
+
+#[test]
 fn the_record_is_that_of_document_01() {
     let plan = p1().unwrap();
     let mut buffer = [0xAA; 12];
