@@ -264,6 +264,7 @@ int main(void)
 {
     CHECK(sizeof(callplan_plan) == 2 * sizeof(size_t) + 512 + 2 * 8192);
     CHECK(sizeof(callplan_figure) == 24 + 2 * 512);
+    CHECK(sizeof(callplan_quotations) == 4 * sizeof(callplan_figure));
     CHECK(CALLPLAN_MAX_IMAGE_OCTETS == 4 + CALLPLAN_MAX_STATES + 5 * CALLPLAN_MAX_TRANSITIONS);
     edits();
     images();

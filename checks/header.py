@@ -148,6 +148,13 @@ def comparisons(t):
     yield "include/callplan.h: the slices", given, slices.replace("\\", "").strip()
     out = number(t["quoted"], r"canAnswer s out = hasRoom s && leb (\d+) \(length out\)")
     yield "include/callplan.h: the places of an answer", out, number(t["header"], r"figure->walk, CALLPLAN_MAX_STATES, out, (\d+)\)")
+    room = re.findall(r"canQuote walks out = leb (\d+) \(length walks\) && leb (\d+) \(length out\)", t["quoted"])
+    yield "the places of four answers", [(str(4 * states), str(4 * out))], room
+    yield "include/callplan.h: the places of four answers", 1, t["header"].count(", walks, 4 * CALLPLAN_MAX_STATES, out, 4 * 4)")
+    order = re.findall(r"numbersOf \(q \.(\w+) \.(\w+)\)", between(t["quoted"], "\nfourNumbers q =", "\n"))
+    order = [(f"{extreme}_{what}".upper(), place) for place, (extreme, what) in enumerate(order)]
+    places = numbers(t["header"], r"CALLPLAN_((?:LEAST|GREATEST)_\w+) = (\d)")
+    yield "include/callplan.h: the places of the figures", order, places
 
     version = re.findall(r'#define CALLPLAN_VERSION "([\d.]+)"', t["header"])
     yield "include/callplan.pc: the version", version, re.findall(r"(?m)^Version: (.*)$", t["package"])
@@ -183,6 +190,9 @@ DAMAGES = [
     ("lent", "= 256 + n", "= 255 + n"),
     ("lent", "leb 8192 fields", "leb 8191 fields"),
     ("quoted", "leb 4 (length out)", "leb 5 (length out)"),
+    ("quoted", "leb 2048 (length walks)", "leb 2047 (length walks)"),
+    ("quoted", "leb 16 (length out)", "leb 15 (length out)"),
+    ("quoted", "fourNumbers q = numbersOf (q .least .delay)", "fourNumbers q = numbersOf (q .least .count)"),
     ("limits", "leb n 512", "leb n 511"),
     ("limits", "leb m 2048", "leb m 4096"),
     ("limits", "leb (t .high) 2047", "leb (t .high) 2046"),
@@ -214,6 +224,9 @@ DAMAGES = [
     ("header", "CALLPLAN_ENDLESS = 3", "CALLPLAN_ENDLESS = 4"),
     ("header", "(plan)->counts, 2", "(plan)->counts, 1"),
     ("header", "CALLPLAN_MAX_STATES, out, 4)", "CALLPLAN_MAX_STATES, out, 3)"),
+    ("header", "uint16_t *walks, size_t walks_len", "uint16_t *walk, size_t walk_len"),
+    ("header", "CALLPLAN_MAX_STATES, out, 4 * 4)", "CALLPLAN_MAX_STATES, out, 4)"),
+    ("header", "CALLPLAN_GREATEST_DELAY = 1", "CALLPLAN_GREATEST_DELAY = 2"),
     ("header", 'CALLPLAN_VERSION "0', 'CALLPLAN_VERSION "1'),
     ("package", "Version: 0", "Version: 1"),
     ("cargo", 'version = "0', 'version = "1'),
