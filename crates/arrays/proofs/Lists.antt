@@ -14,14 +14,15 @@ use Rattle.rules.specs.Limits.{all}
 use Rattle.rules.proofs.Results.{all-append}
 use Rattle.arrays.specs.Tables.{tabulate, transition, transitionOf, Later, over}
 
-same-or-not : (a b : ℕ) → (a ≡ b) ⊎ (a ≢ b)
+-- two numbers are the same or not, and one is below the other or not
+pub same-or-not : (a b : ℕ) → (a ≡ b) ⊎ (a ≢ b)
 same-or-not a b = go (ℕ-discrete a b)
   where
     go : Dec (a ≡ b) → (a ≡ b) ⊎ (a ≢ b)
     go (yes e) = inl e
     go (no d) = inr d
 
-below-or-not : (a b : ℕ) → (a < b) ⊎ (b ≤ a)
+pub below-or-not : (a b : ℕ) → (a < b) ⊎ (b ≤ a)
 below-or-not a b = go (decLt a b)
   where
     go : Dec (a < b) → (a < b) ⊎ (b ≤ a)

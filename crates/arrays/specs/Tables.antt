@@ -4,6 +4,7 @@ use Prim.Native.Nat.{ℕ, zero, suc, _≤_}
 use mathlib.Core.Path.{_≡_}
 use lib.ListN.{length, getD, drop}
 use Rattle.graph.specs.Graph.{State, Transition, marked}
+use Rattle.graph.specs.Route.{Cost}
 
 -- the list of f 0 up to f (n - 1)
 unfoldable pub tabulate : {A : Type 0} → ℕ → (ℕ → A) → List A
@@ -38,3 +39,7 @@ pub record Later (k : ℕ) (before after : List ℕ) : Type 0 where
 -- a list at the front of an array, and every later place as it was
 abbrev pub over : List ℕ → List ℕ → List ℕ
 over xs before = xs ++ drop (length xs) before
+
+-- a cost as two arrays: a weight for each transition, a close for each state
+abbrev pub costOf : List ℕ → List ℕ → Cost
+costOf weight close = record { step = λ t. getD weight t 0; close = λ s. getD close s 0 }

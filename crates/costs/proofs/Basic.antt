@@ -9,7 +9,8 @@ use Rattle.graph.specs.Route.{Cost, total}
 use Rattle.graph.specs.Figure.{number, ENDLESS}
 use Rattle.graph.specs.Known.{P1}
 use Rattle.arrays.specs.Tables.{tabulate}
-use Rattle.costs.specs.Arrays.{delayWeight, countWeight, countClose, costOf, graphOf}
+use Rattle.costs.specs.Arrays.{delayWeight, countWeight, countClose, graphOf}
+use Rattle.arrays.specs.Tables.{costOf}
 use Rattle.costs.specs.Scaled.{divided}
 
 -- 0→1 5..20, 1→2 3..15, 1→3 2..30, 2→3 4..25; states 1 and 2 are counted

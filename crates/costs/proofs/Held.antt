@@ -10,7 +10,8 @@ use Rattle.graph.specs.Graph.{Graph, State, Transition, marked, states, count, 
 use Rattle.graph.specs.Route.{lows, highs, counts, one}
 use Rattle.arrays.specs.Tables.{stateOf, transitionOf}
 use Rattle.arrays.proofs.Lists.{length-tabulate, getD-tabulate}
-use Rattle.costs.specs.Arrays.{countedMark, delayWeight, countWeight, countClose, costOf, graphOf}
+use Rattle.costs.specs.Arrays.{countedMark, delayWeight, countWeight, countClose, graphOf}
+use Rattle.arrays.specs.Tables.{costOf}
 use Rattle.costs.specs.Scaled.{Scaled}
 
 module _ (n m : ℕ) (marks sources targets lowest highest : List ℕ) where

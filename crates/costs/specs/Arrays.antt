@@ -7,7 +7,7 @@ use Prim.Native.Nat.{ℕ, _+_, _*_, _%_, _≤_, _<_}
 use lib.Dec.{eqb}
 use lib.ListN.{length, getD}
 use Rattle.graph.specs.Graph.{Graph}
-use Rattle.graph.specs.Route.{Cost, one}
+use Rattle.graph.specs.Route.{one}
 use Rattle.arrays.specs.Tables.{statesOf, transitionsOf}
 
 -- a marks value with "1 for counted"
@@ -31,10 +31,6 @@ countWeight scale extra marks from t = scale * one (countedMark (getD marks (get
 -- "first and last included": the close of the state s, where it is the last
 abbrev pub countClose : ℕ → List ℕ → ℕ → ℕ
 countClose scale marks s = scale * one (countedMark (getD marks s 0))
-
--- the cost that two arrays hold
-abbrev pub costOf : List ℕ → List ℕ → Cost
-costOf weight close = record { step = λ t. getD weight t 0; close = λ s. getD close s 0 }
 
 -- the graph that the arrays of a plan hold: the first n marks values and the first m transitions
 abbrev pub graphOf : ℕ → ℕ → List ℕ → List ℕ → List ℕ → List ℕ → List ℕ → Graph

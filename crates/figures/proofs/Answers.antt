@@ -15,11 +15,13 @@ use Rattle.costs.specs.Scaled.{Scaled, divided}
 use Rattle.costs.proofs.Filled.{weights-le, closes-le}
 use Rattle.costs.proofs.Held.{states-held, count-held, marks-held, from-held, to-held}
 use Rattle.costs.proofs.Quoted.{least-answered, greatest-answered}
-use Rattle.search.specs.Arrays.{at, Ends, Holds, costOf}
-use Rattle.search.specs.Keys.{heaviest, Weighed}
+use Rattle.search.specs.Arrays.{at, Ends, Holds}
+use Rattle.arrays.specs.Tables.{costOf}
+use Rattle.least_search.specs.Keys.{Weighed}
+use Rattle.search.specs.Sizes.{heaviest}
 use Rattle.search.specs.Quoted.{Quoted}
 use Rattle.search.proofs.Held.{held-closed}
-use Rattle.search.proofs.Places.{below-or-not}
+use Rattle.arrays.proofs.Lists.{below-or-not}
 use mathlib.Core.Logic.{_⊎_, inl, inr}
 
 -- an array of zeros

@@ -6,15 +6,15 @@ ghost use Rattle.rules.specs.Quotations.{meant};
 ghost use Rattle.costs.specs.Scaled.{divided};
 ghost use Rattle.search.specs.Arrays.{Ends};
 ghost use Rattle.search.specs.Chain.{Chains};
-ghost use Rattle.search.specs.Explored.{table, Reached};
+ghost use Rattle.greatest_search.specs.Explored.{table, Reached};
 ghost use Rattle.figures.specs.Figures.{Lent, LeastDelayOf, GreatestDelayOf, LeastCountOf, GreatestCountOf, LeastOf, GreatestOf};
+use greatest_search::Reach;
+use greatest_search::greatest;
+use least_search::least;
 use rules::Figure;
 use rules::Pair;
 use rules::Quote;
-use search::Reach;
 use search::chain;
-use search::greatest;
-use search::least;
 
 // A figure with its number divided by 1,024: what a search over composite weights found.
 fn divide(figure: Figure) -> Figure

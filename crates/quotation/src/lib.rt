@@ -10,6 +10,7 @@ ghost use Rattle.field.specs.Field.{Within, putAll};
 ghost use Rattle.plan.specs.Promise.{Write};
 ghost use Rattle.rules.specs.Quotations.{meant, figureFields, quotesFields, recordOctets, recordRule, quoteRule, Quotes, QuotesAll, LeastDelay, GreatestDelay, LeastCount, GreatestCount};
 ghost use Rattle.plan.specs.View.{view};
+use greatest_search::greatest;
 use plan::Plan;
 use rules::Answer;
 use rules::FourQuotes;
@@ -19,7 +20,6 @@ use rules::Quote;
 use rules::Refusal;
 use rules::Written;
 use search::chain;
-use search::greatest;
 
 // Whether a quotation is refused that was lent so many places: the plan's limits, then the places.
 fn ask(plan: Plan, places: usize) -> Answer

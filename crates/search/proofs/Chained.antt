@@ -11,7 +11,8 @@ use native.Mathlib.Omega.{arith}
 use lib.ListN.{length, set}
 use Rattle.search.specs.Arrays.{at}
 use Rattle.search.specs.Chain.{First, Chains, Empty}
-use Rattle.search.proofs.Places.{same-or-not, below-or-not, at-set}
+use Rattle.search.proofs.Places.{at-set}
+use Rattle.arrays.proofs.Lists.{same-or-not, below-or-not}
 
 -- the chains of the transitions at or above i
 pub record Chaining (keys : List ℕ) (m i : ℕ) (head link : List ℕ) : Type 0 where

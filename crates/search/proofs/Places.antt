@@ -4,28 +4,13 @@ use mathlib.Core.List.{List, [], _∷_}
 use mathlib.Core.Logic.{_⊎_, inl, inr, _≢_}
 use mathlib.Core.Path.{_≡_, refl, sym, ap, _∙_}
 use Prim.Native.Nat.{ℕ, zero, suc, _+_, _≤_, _<_}
-use native.Mathlib.Decide.{ℕ-discrete, decLt}
 use native.Mathlib.Nat.{not-suc-le-zero}
 use native.Mathlib.Omega.{arith}
 use lib.ListN.{length, set, getD}
 use lib.Seq.{getD-set-same, getD-set-other, set-out}
+use Rattle.arrays.proofs.Lists.{same-or-not, below-or-not}
 use Rattle.search.specs.Arrays.{at, Below}
-use Rattle.search.specs.Explored.{sumTo}
-
--- two numbers are the same or not, and one is below the other or not
-pub same-or-not : (a b : ℕ) → (a ≡ b) ⊎ (a ≢ b)
-same-or-not a b = go (ℕ-discrete a b)
-  where
-    go : Dec (a ≡ b) → (a ≡ b) ⊎ (a ≢ b)
-    go (yes e) = inl e
-    go (no d) = inr d
-
-pub below-or-not : (a b : ℕ) → (a < b) ⊎ (b ≤ a)
-below-or-not a b = go (decLt a b)
-  where
-    go : Dec (a < b) → (a < b) ⊎ (b ≤ a)
-    go (yes l) = inl l
-    go (no d) = inr (omega (arith, d))
+use Rattle.search.specs.Sizes.{sumTo}
 
 -- a place after a store: the stored number at its place, and what stood there at every other
 pub at-set : (xs : List ℕ) (i x j : ℕ) → i < length xs → ((j ≡ i) × (at (set xs i x) j ≡ x)) ⊎ ((j ≢ i) × (at (set xs i x) j ≡ at xs j))

@@ -18,7 +18,7 @@ use Rattle.graph.proofs.Build.{delay-snoc}
 use Rattle.graph.proofs.Repeat.{pigeonhole}
 use Rattle.search.specs.Arrays.{at, FinalIn, UnfinishedIn, finalMark, Ends, Leaves}
 use Rattle.search.specs.Route.{Accounts, along, Steps, Leading, Traced}
-use Rattle.search.proofs.Places.{same-or-not}
+use Rattle.arrays.proofs.Lists.{same-or-not}
 
 -- a store at place k leaves the first k + 1 states, and the next one is where the stored transition leads
 module _ (to : List ℕ) (s k t : ℕ) (walk : List ℕ) where

@@ -1,4 +1,4 @@
--- A graph that stands in lent arrays, and a cost that does. Assumes nothing.
+-- A graph that stands in lent arrays. Assumes nothing.
 use mathlib.Core.Bool.{Bool, true, false}
 use mathlib.Core.List.{List}
 use mathlib.Core.Path.{_≡_}
@@ -6,7 +6,6 @@ use Prim.Native.Nat.{ℕ, _/_, _%_, _≤_, _<_}
 use lib.Dec.{eqb}
 use lib.ListN.{length, getD}
 use Rattle.graph.specs.Graph.{Graph, states, count, marksOf, from, to}
-use Rattle.graph.specs.Route.{Cost}
 
 -- what stands at a place
 abbrev pub at : List ℕ → ℕ → ℕ
@@ -49,10 +48,6 @@ pub record Holds (g : Graph) (n m : ℕ) (marks sources targets : List ℕ) : Ty
   pub marked : (s : ℕ) → s < n → marksOf g s ≡ at marks s
   pub leaves : (t : ℕ) → t < m → from g t ≡ at sources t
   pub arrives : (t : ℕ) → t < m → to g t ≡ at targets t
-
--- a cost as two arrays: a weight for each transition, a close for each state
-abbrev pub costOf : List ℕ → List ℕ → Cost
-costOf weight close = record { step = at weight; close = at close }
 
 -- no number of a list is k or more; past its end stand zeros
 abbrev pub Below : ℕ → List ℕ → Type 0

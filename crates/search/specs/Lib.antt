@@ -1,8 +1,5 @@
 pub mod Arrays
 pub mod Chain
-pub mod Keys
-pub mod Explored
+pub mod Sizes
 pub mod Route
-pub mod Tree
-pub mod Values
 pub mod Quoted

@@ -5,7 +5,7 @@ ghost use Prim.Native.Nat.{ℕ, _≤_, _<_};
 ghost use lib.ListN.{length};
 ghost use Rattle.search.specs.Arrays.{at, UnfinishedIn, Ends, Leaves, Below};
 ghost use Rattle.search.specs.Chain.{Chains};
-ghost use Rattle.search.specs.Keys.{far, heaviest};
+ghost use Rattle.search.specs.Sizes.{far, heaviest};
 ghost use Rattle.search.specs.Route.{Accounts, Leading, Traced};
 use crate::is_final;
 use arrays::limits::wide;

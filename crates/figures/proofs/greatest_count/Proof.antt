@@ -20,7 +20,7 @@ use Rattle.costs.specs.Arrays.{graphOf}
 use Rattle.rules.specs.Quotations.{meant}
 use Rattle.graph.specs.Route.{counts}
 use Rattle.graph.specs.Graph.{counted}
-use Rattle.search.specs.Keys.{heaviest}
+use Rattle.search.specs.Sizes.{heaviest}
 use Rattle.search.specs.Arrays.{at}
 use Rattle.figures.proofs.greatest_count.Statement.{statement}
 use Rattle.figures.proofs.greatest_count.Tie as tie
@@ -28,7 +28,7 @@ use Rattle.figures.proofs.greatest_count.Reads as reads
 use Rattle.figures.proofs.greatest_count.Lts as lts
 use Rattle.costs.proofs.closes.Reads as closes-reads
 use Rattle.costs.proofs.counts.Reads as counts-reads
-use Rattle.search.proofs.greatest.greatest.Reads as greatest-reads
+use Rattle.greatest_search.proofs.greatest.greatest.Reads as greatest-reads
 
 -- src/lib.rt:150:5
 counts-requires : tie.Need-counts-requires

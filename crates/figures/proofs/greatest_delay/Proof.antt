@@ -19,14 +19,14 @@ use Rattle.costs.proofs.Held.{highs-scaled}
 use Rattle.costs.specs.Arrays.{graphOf}
 use Rattle.rules.specs.Quotations.{meant}
 use Rattle.graph.specs.Route.{highs}
-use Rattle.search.specs.Keys.{heaviest}
+use Rattle.search.specs.Sizes.{heaviest}
 use Rattle.search.specs.Arrays.{at}
 use Rattle.figures.proofs.greatest_delay.Statement.{statement}
 use Rattle.figures.proofs.greatest_delay.Tie as tie
 use Rattle.figures.proofs.greatest_delay.Reads as reads
 use Rattle.figures.proofs.greatest_delay.Lts as lts
 use Rattle.costs.proofs.delays.Reads as delays-reads
-use Rattle.search.proofs.greatest.greatest.Reads as greatest-reads
+use Rattle.greatest_search.proofs.greatest.greatest.Reads as greatest-reads
 
 -- src/lib.rt:120:5
 delays-requires : tie.Need-delays-requires

@@ -20,7 +20,7 @@ use Rattle.costs.specs.Arrays.{graphOf}
 use Rattle.rules.specs.Quotations.{meant}
 use Rattle.graph.specs.Route.{counts}
 use Rattle.graph.specs.Graph.{counted}
-use Rattle.search.specs.Keys.{heaviest}
+use Rattle.search.specs.Sizes.{heaviest}
 use Rattle.search.specs.Arrays.{at}
 use Rattle.figures.proofs.least_count.Statement.{statement}
 use Rattle.figures.proofs.least_count.Tie as tie
@@ -29,7 +29,7 @@ use Rattle.figures.proofs.least_count.Lts as lts
 use Rattle.costs.proofs.closes.Reads as closes-reads
 use Rattle.costs.proofs.counts.Reads as counts-reads
 use Rattle.figures.proofs.divide.Reads as divide-reads
-use Rattle.search.proofs.least.least.Reads as least-reads
+use Rattle.least_search.proofs.least.least.Reads as least-reads
 
 -- src/lib.rt:82:5
 counts-requires : tie.Need-counts-requires

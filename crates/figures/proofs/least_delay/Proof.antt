@@ -19,7 +19,7 @@ use Rattle.costs.proofs.Held.{lows-scaled}
 use Rattle.costs.specs.Arrays.{graphOf}
 use Rattle.rules.specs.Quotations.{meant}
 use Rattle.graph.specs.Route.{lows}
-use Rattle.search.specs.Keys.{heaviest}
+use Rattle.search.specs.Sizes.{heaviest}
 use Rattle.search.specs.Arrays.{at}
 use Rattle.figures.proofs.least_delay.Statement.{statement}
 use Rattle.figures.proofs.least_delay.Tie as tie
@@ -27,7 +27,7 @@ use Rattle.figures.proofs.least_delay.Reads as reads
 use Rattle.figures.proofs.least_delay.Lts as lts
 use Rattle.costs.proofs.delays.Reads as delays-reads
 use Rattle.figures.proofs.divide.Reads as divide-reads
-use Rattle.search.proofs.least.least.Reads as least-reads
+use Rattle.least_search.proofs.least.least.Reads as least-reads
 
 -- src/lib.rt:50:5
 delays-requires : tie.Need-delays-requires

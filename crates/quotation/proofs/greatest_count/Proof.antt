@@ -28,7 +28,7 @@ use Rattle.quotation.proofs.greatest_count.Lts as lts
 use Rattle.figures.proofs.greatest_count.Reads as greatest-count-reads
 use Rattle.quotation.proofs.ask.Reads as ask-reads
 use Rattle.search.proofs.chain.chains.Reads as chains-reads
-use Rattle.search.proofs.greatest.reach.Reads as reach-reads
+use Rattle.greatest_search.proofs.greatest.reach.Reads as reach-reads
 
 -- src/lib.rt:114:9
 ask-requires : tie.Need-ask-requires

@@ -28,7 +28,7 @@ use Rattle.quotation.proofs.greatest_delay.Lts as lts
 use Rattle.figures.proofs.greatest_delay.Reads as greatest-delay-reads
 use Rattle.quotation.proofs.ask.Reads as ask-reads
 use Rattle.search.proofs.chain.chains.Reads as chains-reads
-use Rattle.search.proofs.greatest.reach.Reads as reach-reads
+use Rattle.greatest_search.proofs.greatest.reach.Reads as reach-reads
 
 -- src/lib.rt:60:9
 ask-requires : tie.Need-ask-requires

@@ -12,7 +12,7 @@ use lib.Dec.{ltb, leb, eqb}
 use lib.ListN.{length, getD, set, take, drop, length-set}
 use lib.Seq.{getD-set-same, getD-set-other}
 use Rattle.search.proofs.Chained.{chain-rises}
-use Rattle.search.specs.Keys.{far, heaviest}
+use Rattle.search.specs.Sizes.{far, heaviest}
 use Rattle.search.specs.Arrays.{at, Leaves}
 use Rattle.search.specs.Chain.{First, Chains}
 use Rattle.search.specs.Route.{Accounts}

@@ -14,7 +14,7 @@ use lib.ListN.{length, getD, set, take, drop, length-set}
 use lib.Seq.{getD-set-same, getD-set-other}
 use native.Mathlib.Numerals.{add-one}
 use Rattle.search.proofs.Tracing.{Tracing, traced-first, traced-fits, traced-below, traced-turn, traced-all}
-use Rattle.search.specs.Keys.{far, heaviest}
+use Rattle.search.specs.Sizes.{far, heaviest}
 use Rattle.search.specs.Arrays.{at, UnfinishedIn}
 use Rattle.search.proofs.route.trace.Statement.{statement}
 use Rattle.search.proofs.route.trace.Tie as tie

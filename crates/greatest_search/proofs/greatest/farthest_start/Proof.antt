@@ -1,0 +1,106 @@
+-- `search::greatest::farthest_start` meets its contract. The invariant: the best is a start whose value is the greatest of those passed.
+-- Assumes nothing.
+use Prim.Native.Nat.{ℕ, zero, suc, _+_, _-_, _*_, _≤_, _<_}
+use mathlib.Core.Bool.{Bool, true, false, not}
+use mathlib.Core.List.{List, [], _∷_, _++_}
+use mathlib.Core.Logic.{_⊎_, inl, inr, ⊎-elim}
+use mathlib.Core.Path.{_≡_, refl, sym, ap, _∙_}
+use native.Mathlib.Omega.{arith}
+use borrow.Author.Count.{below-none, below-more}
+use borrow.Author.Needs.{needs}
+use borrow.Author.Tests.{lt-ltb, le-ltb, le-leb, lt-leb, eq-eqb, ne-eqb, not-true, not-false, eqb-true, eqb-false}
+use lib.Dec.{ltb, leb, eqb}
+use lib.ListN.{length, getD, set, take, drop, length-set}
+use lib.Seq.{getD-set-same, getD-set-other}
+use native.Mathlib.Numerals.{add-one}
+use mathlib.Core.Bool.{true≢false}
+use Rattle.greatest_search.proofs.Filling.{Looking, looked-taken, looked-kept, looked-all}
+use Rattle.search.specs.Arrays.{at, StartIn}
+use Rattle.greatest_search.proofs.greatest.farthest_start.Statement.{statement}
+use Rattle.greatest_search.proofs.greatest.farthest_start.Tie as tie
+use Rattle.greatest_search.proofs.greatest.farthest_start.Reads as reads
+use Rattle.greatest_search.proofs.greatest.farthest_start.Lts as lts
+use Rattle.search.proofs.is_start.Reads as is-start-reads
+
+abbrev Inv-loop : tie.InvT-loop
+Inv-loop n marks value best₀ most₀ s₀ best most s = (s ≤ n) × Looking n marks value best most s
+
+abbrev μ-loop : tie.MeasureT-loop
+μ-loop n marks value best₀ most₀ s₀ best most s = n - s
+
+-- src/greatest.rt:87:5
+loop-holds : tie.Need-loop-holds Inv-loop μ-loop
+loop-holds c = (omega arith, record { found = λ b. absurd (omega arith); none = λ b. refl; greatest = λ x b q. absurd (omega arith) })
+
+-- src/greatest.rt:88:21
+element-copy-out-is-start : tie.Need-element-copy-out-is-start Inv-loop μ-loop
+element-copy-out-is-start c = omega (arith, c .before .before .pre)
+
+-- src/greatest.rt:88:12
+is-start-requires : tie.Need-is-start-requires Inv-loop μ-loop
+is-start-requires c κs = search needs
+
+-- src/greatest.rt:89:24
+mul-if2 : tie.Need-mul-if2 Inv-loop μ-loop
+mul-if2 c = omega (arith, c .before .before .before .before .before .pre)
+
+-- src/greatest.rt:89:24
+element-copy-out-if2 : tie.Need-element-copy-out-if2 Inv-loop μ-loop
+element-copy-out-if2 c = omega (arith, c .before .before .before .before .before .pre)
+
+-- src/greatest.rt:91:24
+mul-most : tie.Need-mul-most Inv-loop μ-loop
+mul-most c = omega (arith, c .before .before .before .before .before .before .before .pre)
+
+-- src/greatest.rt:91:24
+element-copy-out-most : tie.Need-element-copy-out-most Inv-loop μ-loop
+element-copy-out-most c = omega (arith, c .before .before .before .before .before .before .before .pre)
+
+-- src/greatest.rt:94:9
+add-s : tie.Need-add-s Inv-loop μ-loop
+add-s c = search needs
+
+-- src/greatest.rt:87:5
+loop-less : tie.Need-loop-less Inv-loop μ-loop
+loop-less c = search needs
+
+-- src/greatest.rt:87:5
+loop-again : tie.Need-loop-again Inv-loop μ-loop
+loop-again c =
+    let a = c .before .before .before .before .before .args in
+    let l = c .before .before .before .before .loop in
+    let e = c .before .is-start .ensures in (
+      omega arith,
+      rw add-one (⊎-elim
+          (λ w. rw (w .4, w .5) (looked-taken (a .n) (a .marks .now) (a .value .now) (l .best) (l .most) (l .s) (l .inv .1) (c .before .before .before .loop-test .taken) (sym e ∙ w .0 .taken) (w .2 .taken)))
+          (⊎-elim
+          (λ w. rw (w .3, w .4) (looked-kept (a .n) (a .marks .now) (a .value .now) (l .best) (l .most) (l .s) (l .inv .1) (λ b. w .2 .left)))
+          (λ w. rw (w .1, w .2) (looked-kept (a .n) (a .marks .now) (a .value .now) (l .best) (l .most) (l .s) (l .inv .1)
+          (λ b. absurd (true≢false (sym b ∙ sym e ∙ w .0 .left))))))
+          (c .if1 .came)),
+    )
+
+-- src/greatest.rt:80:1
+returns : tie.Need-returns Inv-loop μ-loop
+returns c =
+    let a = c .before .before .args in
+    let l = c .before .loop in
+    looked-all (a .n) (a .marks .now) (a .value .now) (l .best) (l .most) (l .s) (l .inv .1) (c .loop-test .left)
+
+pub farthest-start-spec : {M : Type 1} → statement M
+farthest-start-spec =
+    tie.close
+    (tie.spec
+    Inv-loop
+    μ-loop
+    loop-holds
+    element-copy-out-is-start
+    is-start-requires
+    mul-if2
+    element-copy-out-if2
+    mul-most
+    element-copy-out-most
+    add-s
+    loop-less
+    loop-again
+    returns)

@@ -1,0 +1,118 @@
+-- `search::tree::along_stack` meets its contract. The invariant: the places before i hold the cursors of the states there, and those past d stay.
+-- Assumes nothing.
+use Prim.Native.Nat.{ℕ, zero, suc, _+_, _-_, _*_, _≤_, _<_}
+use mathlib.Core.Bool.{Bool, true, false, not}
+use mathlib.Core.List.{List, [], _∷_, _++_}
+use mathlib.Core.Logic.{_⊎_, inl, inr, ⊎-elim}
+use mathlib.Core.Path.{_≡_, refl, sym, ap, _∙_}
+use native.Mathlib.Omega.{arith}
+use borrow.Author.Count.{below-none, below-more}
+use borrow.Author.Needs.{needs}
+use borrow.Author.Tests.{lt-ltb, le-ltb, le-leb, lt-leb, eq-eqb, ne-eqb, not-true, not-false, eqb-true, eqb-false}
+use lib.Dec.{ltb, leb, eqb}
+use lib.ListN.{length, getD, set, take, drop, length-set}
+use lib.Seq.{getD-set-same, getD-set-other}
+use lib.Seq.{drop-set-lt}
+use Rattle.search.specs.Arrays.{at}
+use Rattle.greatest_search.proofs.tree.along_stack.Statement.{statement}
+use Rattle.greatest_search.proofs.tree.along_stack.Tie as tie
+use Rattle.greatest_search.proofs.tree.along_stack.Reads as reads
+use Rattle.greatest_search.proofs.tree.along_stack.Lts as lts
+use Rattle.arrays.proofs.limits.wide.Reads as wide-reads
+
+abbrev Inv-loop : tie.InvT-loop
+Inv-loop d stack cursor walk₀ i₀ walk i = (i ≤ d) × (length walk ≡ length walk₀) × ((j : ℕ) → j < i → at walk j ≡ at cursor (at stack j)) × (drop d walk ≡ drop d walk₀)
+
+abbrev μ-loop : tie.MeasureT-loop
+μ-loop d stack cursor walk₀ i₀ walk i = d - i
+
+-- src/tree.rt:16:5
+loop-holds : tie.Need-loop-holds Inv-loop μ-loop
+loop-holds c = (omega arith, search needs, below-none _, refl)
+
+-- src/tree.rt:17:31
+mul-wide : tie.Need-mul-wide Inv-loop μ-loop
+mul-wide c = search needs
+
+-- src/tree.rt:17:31
+element-copy-out-wide : tie.Need-element-copy-out-wide Inv-loop μ-loop
+element-copy-out-wide c = search needs
+
+-- src/tree.rt:17:26
+wide-requires : tie.Need-wide-requires Inv-loop μ-loop
+wide-requires c κs = search needs
+
+-- src/tree.rt:17:19
+mul-walk : tie.Need-mul-walk Inv-loop μ-loop
+mul-walk c =
+    let a = c .before .before .before .before .before .args in
+    let l = c .before .before .before .loop in
+    let e : c .wide .result ≡ at (a .stack .now) (l .i) = c .wide .ensures in
+    let b = c .before .before .before .before .before .pre .2 (l .i) (c .before .before .loop-test .taken) in
+    omega arith
+
+-- src/tree.rt:17:19
+element-copy-out-walk : tie.Need-element-copy-out-walk Inv-loop μ-loop
+element-copy-out-walk c =
+    let a = c .before .before .before .before .before .args in
+    let l = c .before .before .before .loop in
+    let e : c .wide .result ≡ at (a .stack .now) (l .i) = c .wide .ensures in
+    let b = c .before .before .before .before .before .pre .2 (l .i) (c .before .before .loop-test .taken) in
+    omega arith
+
+-- src/tree.rt:17:9
+mul-walk-2 : tie.Need-mul-walk-2 Inv-loop μ-loop
+mul-walk-2 c = search needs
+
+-- src/tree.rt:17:9
+slice-write-walk : tie.Need-slice-write-walk Inv-loop μ-loop
+slice-write-walk c = omega arith
+
+-- src/tree.rt:18:9
+add-i : tie.Need-add-i Inv-loop μ-loop
+add-i c = search needs
+
+-- src/tree.rt:16:5
+loop-less : tie.Need-loop-less Inv-loop μ-loop
+loop-less c = search needs
+
+-- src/tree.rt:16:5
+loop-again : tie.Need-loop-again Inv-loop μ-loop
+loop-again c =
+    let a = c .before .before .before .before .before .before .args in
+    let l = c .before .before .before .before .loop in
+    let v = at (a .cursor .now) (c .before .wide .result) in (
+      omega arith,
+      length-set (l .walk) (l .i) v ∙ l .inv .1,
+      below-more _ _ (λ j h. getD-set-other (l .walk) (l .i) j v 0 (omega arith) ∙ l .inv .2 j h)
+          (getD-set-same (l .walk) (l .i) v 0 (omega arith) ∙ ap (at (a .cursor .now)) (c .before .wide .ensures)),
+      drop-set-lt (a .d) (l .walk) (l .i) v (c .before .before .before .loop-test .taken) ∙ l .inv .3,
+    )
+
+-- src/tree.rt:10:1
+same-length : tie.Need-same-length Inv-loop μ-loop
+same-length c = c .before .loop .inv .1
+
+-- src/tree.rt:10:1
+returns : tie.Need-returns Inv-loop μ-loop
+returns c = (λ i h. c .before .loop .inv .2 i (omega arith), c .before .loop .inv .3)
+
+pub along-stack-spec : {M : Type 1} → statement M
+along-stack-spec =
+    tie.close
+    (tie.spec
+    Inv-loop
+    μ-loop
+    loop-holds
+    mul-wide
+    element-copy-out-wide
+    wide-requires
+    mul-walk
+    element-copy-out-walk
+    mul-walk-2
+    slice-write-walk
+    add-i
+    loop-less
+    loop-again
+    same-length
+    returns)

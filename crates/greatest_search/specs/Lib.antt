@@ -1,0 +1,3 @@
+pub mod Explored
+pub mod Tree
+pub mod Values
