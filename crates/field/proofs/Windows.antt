@@ -42,6 +42,25 @@ window-more os first i h hi ho =
     ∙ number-append (bits (slice first i os)) (bitsOf 8 o)
     ∙ ap₂ (λ (k n : ℕ). number (bits (slice first i os)) * 2 ^ k + n) (length-bitsOf 8 o) (number-bitsOf-lt 8 o ho)
 
+-- the same of numbers that are known to be the window's and the octet's; and so five octets, one after another
+more : (os : List ℕ) (first n i o : ℕ) → first ≤ i → i < length os → n ≡ number (bits (slice first i os)) → (o ≡ getD os i 0) × (o < 256)
+    → n * 256 + o ≡ number (bits (slice first (i + 1) os))
+more os first n i o h hi hn ho =
+    ap₂ (λ (x y : ℕ). x * 256 + y) hn (ho .0) ∙ sym (window-more os first i h hi (omega (arith, ho)))
+
+pub window-five : (os : List ℕ) (first a b c d e : ℕ) → first + 5 ≤ length os
+    → (a ≡ getD os first 0) × (a < 256) → (b ≡ getD os (first + 1) 0) × (b < 256) → (c ≡ getD os (first + 2) 0) × (c < 256)
+    → (d ≡ getD os (first + 3) 0) × (d < 256) → (e ≡ getD os (first + 4) 0) × (e < 256)
+    → (((a * 256 + b) * 256 + c) * 256 + d) * 256 + e ≡ number (bits (slice first (first + 5) os))
+window-five os first a b c d e h ha hb hc hd he =
+    let at : (j k : ℕ) → j ≡ k → number (bits (slice first j os)) ≡ number (bits (slice first k os)) = λ j k p. ap (λ (i : ℕ). number (bits (slice first i os))) p in
+    let n : a ≡ 0 * 256 + a = omega arith in
+    let one = n ∙ more os first 0 first a (omega arith) (omega arith) (window-none os first) ha in
+    let two = more os first a (first + 1) b (omega arith) (omega arith) one hb ∙ at (first + 1 + 1) (first + 2) (omega arith) in
+    let three = more os first (a * 256 + b) (first + 2) c (omega arith) (omega arith) two hc ∙ at (first + 2 + 1) (first + 3) (omega arith) in
+    let four = more os first ((a * 256 + b) * 256 + c) (first + 3) d (omega arith) (omega arith) three hd ∙ at (first + 3 + 1) (first + 4) (omega arith) in
+    more os first (((a * 256 + b) * 256 + c) * 256 + d) (first + 4) e (omega arith) (omega arith) four he ∙ at (first + 4 + 1) (first + 5) (omega arith)
+
 -- the bits of a part of the octets are a part of the bits
 pub bits-slice : (os : List ℕ) (first end : ℕ) → first ≤ end → end ≤ length os → bits (slice first end os) ≡ drop (8 * first) (take (8 * end) (bits os))
 bits-slice os first end h he =
@@ -62,6 +81,13 @@ field-in-window os at w first end hf he hl =
     ∙ within-front at w (8 * end) (bits os) he in
     let e : length W - (at - 8 * first + w) ≡ 8 * end - (at + w) = omega arith in
     sym (ap number d) ∙ number-mid (at - 8 * first) w W (omega arith) ∙ ap (λ (n : ℕ). number W / 2 ^ n % 2 ^ w) e
+
+-- the same of a number that is known to be the window's, with the bits after the field counted
+pub part-in-window : (os : List ℕ) (at w first end after n : ℕ) → 8 * first ≤ at → at + w + after ≡ 8 * end → end ≤ length os
+    → n ≡ number (bits (slice first end os)) → n / 2 ^ after % 2 ^ w ≡ fieldAt os at w
+part-in-window os at w first end after n hf he hl hn =
+    let e : after ≡ 8 * end - (at + w) = omega arith in
+    ap₂ (λ (x k : ℕ). x / 2 ^ k % 2 ^ w) hn e ∙ sym (field-in-window os at w first end hf (omega arith) hl)
 
 -- the power of two that a shift of 1 makes, and the mask below it
 pub shifted-one : (w : ℕ) → w < 64 → (1 * 2 ^ w) % 2 ^ 64 ≡ 2 ^ w

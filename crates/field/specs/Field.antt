@@ -6,6 +6,7 @@ use Prim.Native.Nat.{ℕ, zero, suc, _+_, _-_, _*_, _/_, _%_, _^_, _≤_, _<_}
 use lib.Dec.{eqb}
 use lib.ListN.{length, getD, take, drop}
 use lib.Seq.{paste}
+use Rattle.field.specs.declared.Four.{Four}
 
 -- the value of one bit
 abbrev pub bit : Bool → ℕ
@@ -36,6 +37,11 @@ octetsOf (suc k) bs = number (take 8 bs) ∷ octetsOf k (drop 8 bs)
 unfoldable pub fieldAt : List ℕ → ℕ → ℕ → ℕ
 fieldAt os at w = number (take w (drop at (bits os)))
 
+-- the four fields of a, b, c and d bits from a bit position on: "taken .. with a running bit position, one after another"
+abbrev pub fourAt : List ℕ → ℕ → ℕ → ℕ → ℕ → ℕ → Four
+fourAt os at a b c d =
+    record { first = fieldAt os at a; second = fieldAt os (at + a) b; third = fieldAt os (at + a + b) c; fourth = fieldAt os (at + a + b + c) d }
+
 -- the octets with the field of w bits at a bit position made v, and every other bit as it was
 unfoldable pub withField : List ℕ → ℕ → ℕ → ℕ → List ℕ
 withField os at w v = octetsOf (length os) (take at (bits os) ++ bitsOf w v ++ drop (at + w) (bits os))
@@ -52,6 +58,12 @@ Octets os = (i : ℕ) → getD os i 0 < 256
 pub record Within (os : List ℕ) (at w : ℕ) : Type 0 where
   pub some : 0 < w
   pub most : w ≤ 32
+  pub inside : at + w ≤ 8 * length os
+  pub near : at + w < 2 ^ 32
+
+-- w bits, 40 or fewer, lie within the octets, at a bit position that a machine word holds
+pub record Spans (os : List ℕ) (at w : ℕ) : Type 0 where
+  pub most : w ≤ 40
   pub inside : at + w ≤ 8 * length os
   pub near : at + w < 2 ^ 32
 

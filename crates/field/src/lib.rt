@@ -1,16 +1,49 @@
-// Packed fields of a slice of octets, most significant bit first: take and put, at any bit position and any width from 1 to 32. A field of
-// 32 bits or fewer lies within five octets, so the octets that hold it make one number, its window, and the field is a part of the window.
+// Packed fields of a slice of octets, most significant bit first. Four fields are taken at once from any bit position, one after another; a field
+// is put at any bit position. The octets that hold the bits, at most six, make one number, their window, and a field is a part of the window.
 ghost use mathlib.Core.Path.{_≡_};
 ghost use Prim.Native.Nat.{_+_, _-_, _*_, _^_, _≤_, _<_};
-ghost use lib.ListN.{length};
+ghost use Prim.Native.Nat.{_/_, _%_};
+ghost use lib.ListN.{length, getD};
 ghost use lib.Seq.{slice};
-ghost use Rattle.field.specs.Field.{Within, bits, number, fieldAt, withField, stored};
+ghost use Rattle.field.specs.Field.{Within, Spans, bits, number, fourAt, withField, stored};
 
-// The number that the octets from first up to end make.
+// Four fields that lie one after another, by their values.
+pub struct Four {
+    pub first: usize,
+    pub second: usize,
+    pub third: usize,
+    pub fourth: usize,
+}
+
+// The octet at a place, as a word.
+fn octet(octets: &[u8], i: usize) -> u64
+    requires { ⌜ i < length (now octets) ⌝ }
+    ensures { λ r. ⌜ (r ≡ getD (now (octets .entry)) i 0) × (r < 256) ⌝ }
+{
+    octets[i] as u64
+}
+
+// The number that the five octets from first on make.
+fn five(octets: &[u8], first: usize) -> u64
+    requires { ⌜ first + 5 ≤ length (now octets) ⌝ }
+    ensures { λ r. ⌜ r ≡ number (bits (slice first (first + 5) (now (octets .entry)))) ⌝ }
+{
+    let a = octet(octets, first);
+    let b = octet(octets, first + 1);
+    let c = octet(octets, first + 2);
+    let d = octet(octets, first + 3);
+    let e = octet(octets, first + 4);
+    (((a * 256 + b) * 256 + c) * 256 + d) * 256 + e
+}
+
+// The number that the octets from first up to end make. Five are the most common number: they go without the loop.
 fn window(octets: &[u8], first: usize, end: usize) -> u64
-    requires { ⌜ (first ≤ end) × (end ≤ length (now octets)) × (end ≤ first + 5) ⌝ }
+    requires { ⌜ (first ≤ end) × (end ≤ length (now octets)) × (end ≤ first + 6) ⌝ }
     ensures { λ r. ⌜ r ≡ number (bits (slice first end (now (octets .entry)))) ⌝ }
 {
+    if end - first == 5 {
+        return five(octets, first);
+    }
     let mut value: u64 = 0;
     let mut i = first;
     while i < end {
@@ -20,16 +53,29 @@ fn window(octets: &[u8], first: usize, end: usize) -> u64
     value
 }
 
-// The field of width bits at bit position at.
-pub fn take(octets: &[u8], at: usize, width: usize) -> u32
-    requires { ⌜ Within (now octets) at width ⌝ }
-    ensures { λ r. ⌜ r ≡ fieldAt (now (octets .entry)) at width ⌝ }
+// The part of a number that has width bits, and after bits after it.
+fn part(whole: u64, after: usize, width: usize) -> usize
+    requires { ⌜ (after < 64) × (width < 64) ⌝ }
+    ensures { λ r. ⌜ r ≡ whole / 2 ^ after % 2 ^ width ⌝ }
 {
-    let stop = at + width;
+    ((whole >> after) & ((1u64 << width) - 1)) as usize
+}
+
+// The four fields of a, b, c and d bits, one after another from bit position at on. One window holds them all.
+pub fn take_four(octets: &[u8], at: usize, a: usize, b: usize, c: usize, d: usize) -> Four
+    requires { ⌜ Spans (now octets) at (a + b + c + d) ⌝ }
+    ensures { λ r. ⌜ r ≡ fourAt (now (octets .entry)) at a b c d ⌝ }
+{
+    let stop = at + a + b + c + d;
     let end = (stop + 7) / 8;
     let after = 8 * end - stop;
     let whole = window(octets, at / 8, end);
-    ((whole >> after) & ((1u64 << width) - 1)) as u32
+    Four {
+        first: part(whole, after + d + c + b, a),
+        second: part(whole, after + d + c, b),
+        third: part(whole, after + d, c),
+        fourth: part(whole, after, d),
+    }
 }
 
 // Puts the number value into the octets from first up to end, most significant octet first.

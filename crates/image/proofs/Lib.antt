@@ -1,2 +1,3 @@
 pub mod Collect
+pub mod Items
 pub mod Puts

@@ -1,4 +1,5 @@
 // A plan's image, over the arrays that hold its marks and transitions: its header, states and transitions read and written as packed fields.
+pub mod reader;
 pub mod reading;
 pub mod writing;
 

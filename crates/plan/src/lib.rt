@@ -180,14 +180,16 @@ pub fn read(plan: Plan, octets: &[u8]) -> Edited
     if !within(plan) {
         return refuse(plan, Refusal::PlanLimits);
     }
-    let head = reading::header(octets);
+    let mut at = 0;
+    let heading = reading::header(octets, &mut at);
+    let head = heading.answer;
     if let Answer::Refused(r) = head {
         return refuse(plan, r);
     }
-    let n = reading::state_count(octets);
-    let m = reading::transition_count(octets);
+    let n = heading.states;
+    let m = heading.transitions;
     let mut marks = plan.marks;
-    let marked = reading::states(octets, n, &mut marks);
+    let marked = reading::states(octets, &mut at, n, &mut marks);
     if let Answer::Refused(r) = marked {
         return refuse(plan, r);
     }
@@ -195,7 +197,16 @@ pub fn read(plan: Plan, octets: &[u8]) -> Edited
     let mut to = plan.to;
     let mut low = plan.low;
     let mut high = plan.high;
-    let listed = reading::transitions(octets, n, m, &mut from, &mut to, &mut low, &mut high);
+    let listed = reading::transitions(
+        octets,
+        &mut at,
+        n,
+        m,
+        &mut from,
+        &mut to,
+        &mut low,
+        &mut high,
+    );
     let image = Plan {
         states: n,
         transitions: m,

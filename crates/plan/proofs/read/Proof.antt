@@ -27,9 +27,7 @@ use Rattle.plan.proofs.read.Tie as tie
 use Rattle.plan.proofs.read.Reads as reads
 use Rattle.plan.proofs.read.Lts as lts
 use Rattle.image.proofs.reading.header.Reads as header-reads
-use Rattle.image.proofs.reading.state_count.Reads as state-count-reads
 use Rattle.image.proofs.reading.states.Reads as states-reads
-use Rattle.image.proofs.reading.transition_count.Reads as transition-count-reads
 use Rattle.image.proofs.reading.transitions.Reads as transitions-reads
 use Rattle.plan.proofs.within.Reads as within-reads
 use Rattle.plan.proofs.accept.Reads as accept-reads
@@ -50,8 +48,7 @@ unfolding readRule readImage
 returns c =
     let p = c .before .before .before .before .args .plan in
     let w : within (view p) ≡ false = sym (c .before .before .within .ensures) ∙ not-true _ (c .before .if1 .taken) in
-    rw (c .refuse .ensures)
-    (refusal p (readRule (view p) (c .before .before .before .before .args .octets .now)) PlanLimits (rw w))
+    rw (c .refuse .ensures) (refusal p (readRule (view p) (c .before .before .before .before .args .octets .now)) PlanLimits (rw w))
 
 header-requires : tie.Need-header-requires
 header-requires c κs = search needs
@@ -65,55 +62,55 @@ refuse-requires-2 c κs = search needs
 returns-2 : tie.Need-returns-2
 unfolding readRule readImage
 returns-2 c =
-    let p = c .before .before .before .before .before .before .before .before .args .plan in
-    let os = c .before .before .before .before .before .before .before .before .args .octets .now in
+    let p = c .before .before .before .before .before .before .before .before .before .args .plan in
+    let os = c .before .before .before .before .before .before .before .before .before .args .octets .now in
     let r = c .before .before .head .given .0 .0 in
-    let w : within (view p) ≡ true = sym (c .before .before .before .before .before .before .within .ensures) ∙ not-false _ (c .before .before .before .before .before .if1 .left) in
-    let h : headerRule os ≡ refused (number r) = sym (c .before .before .before .before .header .ensures) ∙ ap said (c .before .before .head .given .1) in
+    let w : within (view p) ≡ true = sym (c .before .before .before .before .before .before .before .within .ensures) ∙ not-false _ (c .before .before .before .before .before .before .if1 .left) in
+    let h : headerRule os ≡ refused (number r) = sym (c .before .before .before .before .header .ensures .0) ∙ ap said (c .before .before .head .given .1) in
     rw (c .refuse2 .ensures) (refusal p (readRule (view p) os) r (rw (w, h)))
 
 enum-told : tie.Need-enum-told
 enum-told c = search needs
 
--- what is known once the header is accepted
-record Head (p : Plan) (os : List ℕ) : Type 0 where
+-- what is known once the header is accepted: the two counts are the image's, and the position is that of the first state
+record Head (p : Plan) (os : List ℕ) (n m at : ℕ) : Type 0 where
   sound : within (view p) ≡ true
   rule : headerRule os ≡ accepted tt
   header : Header os
+  states : n ≡ stateCountOf os
+  transitions : m ≡ transitionCountOf os
+  position : at ≡ 32
 
-head : (c : tie.After-enum-told) → Head (c .before .before .before .before .before .before .args .plan) (c .before .before .before .before .before .before .args .octets .now)
+head : (c : tie.After-enum-told) → Head (c .before .before .before .before .before .before .before .args .plan) (c .before .before .before .before .before .before .before .args .octets .now) (c .before .before .header .result .states) (c .before .before .header .result .transitions) (c .before .before .header .last .1 .0)
 head c =
-    let os = c .before .before .before .before .before .before .args .octets .now in
-    let h : headerRule os ≡ accepted tt = sym (c .before .before .header .ensures) ∙ ap said (c .enum-told .given .1) in
-    record { sound = sym (c .before .before .before .before .within .ensures) ∙ not-false _ (c .before .before .before .if1 .left); rule = h; header = accepted-header os h }
-
-state-count-requires : tie.Need-state-count-requires
-state-count-requires c κs = omega (arith, head c .header .long)
-
-transition-count-requires : tie.Need-transition-count-requires
-transition-count-requires c κs = omega (arith, head (c .before) .header .long)
+    let os = c .before .before .before .before .before .before .before .args .octets .now in
+    let h : headerRule os ≡ accepted tt = sym (c .before .before .header .ensures .0) ∙ ap said (c .enum-told .given .1) in
+    let k = accepted-header os h in
+    let e = c .before .before .header .ensures .1 (omega (arith, k .long)) in
+    record { sound = sym (c .before .before .before .before .before .within .ensures) ∙ not-false _ (c .before .before .before .before .if1 .left); rule = h; header = k; states = e .0; transitions = e .1; position = e .2 }
 
 states-requires : tie.Need-states-requires
 states-requires c κs =
-    omega (arith, head (c .before .before .before .before) .header, c .before .before .before .state-count .ensures, c .before .before .transition-count .ensures, sized (c .before .before .before .before .before .before .before .before .before .before) .marks)
+    let h = head (c .before .before .before) in
+    omega (arith, h .header, h .states, h .transitions, h .position, sized (c .before .before .before .before .before .before .before .before .before .before) .marks)
 
 enum-known-marked : tie.Need-enum-known-marked
 enum-known-marked c = search needs
 
 -- the rule once the states were read: they are accepted as the array has them, or refused
-module _ (p : Plan) (os : List ℕ) (h : Head p os) (n m : ℕ) (en : n ≡ stateCountOf os) (em : m ≡ transitionCountOf os) where
+module _ (p : Plan) (os : List ℕ) (n m at : ℕ) (h : Head p os n m at) where
   by-states : (r : ℕ) → statesIn os n ≡ refused r → readRule (view p) os ≡ refused r
   unfolding readRule readImage
-  by-states r s = rw (h .sound, h .rule, ← en, s)
+  by-states r s = rw (h .sound, h .rule, ← h .states, s)
 
   by-transitions : (states : List State) (r : ℕ) → statesIn os n ≡ accepted states → transitionsIn os n m ≡ refused r → readRule (view p) os ≡ refused r
   unfolding readRule readImage
-  by-transitions states r s t = rw (h .sound, h .rule, ← en, ← em, s, t)
+  by-transitions states r s t = rw (h .sound, h .rule, ← h .states, ← h .transitions, s, t)
 
   by-both : (states : List State) (ts : List Transition) → statesIn os n ≡ accepted states → transitionsIn os n m ≡ accepted ts
       → readRule (view p) os ≡ accepted (record { stateList = states; transitions = ts })
   unfolding readRule readImage
-  by-both states ts s t = rw (h .sound, h .rule, ← en, ← em, s, t)
+  by-both states ts s t = rw (h .sound, h .rule, ← h .states, ← h .transitions, s, t)
 
 refuse-requires-3 : tie.Need-refuse-requires-3
 refuse-requires-3 c κs = search needs
@@ -121,26 +118,26 @@ refuse-requires-3 c κs = search needs
 returns-3 : tie.Need-returns-3
 returns-3 c =
     let a = c .before .before .before .before .before .before .before .before .before .before .before .before .before .before .before .args in
-    let n = c .before .before .before .before .before .before .before .before .state-count .result in
+    let h = head (c .before .before .before .before .before .before .before .before) in
+    let n = c .before .before .before .before .before .before .before .before .before .before .header .result .states in
     let r = c .before .before .marked .given .0 .0 in
     let s : statesIn (a .octets .now) n ≡ refused (number r) =
-    sym (c .before .before .before .before .states .ensures .0) ∙ ap (λ (x : Answer). outcome x (statesOf n (c .before .before .before .before .states .last .1 .1 .0))) (c .before .before .marked .given .1) in
-    rw (c .refuse3 .ensures)
-    (refusal (a .plan) (readRule (view (a .plan)) (a .octets .now)) r
-    (by-states (a .plan) (a .octets .now) (head (c .before .before .before .before .before .before .before .before .before)) n (c .before .before .before .before .before .before .before .transition-count .result) (c .before .before .before .before .before .before .before .before .state-count .ensures) (c .before .before .before .before .before .before .before .transition-count .ensures) (number r) s))
+    sym (c .before .before .before .before .states .ensures .0) ∙ ap (λ (x : Answer). outcome x (statesOf n (c .before .before .before .before .states .last .1 .1 .1 .0))) (c .before .before .marked .given .1) in
+    rw (c .refuse3 .ensures) (refusal (a .plan) (readRule (view (a .plan)) (a .octets .now)) r (by-states (a .plan) (a .octets .now) n _ _ h (number r) s))
 
 enum-told-2 : tie.Need-enum-told-2
 enum-told-2 c = search needs
 
 transitions-requires : tie.Need-transitions-requires
 transitions-requires c κs =
-    let z = sized (c .before .before .before .before .before .before .before .before .before .before .before .before .before .before .before .before .before .before .before .before .before) in
-    omega (arith, head (c .before .before .before .before .before .before .before .before .before .before .before .before .before .before .before) .header, c .before .before .before .before .before .before .before .before .before .before .before .before .before .before .state-count .ensures, c .before .before .before .before .before .before .before .before .before .before .before .before .before .transition-count .ensures, z .from, z .to, z .low, z .high)
+    let z = sized (c .before .before .before .before .before .before .before .before .before .before .before .before .before .before .before .before .before .before .before .before .before .before) in
+    let h = head (c .before .before .before .before .before .before .before .before .before .before .before .before .before .before .before) in
+    let e = c .before .before .before .before .before .before .before .before .before .before .before .states .ensures .2 (c .before .before .before .before .before .before .before .before .before .enum-told2 .given .1) in
+    omega (arith, h .header, h .states, h .transitions, e, z .from, z .to, z .low, z .high)
 
 -- the states are accepted as the array has them
-marked : (c : tie.After-enum-told2) → statesIn (c .before .before .before .before .before .before .before .before .before .before .before .before .before .args .octets .now) (c .before .before .before .before .before .before .state-count .result) ≡ accepted (statesOf (c .before .before .before .before .before .before .state-count .result) (c .before .before .states .last .1 .1 .0))
-marked c =
-    sym (c .before .before .states .ensures .0) ∙ ap (λ (x : Answer). outcome x (statesOf (c .before .before .before .before .before .before .state-count .result) (c .before .before .states .last .1 .1 .0))) (c .enum-told2 .given .1)
+marked : (c : tie.After-enum-told2) → statesIn (c .before .before .before .before .before .before .before .before .before .before .before .before .before .args .octets .now) (c .before .before .before .before .before .before .before .before .header .result .states) ≡ accepted (statesOf (c .before .before .before .before .before .before .before .before .header .result .states) (c .before .before .states .last .1 .1 .1 .0))
+marked c = sym (c .before .before .states .ensures .0) ∙ ap (λ (x : Answer). outcome x (statesOf (c .before .before .before .before .before .before .before .before .header .result .states) (c .before .before .states .last .1 .1 .1 .0))) (c .enum-told2 .given .1)
 
 enum-told-3 : tie.Need-enum-told-3
 enum-told-3 c = search needs
@@ -157,30 +154,32 @@ refuse-requires-4 c κs = search needs
 returns-4 : tie.Need-returns-4
 unfolding view
 returns-4 c =
-    let a = c .before .before .before .before .before .before .before .before .before .before .before .before .before .before .before .before .before .before .before .before .before .before .before .before .before .args in
-    let n = c .before .before .before .before .before .before .before .before .before .before .before .before .before .before .before .before .before .before .state-count .result in
-    let m = c .before .before .before .before .before .before .before .before .before .before .before .before .before .before .before .before .before .transition-count .result in
+    let a = c .before .before .before .before .before .before .before .before .before .before .before .before .before .before .before .before .before .before .before .before .before .before .before .before .before .before .args in
+    let n = c .before .before .before .before .before .before .before .before .before .before .before .before .before .before .before .before .before .before .before .before .before .header .result .states in
+    let m = c .before .before .before .before .before .before .before .before .before .before .before .before .before .before .before .before .before .before .before .before .before .header .result .transitions in
     let e = c .before .before .before .transitions .ensures in
-    let ms = statesOf n (c .before .before .before .before .before .before .before .before .before .before .before .before .before .before .states .last .1 .1 .0) in
-    let ts = transitionsOf m (c .before .before .before .transitions .last .1 .1 .1 .0) (c .before .before .before .transitions .last .1 .1 .1 .1 .0) (c .before .before .before .transitions .last .1 .1 .1 .1 .1 .0) (c .before .before .before .transitions .last .1 .1 .1 .1 .1 .1 .0) in
+    let l = c .before .before .before .transitions .last in
+    let ms = statesOf n (c .before .before .before .before .before .before .before .before .before .before .before .before .before .before .before .states .last .1 .1 .1 .0) in
+    let ts = transitionsOf m (l .1 .1 .1 .1 .0) (l .1 .1 .1 .1 .1 .0) (l .1 .1 .1 .1 .1 .1 .0) (l .1 .1 .1 .1 .1 .1 .1 .0) in
     let t : transitionsIn (a .octets .now) n m ≡ accepted ts = sym (e .0) ∙ ap (λ (x : Answer). outcome x ts) (c .before .enum-told3 .given .1) in
     rw (c .accept .ensures)
     (acceptance (a .plan) _ (readRule (view (a .plan)) (a .octets .now)) (record { stateList = ms; transitions = ts })
-    (by-both (a .plan) (a .octets .now) (head (c .before .before .before .before .before .before .before .before .before .before .before .before .before .before .before .before .before .before .before)) n m (c .before .before .before .before .before .before .before .before .before .before .before .before .before .before .before .before .before .before .state-count .ensures) (c .before .before .before .before .before .before .before .before .before .before .before .before .before .before .before .before .before .transition-count .ensures) ms ts (marked (c .before .before .before .before .before .before .before .before .before .before .before .before)) t)
+    (by-both (a .plan) (a .octets .now) n m _ (head (c .before .before .before .before .before .before .before .before .before .before .before .before .before .before .before .before .before .before .before)) ms ts (marked (c .before .before .before .before .before .before .before .before .before .before .before .before .before)) t)
     refl
-    (record { marks = c .before .before .before .before .before .before .before .before .before .before .before .before .before .before .states .ensures .1; from = e .1; to = e .2; low = e .3; high = e .4 }))
+    (record { marks = c .before .before .before .before .before .before .before .before .before .before .before .before .before .before .before .states .ensures .1; from = e .1; to = e .2; low = e .3; high = e .4 }))
 
 returns-5 : tie.Need-returns-5
 returns-5 c =
-    let a = c .before .before .before .before .before .before .before .before .before .before .before .before .before .before .before .before .before .before .before .before .before .before .before .before .before .before .args in
-    let n = c .before .before .before .before .before .before .before .before .before .before .before .before .before .before .before .before .before .before .before .state-count .result in
-    let m = c .before .before .before .before .before .before .before .before .before .before .before .before .before .before .before .before .before .before .transition-count .result in
+    let a = c .before .before .before .before .before .before .before .before .before .before .before .before .before .before .before .before .before .before .before .before .before .before .before .before .before .before .before .args in
+    let n = c .before .before .before .before .before .before .before .before .before .before .before .before .before .before .before .before .before .before .before .before .before .before .header .result .states in
+    let m = c .before .before .before .before .before .before .before .before .before .before .before .before .before .before .before .before .before .before .before .before .before .before .header .result .transitions in
     let r = c .before .before .listed .given .0 .0 in
-    let ts = transitionsOf m (c .before .before .before .before .transitions .last .1 .1 .1 .0) (c .before .before .before .before .transitions .last .1 .1 .1 .1 .0) (c .before .before .before .before .transitions .last .1 .1 .1 .1 .1 .0) (c .before .before .before .before .transitions .last .1 .1 .1 .1 .1 .1 .0) in
+    let l = c .before .before .before .before .transitions .last in
+    let ts = transitionsOf m (l .1 .1 .1 .1 .0) (l .1 .1 .1 .1 .1 .0) (l .1 .1 .1 .1 .1 .1 .0) (l .1 .1 .1 .1 .1 .1 .1 .0) in
     let t : transitionsIn (a .octets .now) n m ≡ refused (number r) = sym (c .before .before .before .before .transitions .ensures .0) ∙ ap (λ (x : Answer). outcome x ts) (c .before .before .listed .given .1) in
     rw (c .refuse4 .ensures)
     (refusal (a .plan) (readRule (view (a .plan)) (a .octets .now)) r
-    (by-transitions (a .plan) (a .octets .now) (head (c .before .before .before .before .before .before .before .before .before .before .before .before .before .before .before .before .before .before .before .before)) n m (c .before .before .before .before .before .before .before .before .before .before .before .before .before .before .before .before .before .before .before .state-count .ensures) (c .before .before .before .before .before .before .before .before .before .before .before .before .before .before .before .before .before .before .transition-count .ensures) (statesOf n (c .before .before .before .before .before .before .before .before .before .before .before .before .before .before .before .states .last .1 .1 .0)) (number r) (marked (c .before .before .before .before .before .before .before .before .before .before .before .before .before)) t))
+    (by-transitions (a .plan) (a .octets .now) n m _ (head (c .before .before .before .before .before .before .before .before .before .before .before .before .before .before .before .before .before .before .before .before)) (statesOf n (c .before .before .before .before .before .before .before .before .before .before .before .before .before .before .before .before .states .last .1 .1 .1 .0)) (number r) (marked (c .before .before .before .before .before .before .before .before .before .before .before .before .before .before)) t))
 
 pub read-spec : {M : Type 1} → statement M
 read-spec =
@@ -194,8 +193,6 @@ read-spec =
     refuse-requires-2
     returns-2
     enum-told
-    state-count-requires
-    transition-count-requires
     states-requires
     enum-known-marked
     refuse-requires-3

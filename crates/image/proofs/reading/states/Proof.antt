@@ -1,5 +1,5 @@
 -- `image::reading::states` meets its contract. The invariant: every state passed is accepted, with the marks value that stands at its place, and
--- no later place was touched.
+-- no later place was touched; the position is that of the next state.
 -- Assumes nothing.
 use Prim.Native.Nat.{ℕ, _+_, _-_, _≤_, _<_}
 use mathlib.Core.Bool.{true, false}
@@ -8,7 +8,8 @@ use native.Mathlib.Omega.{arith}
 use borrow.Author.Tests.{eq-eqb, ne-eqb}
 use lib.Dec.{eqb}
 use lib.ListN.{getD, set}
-use Rattle.field.specs.Field.{fieldAt}
+use Rattle.field.specs.Field.{fieldAt, fourAt}
+use Rattle.field.proofs.Laws.{field-lt}
 use Rattle.graph.specs.Graph.{State, marked}
 use Rattle.arrays.specs.Tables.{stateOf}
 use Rattle.rules.specs.Refusal.{Result, accepted}
@@ -19,44 +20,47 @@ use Rattle.arrays.specs.Tables.{Later}
 use Rattle.arrays.proofs.Lists.{later-none, later-set}
 use Rattle.rules.proofs.Order.{collect-refused}
 use Rattle.image.proofs.Collect.{collect-accepted}
+use Rattle.image.proofs.Items.{Bits, state-fields}
 use Rattle.image.proofs.reading.states.Statement.{statement}
 use Rattle.image.proofs.reading.states.Tie as tie
 use Rattle.image.proofs.reading.states.Reads as reads
 use Rattle.image.proofs.reading.states.Lts as lts
-use Rattle.image.proofs.reading.marks_at.Reads as marks-at-reads
-use Rattle.image.proofs.reading.word.Reads as word-reads
+use Rattle.image.proofs.reader.next.Reads as next-reads
+use Rattle.image.proofs.reading.marks_of.Reads as marks-of-reads
 
 abbrev Inv-loop : tie.InvT-loop
-Inv-loop octets n marks₀ i₀ marks i = (i ≤ n) × Later n marks₀ marks × ((k : ℕ) → k < i → stateAt octets (statePlace k) ≡ accepted (stateOf marks k))
+Inv-loop octets at₀ n marks₀ i₀ at marks i = (i ≤ n) × Later n marks₀ marks × (at ≡ statePlace i) × ((k : ℕ) → k < i → stateAt octets (statePlace k) ≡ accepted (stateOf marks k))
 
 abbrev μ-loop : tie.MeasureT-loop
-μ-loop octets n marks₀ i₀ marks i = n - i
+μ-loop octets at₀ n marks₀ i₀ at marks i = n - i
 
 loop-holds : tie.Need-loop-holds Inv-loop μ-loop
-loop-holds c = (omega arith, later-none _ _ (omega arith), below-none _)
+loop-holds c = (omega arith, later-none _ _ (omega arith), omega arith, below-none _)
 
-mul-at : tie.Need-mul-at Inv-loop μ-loop
-mul-at c = omega arith
+next-requires : tie.Need-next-requires Inv-loop μ-loop
+next-requires c κs = record { most = omega arith; inside = omega arith; near = omega arith }
 
-add-at : tie.Need-add-at Inv-loop μ-loop
-add-at c = omega arith
-
-add-word : tie.Need-add-word Inv-loop μ-loop
-add-word c = omega arith
-
-word-requires : tie.Need-word-requires Inv-loop μ-loop
-word-requires c κs = record { some = omega arith; most = omega arith; inside = omega arith; near = omega arith }
+-- the fields that were taken are those of the state
+taken : (c : tie.After-next Inv-loop μ-loop) → Bits (c .before .before .before .before .before .args .octets .now) (statePlace (c .before .before .before .loop .i)) (c .next .result)
+taken c = state-fields (c .before .before .before .before .before .args .octets .now) (c .before .before .before .loop .at) (statePlace (c .before .before .before .loop .i)) (c .next .result) (c .before .before .before .loop .inv .2) (c .next .ensures .0)
 
 returns : tie.Need-returns Inv-loop μ-loop
 unfolding statesIn
 returns c =
-    let os = c .before .before .before .before .before .args .octets .now in
-    let l = c .before .before .before .loop in
-    let s : eqb (fieldAt os (statePlace (l .i) + 3) 5) 0 ≡ false = ne-eqb _ 0 (λ e. c .if1 .taken (c .before .word .ensures ∙ e)) in
-    (sym (collect-refused (λ (k : ℕ). stateAt os (statePlace k)) (c .before .before .before .before .before .args .n) (l .i) 6 (stateOf (l .marks)) (omega arith) (l .inv .2) (rw s)), l .inv .1)
+    let os = c .before .before .before .before .before .before .before .args .octets .now in
+    let l = c .before .before .before .before .before .loop in
+    let s : eqb (fieldAt os (statePlace (l .i) + 3) 5) 0 ≡ false = ne-eqb _ 0 (λ e. c .if1 .taken (taken (c .before .before) .spare ∙ e)) in (
+      sym (collect-refused (λ (k : ℕ). stateAt os (statePlace k)) (c .before .before .before .before .before .before .before .args .n) (l .i) 6 (stateOf (l .marks)) (omega arith) (l .inv .3) (rw s)),
+      l .inv .1,
+      λ e. let z : _≡_ {A = ℕ} 0 1 = cc in omega arith,
+    )
 
-marks-at-requires : tie.Need-marks-at-requires Inv-loop μ-loop
-marks-at-requires c κs = record { some = omega arith; most = omega arith; inside = omega arith; near = omega arith }
+marks-of-requires : tie.Need-marks-of-requires Inv-loop μ-loop
+marks-of-requires c κs =
+    let os = c .before .before .before .before .before .before .before .args .octets .now in
+    let p = statePlace (c .before .before .before .before .before .loop .i) in
+    let t = taken (c .before .before) in
+    (rw (t .start) (field-lt os p 1), rw (t .final) (field-lt os (p + 1) 1), rw (t .counted) (field-lt os (p + 2) 1))
 
 element-write-marks : tie.Need-element-write-marks Inv-loop μ-loop
 element-write-marks c = omega arith
@@ -69,16 +73,18 @@ loop-less c = omega arith
 
 loop-again : tie.Need-loop-again Inv-loop μ-loop
 loop-again c =
-    let os = c .before .before .before .before .before .before .args .octets .now in
-    let l = c .before .before .before .before .loop in
-    let s : eqb (fieldAt os (statePlace (l .i) + 3) 5) 0 ≡ true = eq-eqb _ 0 (sym (c .before .before .word .ensures) ∙ c .before .if1 .left) in
-    let v = c .marks-at .result in
+    let os = c .before .before .before .before .before .before .before .before .args .octets .now in
+    let l = c .before .before .before .before .before .before .loop in
+    let t = taken (c .before .before .before) in
+    let s : eqb (fieldAt os (statePlace (l .i) + 3) 5) 0 ≡ true = eq-eqb _ 0 (sym (t .spare) ∙ c .before .if1 .left) in
+    let v = c .marks-of .result in
     let here : getD (set (l .marks) (l .i) v) (l .i) 0 ≡ v = getD-set-same (l .marks) (l .i) v 0 (omega arith) in (
       omega arith,
       later-set _ _ (l .marks) (l .i) v (omega arith) (l .inv .1),
+      omega (arith, c .before .before .before .next .ensures .1),
       below-more _ _
-          (λ k h. l .inv .2 k h ∙ ap {B = Result State} (λ (x : ℕ). accepted (marked x)) (sym (getD-set-other (l .marks) (l .i) k v 0 (omega arith))))
-          (rw (s, here, c .marks-at .ensures)),
+          (λ k h. l .inv .3 k h ∙ ap {B = Result State} (λ (x : ℕ). accepted (marked x)) (sym (getD-set-other (l .marks) (l .i) k v 0 (omega arith))))
+          (rw (s, here, c .marks-of .ensures, t .start, t .final, t .counted)),
     )
 
 returns-2 : tie.Need-returns-2 Inv-loop μ-loop
@@ -86,7 +92,7 @@ unfolding statesIn
 returns-2 c =
     let os = c .before .before .before .args .octets .now in
     let l = c .before .loop in
-    (sym (collect-accepted (λ (k : ℕ). stateAt os (statePlace k)) (c .before .before .before .args .n) (stateOf (l .marks)) (λ k h. l .inv .2 k (omega arith))), l .inv .1)
+    (sym (collect-accepted (λ (k : ℕ). stateAt os (statePlace k)) (c .before .before .before .args .n) (stateOf (l .marks)) (λ k h. l .inv .3 k (omega arith))), l .inv .1, λ e. omega arith)
 
 pub states-spec : {M : Type 1} → statement M
 states-spec =
@@ -95,12 +101,9 @@ states-spec =
     Inv-loop
     μ-loop
     loop-holds
-    mul-at
-    add-at
-    add-word
-    word-requires
+    next-requires
     returns
-    marks-at-requires
+    marks-of-requires
     element-write-marks
     add-i
     loop-less

@@ -1,5 +1,5 @@
 -- `image::reading::transitions` meets its contract. The invariant: every transition passed is accepted, and stands at its place of the arrays,
--- and no later place was touched.
+-- and no later place was touched; the position is that of the next transition.
 -- Assumes nothing.
 use Prim.Native.Nat.{ℕ, _-_, _≤_, _<_}
 use mathlib.Core.Path.{_≡_, sym, ap, _∙_}
@@ -22,33 +22,21 @@ use Rattle.image.proofs.reading.transitions.Tie as tie
 use Rattle.image.proofs.reading.transitions.Reads as reads
 use Rattle.image.proofs.reading.transitions.Lts as lts
 use Rattle.arrays.proofs.limits.checked.Reads as checked-reads
-use Rattle.image.proofs.reading.transition_at.Reads as transition-at-reads
+use Rattle.image.proofs.reading.transition.Reads as transition-reads
 
 abbrev Inv-loop : tie.InvT-loop
-Inv-loop octets n m from₀ to₀ low₀ high₀ i₀ from to low high i =
-    (i ≤ m) × Later m from₀ from × Later m to₀ to × Later m low₀ low × Later m high₀ high
+Inv-loop octets at₀ n m from₀ to₀ low₀ high₀ i₀ at from to low high i =
+    (i ≤ m) × Later m from₀ from × Later m to₀ to × Later m low₀ low × Later m high₀ high × (at ≡ transitionPlace n i)
     × ((k : ℕ) → k < i → checked n (transitionAt octets (transitionPlace n k)) ≡ accepted (transitionOf from to low high k))
 
 abbrev μ-loop : tie.MeasureT-loop
-μ-loop octets n m from₀ to₀ low₀ high₀ i₀ from to low high i = m - i
+μ-loop octets at₀ n m from₀ to₀ low₀ high₀ i₀ at from to low high i = m - i
 
 loop-holds : tie.Need-loop-holds Inv-loop μ-loop
-loop-holds c = (omega arith, later-none _ _ (omega arith), later-none _ _ (omega arith), later-none _ _ (omega arith), later-none _ _ (omega arith), below-none _)
+loop-holds c = (omega arith, later-none _ _ (omega arith), later-none _ _ (omega arith), later-none _ _ (omega arith), later-none _ _ (omega arith), omega arith, below-none _)
 
-mul-transition-at : tie.Need-mul-transition-at Inv-loop μ-loop
-mul-transition-at c = omega arith
-
-add-transition-at : tie.Need-add-transition-at Inv-loop μ-loop
-add-transition-at c = omega arith
-
-mul-transition-at-2 : tie.Need-mul-transition-at-2 Inv-loop μ-loop
-mul-transition-at-2 c = omega arith
-
-add-transition-at-2 : tie.Need-add-transition-at-2 Inv-loop μ-loop
-add-transition-at-2 c = omega arith
-
-transition-at-requires : tie.Need-transition-at-requires Inv-loop μ-loop
-transition-at-requires c κs = omega arith
+transition-requires : tie.Need-transition-requires Inv-loop μ-loop
+transition-requires c κs = omega arith
 
 checked-requires : tie.Need-checked-requires Inv-loop μ-loop
 checked-requires c κs = tt
@@ -56,36 +44,42 @@ checked-requires c κs = tt
 enum-known-grounds : tie.Need-enum-known-grounds Inv-loop μ-loop
 enum-known-grounds c = search needs
 
+-- the transition that was taken is the one at its place
+taken : (c : tie.After-transition Inv-loop μ-loop) → meant (c .transition .result) ≡ transitionAt (c .before .before .before .before .before .args .octets .now) (transitionPlace (c .before .before .before .before .before .args .n) (c .before .before .before .loop .i))
+taken c = c .transition .ensures .0 ∙ ap (transitionAt (c .before .before .before .before .before .args .octets .now)) (c .before .before .before .loop .inv .5)
+
 returns : tie.Need-returns Inv-loop μ-loop
 unfolding transitionsIn
 returns c =
-    let a = c .before .before .before .before .before .before .before .before .args in
-    let l = c .before .before .before .before .before .before .loop in
+    let a = c .before .before .before .before .before .before .before .before .before .args in
+    let l = c .before .before .before .before .before .before .before .loop in
     let os = a .octets .now in
-    let v = c .before .before .before .before .transition-at .result in
+    let v = c .before .before .before .before .transition .result in
     let r = c .before .grounds .given .0 .0 in
     let e : checked (a .n) (transitionAt os (transitionPlace (a .n) (l .i))) ≡ refused (number r) =
-    ap (checked (a .n)) (sym (c .before .before .before .before .transition-at .ensures)) ∙ sym (c .before .before .before .checked .ensures) ∙ ap (λ (x : Answer). outcome x (meant v)) (c .before .grounds .given .1) in (
-      sym (collect-refused (λ (k : ℕ). checked (a .n) (transitionAt os (transitionPlace (a .n) k))) (a .m) (l .i) (number r) (transitionOf (l .from) (l .to) (l .low) (l .high)) (omega arith) (l .inv .5) e),
+    ap (checked (a .n)) (sym (taken (c .before .before .before .before))) ∙ sym (c .before .before .before .checked .ensures) ∙ ap (λ (x : Answer). outcome x (meant v)) (c .before .grounds .given .1) in (
+      sym (collect-refused (λ (k : ℕ). checked (a .n) (transitionAt os (transitionPlace (a .n) k))) (a .m) (l .i) (number r) (transitionOf (l .from) (l .to) (l .low) (l .high)) (omega arith) (l .inv .6) e),
       l .inv .1,
       l .inv .2,
       l .inv .3,
       l .inv .4,
+      λ e. let z : _≡_ {A = ℕ} 0 1 = cc in omega arith,
     )
 
 enum-told : tie.Need-enum-told Inv-loop μ-loop
 enum-told c = search needs
 
 -- the transition that was read is accepted, so its numbers are within the limits
-accepts : (c : tie.After-enum-told Inv-loop μ-loop) → checked (c .before .before .before .before .before .before .before .args .n) (meant (c .before .before .before .transition-at .result)) ≡ accepted (meant (c .before .before .before .transition-at .result))
+accepts : (c : tie.After-enum-told Inv-loop μ-loop) → checked (c .before .before .before .before .before .before .before .before .args .n) (meant (c .before .before .before .transition .result)) ≡ accepted (meant (c .before .before .before .transition .result))
 accepts c =
-    let v = c .before .before .before .transition-at .result in
+    let v = c .before .before .before .transition .result in
     sym (c .before .before .checked .ensures) ∙ ap (λ (x : Answer). outcome x (meant v)) (c .enum-told .given .1)
 
-numbers : (c : tie.After-struct-known Inv-loop μ-loop) → Bounded (c .before .before .before .before .before .before .before .before .args .n) (meant (c .before .before .before .before .transition-at .result))
+numbers : (c : tie.After-struct-known Inv-loop μ-loop) → Bounded (c .before .before .before .before .before .before .before .before .before .args .n) (meant (c .before .before .before .before .transition .result))
 numbers c =
-    let t = meant (c .before .before .before .before .transition-at .result) in
-    bounded (c .before .before .before .before .before .before .before .before .args .n) t (ok-checked (c .before .before .before .before .before .before .before .before .args .n) t t (accepts (c .before)) .1)
+    let n = c .before .before .before .before .before .before .before .before .before .args .n in
+    let t = meant (c .before .before .before .before .transition .result) in
+    bounded n t (ok-checked n t t (accepts (c .before)) .1)
 
 cast-from : tie.Need-cast-from Inv-loop μ-loop
 cast-from c = omega (arith, numbers c)
@@ -131,10 +125,9 @@ loop-less c = omega arith
 
 loop-again : tie.Need-loop-again Inv-loop μ-loop
 loop-again c =
-    let a = c .before .before .before .before .before .before .before .before .before .before .before .args in
-    let l = c .before .before .before .before .before .before .before .before .before .loop in
-    let r = c .before .before .before .before .before .before .before .transition-at .result in
-    let t = c .before .before .before .before .before .before .before .transition-at .ensures in
+    let a = c .before .before .before .before .before .before .before .before .before .before .before .before .args in
+    let l = c .before .before .before .before .before .before .before .before .before .before .loop in
+    let r = c .before .before .before .before .before .before .before .transition .result in
     let z : (l .i < length (l .from)) × (l .i < length (l .to)) × (l .i < length (l .low)) × (l .i < length (l .high)) =
     (omega (arith, l .inv .1 .room), omega (arith, l .inv .2 .room), omega (arith, l .inv .3 .room), omega (arith, l .inv .4 .room)) in
     let here : transitionOf (set (l .from) (l .i) (r .from)) (set (l .to) (l .i) (r .to)) (set (l .low) (l .i) (r .low)) (set (l .high) (l .i) (r .high)) (l .i) ≡ meant r =
@@ -144,11 +137,12 @@ loop-again c =
       later-set _ _ (l .to) (l .i) (r .to) (omega arith) (l .inv .2),
       later-set _ _ (l .low) (l .i) (r .low) (omega arith) (l .inv .3),
       later-set _ _ (l .high) (l .i) (r .high) (omega arith) (l .inv .4),
+      omega (arith, c .before .before .before .before .before .before .before .transition .ensures .1),
       below-more _ _
-          (λ k h. l .inv .5 k h
+          (λ k h. l .inv .6 k h
           ∙ ap {B = Result Transition} (λ (x : Transition). accepted x)
           (sym (transition-other (l .from) (l .to) (l .low) (l .high) (l .i) (r .from) (r .to) (r .low) (r .high) k (omega arith))))
-          (ap (checked (a .n)) (sym t) ∙ accepts (c .before .before .before .before) ∙ ap {B = Result Transition} (λ (x : Transition). accepted x) (sym here)),
+          (ap (checked (a .n)) (sym (taken (c .before .before .before .before .before .before .before))) ∙ accepts (c .before .before .before .before) ∙ ap {B = Result Transition} (λ (x : Transition). accepted x) (sym here)),
     )
 
 returns-2 : tie.Need-returns-2 Inv-loop μ-loop
@@ -157,11 +151,12 @@ returns-2 c =
     let a = c .before .before .before .args in
     let l = c .before .loop in
     let os = a .octets .now in (
-      sym (collect-accepted (λ (k : ℕ). checked (a .n) (transitionAt os (transitionPlace (a .n) k))) (a .m) (transitionOf (l .from) (l .to) (l .low) (l .high)) (λ k h. l .inv .5 k (omega arith))),
+      sym (collect-accepted (λ (k : ℕ). checked (a .n) (transitionAt os (transitionPlace (a .n) k))) (a .m) (transitionOf (l .from) (l .to) (l .low) (l .high)) (λ k h. l .inv .6 k (omega arith))),
       l .inv .1,
       l .inv .2,
       l .inv .3,
       l .inv .4,
+      λ e. omega arith,
     )
 
 pub transitions-spec : {M : Type 1} → statement M
@@ -171,11 +166,7 @@ transitions-spec =
     Inv-loop
     μ-loop
     loop-holds
-    mul-transition-at
-    add-transition-at
-    mul-transition-at-2
-    add-transition-at-2
-    transition-at-requires
+    transition-requires
     checked-requires
     enum-known-grounds
     returns
