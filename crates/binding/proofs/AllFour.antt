@@ -1,6 +1,6 @@
 -- All four figures of an image on lent slices. Numbers put behind those that stand at the front stand there too (`put-behind`), so four times four
--- numbers are sixteen at the front (`four-put`). The walks' numbers fit their places (`four-small`). And the promises of the plan's own read and
--- quotations are the promise on the slices (`quotes-short`, `quotes-refused`, `quotes-done`). Assumes nothing.
+-- numbers are sixteen at the front (`four-put`). And the promises of the plan's own read and quotations are the promise on the slices
+-- (`short-of-walks`, `short-of-places`, `quotes-refused`, `quotes-done`). Assumes nothing.
 use mathlib.Core.Bool.{Bool, true, false, _&&_}
 use mathlib.Core.List.{List, [], _∷_, _++_, append-assoc, append-nil}
 use mathlib.Core.Path.{_≡_, refl, sym, ap, ap₂, subst, _∙_}
@@ -11,29 +11,25 @@ use borrow.Rule.Slice.PartMut.{putMid}
 use lib.Dec.{leb}
 use lib.ListN.{length, take, drop, length-append, length-drop, drop-of-length-le}
 use lib.Seq.{length-take-le, take-append-seam, drop-append-seam, drop-drop}
-use Rattle.graph.specs.Graph.{Graph, states}
-use Rattle.graph.specs.Figure.{Figure, leastDelayCost, greatestDelayCost, countCost}
-use Rattle.graph.specs.Route.{Cost}
+use Rattle.graph.specs.Graph.{Graph}
 use Rattle.rules.specs.declared.Answer.the-variants.{Accepted, Refused}
 use Rattle.rules.specs.declared.FourQuotes.{FourQuotes}
-use Rattle.rules.specs.declared.Quote.{Quote}
 use Rattle.rules.specs.declared.Quotations.{Quotations}
 use Rattle.rules.specs.declared.Quotations.the-variants.{Quoted as AllQuoted, Refused as NoneQuoted}
 use Rattle.rules.specs.declared.Refusal.{Refusal}
 use Rattle.rules.specs.Image.{readImage}
 use Rattle.rules.specs.Limits.{within}
-use Rattle.rules.specs.Quotations.{Shows, AllStated, QuotesAll, meant}
+use Rattle.rules.specs.Quotations.{AllStated, QuotesAll}
 use Rattle.rules.specs.Refusal.{Result, accepted, refused, answerOf, said, number}
-use Rattle.rules.proofs.ReadWrite.{limited}
 use Rattle.rules.proofs.Results.{never, and-true}
 use Rattle.arrays.specs.Tables.{over}
 use Rattle.plan.specs.declared.Edited.{Edited}
 use Rattle.plan.specs.Promise.{Held}
 use Rattle.plan.specs.View.{view}
 use Rattle.plan.proofs.Holding.{held-within}
+use Rattle.quotation.proofs.Small.{four-small}
 use Rattle.quotation.proofs.Together.{all-done, all-not-refused}
-use Rattle.binding.specs.Quoted.{numbersOf, SmallQuote, fourNumbers, FourSmall, AllSmall, AllAnswered, canQuote, LentQuotes}
-use Rattle.binding.proofs.Quotes.{small-j}
+use Rattle.binding.specs.Quoted.{numbersOf, fourNumbers, AllSmall, AllAnswered, canQuote, LentQuotes}
 use Rattle.binding.proofs.Stores.{true-false}
 
 -- ---- the sixteen places
@@ -78,22 +74,8 @@ four-put q l a b c d h ea eb ec ed =
 
 -- ---- the numbers fit
 
-module _ (g : Graph) (w : within g ≡ true) where
-  small-quote : (c : Cost) (q : Quote) (before after : List ℕ) → Shows g c (meant (q .figure)) (q .k) (q .j) before after → SmallQuote q
-  small-quote c q before after s =
-      let n : states g ≤ 512 = limited g w .most in
-      (omega (arith, s .places), omega (arith, s .places, small-j g c (meant (q .figure)) (q .k) (q .j) before after s))
-
-  four-small : (q : FourQuotes) (before after : List ℕ) → AllStated g q before after → FourSmall q
-  four-small q before after s = record {
-    least-delay = small-quote (leastDelayCost g) (q .least .delay) _ _ (s .least-delay .shows);
-    greatest-delay = small-quote (greatestDelayCost g) (q .greatest .delay) _ _ (s .greatest-delay .shows);
-    least-count = small-quote (countCost g) (q .least .count) _ _ (s .least-count .shows);
-    greatest-count = small-quote (countCost g) (q .greatest .count) _ _ (s .greatest-count .shows);
-  }
-
-  pub all-small : (before after : List ℕ) (r : Quotations) → QuotesAll g before after r → AllSmall r
-  all-small before after r x q e = four-small q before after (x .quoted q e)
+pub all-small : (g : Graph) → within g ≡ true → (before after : List ℕ) (r : Quotations) → QuotesAll g before after r → AllSmall r
+all-small g w before after r x q e = four-small g w q before after (x .quoted q e)
 
 -- ---- the promise on the slices
 

@@ -10,8 +10,8 @@ use native.Mathlib.Omega.{arith}
 use borrow.Author.Tests.{leb-true}
 use lib.Dec.{leb}
 use lib.ListN.{length, set}
-use Rattle.graph.specs.Graph.{Graph, states}
-use Rattle.graph.specs.Figure.{Figure, number, NONE, STRANDED, ENDLESS}
+use Rattle.graph.specs.Graph.{Graph}
+use Rattle.graph.specs.Figure.{Figure}
 use Rattle.graph.specs.Route.{Cost}
 use Rattle.rules.specs.declared.Quote.{Quote}
 use Rattle.rules.specs.declared.Quotation.{Quotation}
@@ -19,12 +19,12 @@ use Rattle.rules.specs.declared.Quotation.the-variants.{Quoted, Refused}
 use Rattle.rules.specs.Quotations.{Says, Shows, Quotes, quoteRule, saidQuotation, meant}
 use Rattle.rules.specs.Refusal.{Result, accepted, refused, code}
 use Rattle.rules.specs.Refusal.{number as numberOf}
-use Rattle.rules.proofs.ReadWrite.{limited}
 use Rattle.rules.proofs.Results.{never, and-true}
 use Rattle.arrays.specs.Tables.{over}
 use Rattle.plan.specs.declared.Plan.{Plan}
 use Rattle.plan.specs.View.{view}
 use Rattle.quotation.proofs.Asked.{accepted-within}
+use Rattle.quotation.proofs.Small.{small-quote}
 use Rattle.binding.specs.Lent.{Slices, hasRoom, planIn}
 use Rattle.binding.specs.Quoted.{Small, Answered, Stands, canAnswer, LentQuote}
 use Rattle.binding.proofs.Stores.{true-false}
@@ -40,19 +40,11 @@ four-stored (v ∷ w ∷ x ∷ y ∷ l) a b c d h = refl
 
 -- ---- k and j fit
 
-pub small-j : (g : Graph) (c : Cost) (f : Figure) (k j : ℕ) (before after : List ℕ) → Shows g c f k j before after → j ≤ k
-small-j g c (number x) k j before after s = omega (arith, s .walk .4)
-small-j g c NONE k j before after s = omega (arith, s .walk .1)
-small-j g c STRANDED k j before after s = omega (arith, s .walk .3)
-small-j g c ENDLESS k j before after s = omega (arith, s .walk .2, s .number-of)
-
 pub small : (P : Says) (g : Graph) (c : Cost) (walk walk′ : List ℕ) (r : Quotation)
     → ((f : Figure) (k j : ℕ) (before after : List ℕ) → P f k j before after → Shows g c f k j before after) → Quotes P g walk walk′ r → Small r
 small P g c walk walk′ r shown x q e =
     let a : quoteRule g walk ≡ accepted tt = sym (x .answer) ∙ ap saidQuotation e in
-    let s = shown (meant (q .figure)) (q .k) (q .j) walk walk′ (x .quoted q e) in
-    let n : states g ≤ 512 = limited g (accepted-within g walk a) .most in
-    (omega (arith, s .places), omega (arith, s .places, small-j g c (meant (q .figure)) (q .k) (q .j) walk walk′ s))
+    small-quote g (accepted-within g walk a) c q walk walk′ (shown (meant (q .figure)) (q .k) (q .j) walk walk′ (x .quoted q e))
 
 -- ---- the promise on the slices
 

@@ -15,7 +15,7 @@ use Rattle.rules.specs.declared.Quotation.the-variants.{Quoted, Refused}
 use Rattle.rules.specs.declared.Quotations.{Quotations}
 use Rattle.rules.specs.declared.Quotations.the-variants.{Quoted as AllQuoted, Refused as NoneQuoted}
 use Rattle.rules.specs.Image.{readImage}
-use Rattle.rules.specs.Quotations.{Says, AllStated, quoteRule, meant}
+use Rattle.rules.specs.Quotations.{Says, AllStated, SmallQuote, FourSmall, quoteRule, meant}
 use Rattle.rules.specs.Refusal.{accepted, refused, number, code}
 use Rattle.arrays.specs.Tables.{over}
 use Rattle.plan.specs.View.{view}
@@ -29,10 +29,7 @@ numbers f k j = kind f ∷ value f ∷ k ∷ j ∷ []
 abbrev pub numbersOf : Quote → List ℕ
 numbersOf q = numbers (meant (q .figure)) (q .k) (q .j)
 
--- k and j of a quote, and of a quotation that is not refused, are small enough for the places of an answer
-abbrev pub SmallQuote : Quote → Type 0
-SmallQuote q = (q .k ≤ 512) × (q .j ≤ 512)
-
+-- k and j of a quotation that is not refused are small enough for the places of an answer
 abbrev pub Small : Quotation → Type 0
 Small r = (q : Quote) → r ≡ Quoted q → SmallQuote q
 
@@ -67,13 +64,7 @@ pub record LentQuote (P : Graph → Says) (s : Slices) (walk walk′ out out′ 
 abbrev pub fourNumbers : FourQuotes → List ℕ
 fourNumbers q = numbersOf (q .least .delay) ++ numbersOf (q .greatest .delay) ++ numbersOf (q .least .count) ++ numbersOf (q .greatest .count)
 
--- they are small enough for the places of an answer
-pub record FourSmall (q : FourQuotes) : Type 0 where
-  pub least-delay : SmallQuote (q .least .delay)
-  pub greatest-delay : SmallQuote (q .greatest .delay)
-  pub least-count : SmallQuote (q .least .count)
-  pub greatest-count : SmallQuote (q .greatest .count)
-
+-- the same of four
 abbrev pub AllSmall : Quotations → Type 0
 AllSmall r = (q : FourQuotes) → r ≡ AllQuoted q → FourSmall q
 

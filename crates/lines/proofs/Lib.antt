@@ -1,3 +1,2 @@
-pub mod Lent
 pub mod Puts
 pub mod Prints

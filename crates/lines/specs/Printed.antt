@@ -3,41 +3,34 @@
 use mathlib.Core.List.{List}
 use mathlib.Core.Path.{_≡_}
 use Prim.Native.Nat.{ℕ, _+_, _≤_, _<_}
-use lib.ListN.{length, take, replicate}
-use Rattle.graph.specs.Figure.{Figure}
+use lib.ListN.{length, take}
 use Rattle.graph.specs.Graph.{Graph}
 use Rattle.rules.specs.Image.{readImage}
-use Rattle.rules.specs.Quotations.{Says, LeastDelay, GreatestDelay, LeastCount, GreatestCount}
+use Rattle.rules.specs.declared.FourQuotes.{FourQuotes}
+use Rattle.rules.specs.declared.Quote.{Quote}
+use Rattle.rules.specs.Quotations.{AllStated, meant, part}
 use Rattle.rules.specs.Refusal.{accepted, refused}
-use Rattle.text.specs.Lines.{Quotation, line, lines, refusedLine}
+use Rattle.text.specs.Lines.{Quotation, lines, refusedLine}
 use Rattle.text.specs.Put.{Put}
 
--- a quotation that was lent 512 places, all 0: its figure, k and j, the lent places afterwards, and what is promised of them. "Which of several such
--- walks is shown is left free."
-pub record Quoting (P : Says) : Type 0 where
-  pub figure : Figure
-  pub k : ℕ
-  pub j : ℕ
-  pub places : List ℕ
-  pub says : P figure k j (replicate 512 0) places
+-- what is printed of a quote: the figure, the k transitions at the front of its places, and j
+abbrev pub shown : Quote → List ℕ → Quotation
+shown q places = record { figure = meant (q .figure); walk = take (q .k) places; j = q .j }
 
--- what is printed of it: the figure, the k transitions at the front of the places, and j
-abbrev pub shown : {P : Says} → Quoting P → Quotation
-shown q = record { figure = q .figure; walk = take (q .k) (q .places); j = q .j }
+-- the lines of four quotes, with their walks in the parts of the places
+abbrev pub linesOf : FourQuotes → List ℕ → List ℕ
+linesOf q places =
+    lines (shown (q .least .delay) (part 0 places)) (shown (q .greatest .delay) (part 1 places)) (shown (q .least .count) (part 2 places))
+    (shown (q .greatest .count) (part 3 places))
 
--- the line of one quotation, put into a buffer from the place `at` on; it takes at most 3,097 octets beside its name
-pub record OneLine (P : Says) (name before : List ℕ) (at : ℕ) (after : List ℕ) (r : ℕ) : Type 0 where
-  pub quoting : Quoting P
-  pub put : Put before at (line name (quoting .figure) (take (quoting .k) (quoting .places)) (quoting .j)) after r
-  pub fits : length (line name (quoting .figure) (take (quoting .k) (quoting .places)) (quoting .j)) ≤ length name + 3097
-
--- the four quotations of the plan g, and their four lines, put into a buffer from the front on; later octets stay
+-- quotes of the four figures of the plan g, lent some places for their walks, and their four lines, put into a buffer from the front on; later octets
+-- stay. "Which of several such walks is shown is left free."
 pub record FourLines (g : Graph) (before after : List ℕ) (r : ℕ) : Type 0 where
-  pub least-delay : Quoting (LeastDelay g)
-  pub greatest-delay : Quoting (GreatestDelay g)
-  pub least-count : Quoting (LeastCount g)
-  pub greatest-count : Quoting (GreatestCount g)
-  pub put : Put before 0 (lines (shown least-delay) (shown greatest-delay) (shown least-count) (shown greatest-count)) after r
+  pub quotes : FourQuotes
+  pub lent : List ℕ
+  pub places : List ℕ
+  pub stated : AllStated g quotes lent places
+  pub put : Put before 0 (linesOf quotes places) after r
 
 -- the octets that four lines can need
 abbrev pub room : ℕ

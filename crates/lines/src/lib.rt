@@ -5,14 +5,14 @@ ghost use Prim.Native.Nat.{_+_, _^_, _≤_, _<_};
 ghost use lib.ListN.{length, take};
 ghost use Rattle.plan.specs.View.{view};
 ghost use Rattle.rules.specs.Limits.{within};
-ghost use Rattle.rules.specs.Quotations.{meant, LeastDelay, GreatestDelay, LeastCount, GreatestCount};
+ghost use Rattle.rules.specs.Quotations.{meant, FourSmall};
 ghost use Rattle.text.specs.Lines.{line as lineOf};
 ghost use Rattle.text.specs.Put.{Put};
-ghost use Rattle.text.specs.Text.{octets as word};
-ghost use Rattle.lines.specs.Printed.{OneLine, FourLines, Printed};
+ghost use Rattle.lines.specs.Printed.{linesOf, FourLines, Printed};
 use plan::Plan;
 use rules::Answer;
-use rules::Quotation;
+use rules::FourQuotes;
+use rules::Quotations;
 use rules::Quote;
 use text::lines;
 
@@ -40,67 +40,34 @@ fn line(buffer: &mut [u8], at: usize, name: &[u8], quote: Quote, walk: &[u16]) -
     )
 }
 
-// Puts the line of the least delay.
-fn least_delay(plan: Plan, buffer: &mut [u8], at: usize) -> usize
-    requires { ⌜ (within (view plan) ≡ true) × (at + 3111 ≤ length (now buffer)) ⌝ }
-    ensures { λ r. ⌜ OneLine (LeastDelay (view plan)) (word "least delay") (now (buffer .entry)) at (now (buffer .exit)) r ⌝ }
+// Puts the four lines of quotes whose walks stand in four parts of 512 places.
+fn four(quotes: FourQuotes, walks: &[u16], buffer: &mut [u8]) -> usize
+    requires { ⌜ FourSmall quotes × (2048 ≤ length (now walks)) × (12438 ≤ length (now buffer)) ⌝ }
+    ensures { λ r. ⌜ Put (now (buffer .entry)) 0 (linesOf quotes (now (walks .entry))) (now (buffer .exit)) r ⌝ }
 {
-    let mut walk = [0u16; 512];
-    let quotation = quotation::least_delay(plan, &mut walk);
-    match quotation {
-        Quotation::Quoted(quote) => line(buffer, at, b"least delay", quote, &walk),
-        Quotation::Refused(_) => at,
-    }
+    let least = quotes.least;
+    let greatest = quotes.greatest;
+    let first = least.delay;
+    let second = greatest.delay;
+    let third = least.count;
+    let fourth = greatest.count;
+    let one = line(buffer, 0, b"least delay", first, &walks[0..512]);
+    let two = line(buffer, one, b"greatest delay", second, &walks[512..1024]);
+    let three = line(buffer, two, b"least count", third, &walks[1024..1536]);
+    line(buffer, three, b"greatest count", fourth, &walks[1536..2048])
 }
 
-// Puts the line of the greatest delay.
-fn greatest_delay(plan: Plan, buffer: &mut [u8], at: usize) -> usize
-    requires { ⌜ (within (view plan) ≡ true) × (at + 3111 ≤ length (now buffer)) ⌝ }
-    ensures { λ r. ⌜ OneLine (GreatestDelay (view plan)) (word "greatest delay") (now (buffer .entry)) at (now (buffer .exit)) r ⌝ }
-{
-    let mut walk = [0u16; 512];
-    let quotation = quotation::greatest_delay(plan, &mut walk);
-    match quotation {
-        Quotation::Quoted(quote) => line(buffer, at, b"greatest delay", quote, &walk),
-        Quotation::Refused(_) => at,
-    }
-}
-
-// Puts the line of the least count.
-fn least_count(plan: Plan, buffer: &mut [u8], at: usize) -> usize
-    requires { ⌜ (within (view plan) ≡ true) × (at + 3111 ≤ length (now buffer)) ⌝ }
-    ensures { λ r. ⌜ OneLine (LeastCount (view plan)) (word "least count") (now (buffer .entry)) at (now (buffer .exit)) r ⌝ }
-{
-    let mut walk = [0u16; 512];
-    let quotation = quotation::least_count(plan, &mut walk);
-    match quotation {
-        Quotation::Quoted(quote) => line(buffer, at, b"least count", quote, &walk),
-        Quotation::Refused(_) => at,
-    }
-}
-
-// Puts the line of the greatest count.
-fn greatest_count(plan: Plan, buffer: &mut [u8], at: usize) -> usize
-    requires { ⌜ (within (view plan) ≡ true) × (at + 3111 ≤ length (now buffer)) ⌝ }
-    ensures { λ r. ⌜ OneLine (GreatestCount (view plan)) (word "greatest count") (now (buffer .entry)) at (now (buffer .exit)) r ⌝ }
-{
-    let mut walk = [0u16; 512];
-    let quotation = quotation::greatest_count(plan, &mut walk);
-    match quotation {
-        Quotation::Quoted(quote) => line(buffer, at, b"greatest count", quote, &walk),
-        Quotation::Refused(_) => at,
-    }
-}
-
-// Puts the four lines of a plan.
-fn four(plan: Plan, buffer: &mut [u8]) -> usize
+// Quotes a plan, and puts the four lines.
+fn quoted(plan: Plan, buffer: &mut [u8]) -> usize
     requires { ⌜ (within (view plan) ≡ true) × (12438 ≤ length (now buffer)) ⌝ }
     ensures { λ r. ⌜ FourLines (view plan) (now (buffer .entry)) (now (buffer .exit)) r ⌝ }
 {
-    let first = least_delay(plan, buffer, 0);
-    let second = greatest_delay(plan, buffer, first);
-    let third = least_count(plan, buffer, second);
-    greatest_count(plan, buffer, third)
+    let mut walks = [0u16; 2048];
+    let quotations = quotation::all(plan, &mut walks);
+    match quotations {
+        Quotations::Quoted(quotes) => four(quotes, &walks, buffer),
+        Quotations::Refused(_) => 0,
+    }
 }
 
 // Puts what is printed for an image at the front of the buffer, and returns its length. A buffer below 12,438 octets, which four lines could need, gets nothing.
@@ -114,7 +81,7 @@ pub fn answer(octets: &[u8], buffer: &mut [u8]) -> usize
     let answer = edited.answer;
     let plan = edited.plan;
     match answer {
-        Answer::Accepted => four(plan, buffer),
+        Answer::Accepted => quoted(plan, buffer),
         Answer::Refused(r) => lines::refused(buffer, 0, rules::number(r)),
     }
 }

@@ -2,3 +2,4 @@
 pub mod Asked
 pub mod Recorded
 pub mod Together
+pub mod Small

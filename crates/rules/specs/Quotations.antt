@@ -160,6 +160,16 @@ quotesFields q =
     figureFields (meant (q .least .delay .figure)) ++ figureFields (meant (q .greatest .delay .figure))
     ++ figureFields (meant (q .least .count .figure)) ++ figureFields (meant (q .greatest .count .figure))
 
+-- k and j of a quote, and of four, are at most 512
+abbrev pub SmallQuote : Quote → Type 0
+SmallQuote q = (q .k ≤ 512) × (q .j ≤ 512)
+
+pub record FourSmall (q : FourQuotes) : Type 0 where
+  pub least-delay : SmallQuote (q .least .delay)
+  pub greatest-delay : SmallQuote (q .greatest .delay)
+  pub least-count : SmallQuote (q .least .count)
+  pub greatest-count : SmallQuote (q .greatest .count)
+
 -- P holds of a quote, and of the lent places before and after
 abbrev pub Stated : Says → Quote → List ℕ → List ℕ → Type 0
 Stated P q before after = P (meant (q .figure)) (q .k) (q .j) before after

@@ -15,8 +15,8 @@ held-requires c κs = search needs
 enum-told : tie.Need-enum-told
 enum-told c = search needs
 
-four-requires : tie.Need-four-requires
-four-requires c κs = (held-within (c .before .before .before .before .before .before .before .before .args .octets .now) (c .before .before .before .before .held .result) (c .before .before .before .before .held .ensures) (c .before .enum-told .given .1), c .before .before .before .before .before .if1 .left)
+quoted-requires : tie.Need-quoted-requires
+quoted-requires c κs = (held-within (c .before .before .before .before .before .before .before .before .args .octets .now) (c .before .before .before .before .held .result) (c .before .before .before .before .held .ensures) (c .before .enum-told .given .1), c .before .before .before .before .before .if1 .left)
 
 enum-known-answer : tie.Need-enum-known-answer
 enum-known-answer c = search needs
@@ -31,7 +31,7 @@ same-length : tie.Need-same-length
 same-length c = search needs
 
 returns-2 : tie.Need-returns-2
-returns-2 c = prints-figures (c .before .before .before .before .before .before .before .before .before .before .before .args .octets .now) (c .before .before .before .before .before .before .before .held .result) (c .before .before .before .before .before .before .before .held .ensures) (c .before .before .before .before .before .before .before .before .if1 .left) (c .before .before .before .before .enum-told .given .1) (c .before .before .four .ensures)
+returns-2 c = prints-figures (c .before .before .before .before .before .before .before .before .before .before .before .args .octets .now) (c .before .before .before .before .before .before .before .held .result) (c .before .before .before .before .before .before .before .held .ensures) (c .before .before .before .before .before .before .before .before .if1 .left) (c .before .before .before .before .enum-told .given .1) (c .before .before .quoted .ensures)
 
 same-length-2 : tie.Need-same-length-2
 same-length-2 c = search needs
@@ -46,7 +46,7 @@ answer-spec =
     returns
     held-requires
     enum-told
-    four-requires
+    quoted-requires
     enum-known-answer
     number-requires
     refused-requires
