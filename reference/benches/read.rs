@@ -1,6 +1,7 @@
-//! Times reading and writing a full image, through the proved library and by the reference.
+//! Times reading and writing a full image: through the proved library, by a baseline that is
+//! written for speed, and by the reference.
 //!
-//! It prints both times and their ratio, and asserts nothing about them.
+//! It prints the times and their ratios to the baseline's, and asserts nothing about them.
 
 use std::hint::black_box;
 use std::time::Instant;
@@ -17,37 +18,47 @@ fn main() {
     let octets = octets.as_slice();
     let mut lent = LentPlan::zeroed();
     assert_eq!(lent.fresh(MAX_STATES), ACCEPTED);
+    let mut quick = Baseline::fresh(MAX_STATES);
     let mut plan = Plan::fresh(MAX_STATES).unwrap();
 
     println!(
         "A full image: {MAX_STATES} states, {MAX_TRANSITIONS} transitions, {} octets.",
         octets.len()
     );
-    println!("Medians of {ROUNDS} rounds of {CALLS} calls each, the two taking turns.");
     println!(
-        "Before the first round the library's plan slices and both write buffers were zeroed,"
+        "Medians of {ROUNDS} rounds of {CALLS} calls each, the three taking turns. The baseline"
     );
-    println!("and both plans were made by one fresh. Nothing was cleared between calls: each read");
-    println!("but the first is handed the full plan of the one before, on both sides.");
+    println!("loads five octets a transition and shifts, and tests all that the rules ask.");
+    println!("Before the first round the library's plan slices and the write buffers were zeroed,");
+    println!("and the plans were made by one fresh. Nothing was cleared between calls: each read");
+    println!("but the first is handed the full plan of the one before, on all sides.");
 
     compare(
         "read",
         || assert_eq!(lent.read(black_box(octets)), ACCEPTED),
+        || assert_eq!(quick.read(black_box(octets)), ACCEPTED),
         || assert_eq!(plan.read(black_box(octets)), Ok(())),
     );
-    assert!(lent.plan() == plan, "the two hold the same plan");
+    assert!(
+        lent.plan() == plan,
+        "the library and the reference hold the same plan"
+    );
+    assert!(
+        quick.plan() == plan,
+        "the baseline and the reference hold the same plan"
+    );
 
+    let written = ACCEPTED + octets.len() as u32;
     let mut lent_buffer = vec![0; octets.len()];
+    let mut quick_buffer = vec![0; octets.len()];
     let mut buffer = vec![0; octets.len()];
     compare(
         "write",
-        || {
-            let answer = lent.write(black_box(&mut lent_buffer));
-            assert_eq!(answer, ACCEPTED + octets.len() as u32);
-        },
+        || assert_eq!(lent.write(black_box(&mut lent_buffer)), written),
+        || assert_eq!(quick.write(black_box(&mut quick_buffer)), written),
         || assert_eq!(plan.write(black_box(&mut buffer)), Ok(octets.len())),
     );
-    assert!(lent_buffer == octets && buffer == octets);
+    assert!(lent_buffer == octets && quick_buffer == octets && buffer == octets);
 }
 
 /// The image of a plan of the largest size, with values of all sizes in its fields.
@@ -68,19 +79,24 @@ fn full_image() -> Vec<u8> {
     octets
 }
 
-/// Times the two calls by turns and prints the median time of each and the ratio.
-fn compare(name: &str, mut proved: impl FnMut(), mut reference: impl FnMut()) {
-    let mut proved_times = Vec::new();
-    let mut reference_times = Vec::new();
+/// Times the three calls by turns and prints the median time of each and its ratio to the baseline's.
+fn compare(
+    name: &str,
+    mut proved: impl FnMut(),
+    mut baseline: impl FnMut(),
+    mut reference: impl FnMut(),
+) {
+    let mut times = [Vec::new(), Vec::new(), Vec::new()];
     for _ in 0..ROUNDS {
-        proved_times.push(microseconds(&mut proved));
-        reference_times.push(microseconds(&mut reference));
+        times[0].push(microseconds(&mut proved));
+        times[1].push(microseconds(&mut baseline));
+        times[2].push(microseconds(&mut reference));
     }
-    let proved = median(proved_times);
-    let reference = median(reference_times);
+    let [proved, baseline, reference] = times.map(median);
     println!(
-        "{name:5}: proved library {proved:.2} us, reference {reference:.2} us, ratio {:.2}",
-        proved / reference
+        "{name:5}: baseline {baseline:.2} us; proved library {proved:.2} us, ratio {:.2}; reference {reference:.2} us, ratio {:.2}",
+        proved / baseline,
+        reference / baseline
     );
 }
 
@@ -96,4 +112,141 @@ fn microseconds(call: &mut impl FnMut()) -> f64 {
 fn median(mut times: Vec<f64>) -> f64 {
     times.sort_by(f64::total_cmp);
     times[times.len() / 2]
+}
+
+/// A plan as the proved library has it, read and written for speed by plain Rust. Its answers are the
+/// library's numbers.
+#[derive(Clone)]
+struct Baseline {
+    states: usize,
+    transitions: usize,
+    marks: [u8; MAX_STATES],
+    from: [u16; MAX_TRANSITIONS],
+    to: [u16; MAX_TRANSITIONS],
+    low: [u16; MAX_TRANSITIONS],
+    high: [u16; MAX_TRANSITIONS],
+}
+
+impl Baseline {
+    fn fresh(states: usize) -> Baseline {
+        Baseline {
+            states,
+            transitions: 0,
+            marks: [0; MAX_STATES],
+            from: [0; MAX_TRANSITIONS],
+            to: [0; MAX_TRANSITIONS],
+            low: [0; MAX_TRANSITIONS],
+            high: [0; MAX_TRANSITIONS],
+        }
+    }
+
+    /// Whether the plan is within the limits of a plan. Every place is tested, with no way out before
+    /// the last, so that the compiler can test many at once.
+    fn sound(&self) -> bool {
+        let (n, m) = (self.states, self.transitions);
+        if !(1..=MAX_STATES).contains(&n) || m > MAX_TRANSITIONS {
+            return false;
+        }
+        let end = n as u16;
+        let (from, to) = (&self.from[..m], &self.to[..m]);
+        let (low, high) = (&self.low[..m], &self.high[..m]);
+        let mut sound = self.marks[..n]
+            .iter()
+            .fold(true, |ok, &marks| ok & (marks <= 7));
+        for i in 0..m {
+            sound &= (from[i] < end) & (to[i] < end) & (low[i] <= high[i]) & (high[i] <= 2047);
+        }
+        sound
+    }
+
+    fn read(&mut self, octets: &[u8]) -> u32 {
+        if !self.sound() {
+            return 0;
+        }
+        let Some(&[a, b, c, d]) = octets.first_chunk() else {
+            return 1;
+        };
+        let header = u32::from_be_bytes([a, b, c, d]);
+        let n = (header >> 18 & 1023) as usize;
+        let m = (header >> 6 & 4095) as usize;
+        if header >> 28 != 1 {
+            return 3;
+        }
+        if !(1..=MAX_STATES).contains(&n) {
+            return 4;
+        }
+        if m > MAX_TRANSITIONS {
+            return 5;
+        }
+        if header & 63 != 0 {
+            return 6;
+        }
+        if octets.len() < length(n, m) {
+            return 1;
+        }
+        if octets.len() > length(n, m) {
+            return 2;
+        }
+        let mut next = self.clone();
+        (next.states, next.transitions) = (n, m);
+        let (states, transitions) = octets[4..].split_at(n);
+        for (marks, state) in next.marks.iter_mut().zip(states) {
+            if state & 31 != 0 {
+                return 6;
+            }
+            *marks = state >> 5;
+        }
+        for (i, t) in transitions.chunks_exact(5).enumerate() {
+            let bits = u64::from_be_bytes([0, 0, 0, t[0], t[1], t[2], t[3], t[4]]);
+            let (from, to) = ((bits >> 31) as u16, (bits >> 22 & 511) as u16);
+            let (low, high) = ((bits >> 11 & 2047) as u16, (bits & 2047) as u16);
+            if usize::from(from) >= n || usize::from(to) >= n {
+                return 7;
+            }
+            if low > high {
+                return 8;
+            }
+            (next.from[i], next.to[i], next.low[i], next.high[i]) = (from, to, low, high);
+        }
+        *self = next;
+        ACCEPTED
+    }
+
+    fn write(&self, buffer: &mut [u8]) -> u32 {
+        if !self.sound() {
+            return 0;
+        }
+        let (n, m) = (self.states, self.transitions);
+        let Some(image) = buffer.get_mut(..length(n, m)) else {
+            return 11;
+        };
+        let header = 1 << 28 | (n as u32) << 18 | (m as u32) << 6;
+        let (front, rest) = image.split_at_mut(4);
+        let (states, transitions) = rest.split_at_mut(n);
+        front.copy_from_slice(&header.to_be_bytes());
+        for (state, marks) in states.iter_mut().zip(&self.marks) {
+            *state = marks << 5;
+        }
+        for (i, t) in transitions.chunks_exact_mut(5).enumerate() {
+            let ends = u64::from(self.from[i]) << 31 | u64::from(self.to[i]) << 22;
+            let bits = ends | u64::from(self.low[i]) << 11 | u64::from(self.high[i]);
+            t.copy_from_slice(&bits.to_be_bytes()[3..]);
+        }
+        ACCEPTED + length(n, m) as u32
+    }
+
+    /// The same plan as the reference has it.
+    fn plan(&self) -> Plan {
+        Plan {
+            marks: self.marks[..self.states].to_vec(),
+            transitions: (0..self.transitions)
+                .map(|i| Transition {
+                    from: self.from[i].into(),
+                    to: self.to[i].into(),
+                    low: self.low[i].into(),
+                    high: self.high[i].into(),
+                })
+                .collect(),
+        }
+    }
 }

@@ -10,7 +10,7 @@ use native.Mathlib.Omega.{arith}
 use lib.ListN.{length, getD, take, drop, length-append, length-take, length-drop, take-append-drop}
 use lib.Pow.{pow-mono}
 use lib.Seq.{length-take-le, take-at, drop-at, take-append-le, drop-append-le, take-take, drop-drop, take-add}
-use Rattle.field.specs.Field.{number, bitsOf, bits, octetsOf, fieldAt, withField, Octets, Within}
+use Rattle.field.specs.Field.{number, bitsOf, bits, octetsOf, fieldAt, withField, Octets}
 use Rattle.field.proofs.Number.{length-bitsOf, number-lt, number-bitsOf-lt}
 use Rattle.field.proofs.Bits.{length-bits, bits-take, bits-drop, length-octetsOf, octetsOf-octets, bits-octetsOf, same-bits, within-front, take-octets, drop-octets}
 
@@ -106,7 +106,3 @@ module _ (os : List ℕ) (at w v : ℕ) (h : at + w ≤ 8 * length os) where
       part l =
           let d : at + w + (8 * k - (at + w)) ≡ 8 * k = omega arith in
           sym (drop-drop (8 * k - (at + w)) (at + w) l ∙ ap (λ (n : ℕ). drop n l) d)
-
--- a part of a field that lies within the octets does too
-pub within-part : (os : List ℕ) (at w a v : ℕ) → Within os at w → 0 < v → a + v ≤ w → Within os (at + a) v
-within-part os at w a v h hv ha = record { some = hv; most = omega arith; inside = omega arith; near = omega arith }

@@ -11,11 +11,13 @@ use native.Mathlib.Omega.{arith}
 use lib.Bits.{bitAnd, and-mask}
 use lib.ListN.{length, getD, set, take, drop, length-append, length-drop, take-append-drop}
 use lib.Pow.{pow-pos, pow-mono, pow-lt, field, mod-mod-pow, shr-shr}
-use lib.Seq.{slice, length-slice, length-take-le, take-suc, drop-append-le, slice-empty, take-all, take-add, take-take, drop-drop, paste, paste-suc, length-paste}
-use Rattle.field.specs.Field.{number, bitsOf, bits, octetsOf, fieldAt, withField, stored, Octets}
+use lib.Seq.{slice, length-slice, length-take-le, take-suc, drop-append-le, slice-empty, take-all, take-add, take-take, drop-drop, paste, paste-zero, paste-suc, length-paste}
+use Rattle.field.specs.Field.{Field, number, bitsOf, bits, octetsOf, fieldAt, fieldsOf, withField, stored, Octets, AllFit, bitsOfAll, widthOfAll, putAll}
+use Rattle.field.specs.declared.Four.{Four}
 use Rattle.field.proofs.Number.{length-bitsOf, number-lt, number-append, number-take, number-drop, number-bitsOf, number-bitsOf-lt, bitsOf-number-at, number-mid}
 use Rattle.field.proofs.Bits.{length-bits, bits-append, bits-take, bits-drop, drop-take, within-front, octet-field, length-octetsOf, octetsOf-octets, bits-octetsOf, take-octets, drop-octets, append-octets, same-bits}
 use Rattle.field.proofs.Laws.{withField-octets, bits-withField}
+use Rattle.field.proofs.Pack.{length-bitsOfAll, putAll-octets, bits-putAll}
 
 pub window-none : (os : List ℕ) (first : ℕ) → 0 ≡ number (bits (slice first first os))
 unfolding number bits
@@ -136,6 +138,33 @@ stored-more os first end v i h hi he =
     ap₂ (λ (k x : ℕ). set (paste os first D j) k x) place octet
     ∙ paste-suc os first D j 0 room (rw (length-octetsOf (end - first) (bitsOf (8 * (end - first)) v)) hj)
     ∙ ap (λ (k : ℕ). paste os first D k) n
+
+-- the same of the j-th octet of five, on a list that is known to have the ones before it; and so five octets, one after another
+five-more : (os : List ℕ) (first v j x : ℕ) (l : List ℕ) → first + 5 ≤ length os → j < 5 → l ≡ paste os first (digits first (first + 5) v) j → x ≡ v / 2 ^ (8 * (4 - j)) % 256
+    → set l (first + j) x ≡ paste os first (digits first (first + 5) v) (j + 1)
+five-more os first v j x l h hj hl hx =
+    let D : List ℕ = digits first (first + 5) v in
+    let here : j ≡ first + j - first = omega arith in
+    let next : first + j + 1 - first ≡ j + 1 = omega arith in
+    let place : 8 * (4 - j) ≡ 8 * (first + 5 - 1 - (first + j)) = omega arith in
+    ap₂ (λ (y : List ℕ) (z : ℕ). set y (first + j) z) (hl ∙ ap (λ (k : ℕ). paste os first D k) here) (hx ∙ ap (λ (k : ℕ). v / 2 ^ k % 256) place)
+    ∙ stored-more os first (first + 5) v (first + j) (omega arith) (omega arith) h
+    ∙ ap (λ (k : ℕ). paste os first D k) next
+
+pub stored-five : (os : List ℕ) (first v : ℕ) → first + 5 ≤ length os
+    → set (set (set (set (set os first (v / 2 ^ 32 % 256)) (first + 1) (v / 2 ^ 24 % 256)) (first + 2) (v / 2 ^ 16 % 256)) (first + 3) (v / 2 ^ 8 % 256)) (first + 4) (v % 256)
+    ≡ stored os first (first + 5) v
+unfolding stored
+stored-five os first v h =
+    let D : List ℕ = digits first (first + 5) v in
+    let front : first ≡ first + 0 = omega arith in
+    let all : 5 ≡ first + 5 - first = omega arith in
+    let last : v % 256 ≡ v / 2 ^ (8 * (4 - 4)) % 256 = omega arith in
+    let one = ap (λ (k : ℕ). set os k (v / 2 ^ 32 % 256)) front ∙ five-more os first v 0 (v / 2 ^ 32 % 256) os h (omega arith) (paste-zero os first D) refl in
+    let two = five-more os first v 1 (v / 2 ^ 24 % 256) _ h (omega arith) one refl in
+    let three = five-more os first v 2 (v / 2 ^ 16 % 256) _ h (omega arith) two refl in
+    let four = five-more os first v 3 (v / 2 ^ 8 % 256) _ h (omega arith) three refl in
+    five-more os first v 4 (v % 256) _ h (omega arith) four last ∙ ap (λ (k : ℕ). paste os first D k) all
 
 pub length-stored : (os : List ℕ) (first end v : ℕ) → first ≤ end → end ≤ length os → length (stored os first end v) ≡ length os
 unfolding stored
@@ -261,3 +290,73 @@ module _ (os : List ℕ) (at w v first end : ℕ) (hf : 8 * first ≤ at) (he : 
       ∙ ap {B = List Bool} (λ (l : List Bool). take (8 * first) (bits os) ++ l ++ drop (8 * end) (bits os)) m
       ∙ regroup (take (8 * first) (bits os)) (take s W) (bitsOf w v) (drop (s + w) W) (drop (8 * end) (bits os))
       ∙ ap₂ {C = List Bool} (λ (x y : List Bool). x ++ bitsOf w v ++ y) bits-before bits-after ∙ sym (bits-withField os at w v (omega arith)))
+
+-- ---- fields that fill octets
+
+-- a number with w more bits after it
+number-beside : (bs : List Bool) (w v : ℕ) → v < 2 ^ w → number (bs ++ bitsOf w v) ≡ number bs * 2 ^ w + v
+number-beside bs w v h = number-append bs (bitsOf w v) ∙ ap₂ (λ (k n : ℕ). number bs * 2 ^ k + n) (length-bitsOf w v) (number-bitsOf-lt w v h)
+
+beside-lt : (n v k w : ℕ) → n < 2 ^ k → v < 2 ^ w → n * 2 ^ w + v < 2 ^ (k + w)
+beside-lt n v k w hn hv =
+    let bs : List Bool = bitsOf k n ++ bitsOf w v in
+    let l : length bs ≡ k + w = length-append (bitsOf k n) (bitsOf w v) ∙ ap₂ _+_ (length-bitsOf k n) (length-bitsOf w v) in
+    let e : number bs ≡ n * 2 ^ w + v = number-beside (bitsOf k n) w v hv ∙ ap (λ (x : ℕ). x * 2 ^ w + v) (number-bitsOf-lt k n hn) in
+    rw (← e, ← l) (number-lt bs)
+
+-- the number of four fields, one after another, each partial one below a power of two
+module _ (a b c d : ℕ) (f : Four) (h : AllFit (fieldsOf a b c d f)) where
+  abbrev pub two : ℕ
+  two = f .first * 2 ^ b + f .second
+
+  abbrev pub three : ℕ
+  three = two * 2 ^ c + f .third
+
+  abbrev pub four : ℕ
+  four = three * 2 ^ d + f .fourth
+
+  pub two-lt : two < 2 ^ (a + b)
+  unfolding AllFit
+  two-lt = beside-lt (f .first) (f .second) a b (h .0) (h .1 .0)
+
+  pub three-lt : three < 2 ^ (a + b + c)
+  unfolding AllFit
+  three-lt = beside-lt two (f .third) (a + b) c two-lt (h .1 .1 .0)
+
+  pub four-lt : four < 2 ^ (a + b + c + d)
+  unfolding AllFit
+  four-lt = beside-lt three (f .fourth) (a + b + c) d three-lt (h .1 .1 .1 .0)
+
+  number-four : number (bitsOfAll (fieldsOf a b c d f)) ≡ four
+  unfolding AllFit bitsOfAll
+  number-four =
+      let A = bitsOf a (f .first) in
+      let B = bitsOf b (f .second) in
+      let C = bitsOf c (f .third) in
+      let D = bitsOf d (f .fourth) in
+      let flat : A ++ (B ++ (C ++ (D ++ []))) ≡ A ++ B ++ C ++ D = simp (append-assoc, append-nil) in
+      let one : number A ≡ f .first = number-bitsOf-lt a (f .first) (h .0) in
+      let n2 : number (A ++ B) ≡ two = number-beside A b (f .second) (h .1 .0) ∙ ap (λ (x : ℕ). x * 2 ^ b + f .second) one in
+      let n3 : number (A ++ B ++ C) ≡ three = number-beside (A ++ B) c (f .third) (h .1 .1 .0) ∙ ap (λ (x : ℕ). x * 2 ^ c + f .third) n2 in
+      ap number flat ∙ number-beside (A ++ B ++ C) d (f .fourth) (h .1 .1 .1 .0) ∙ ap (λ (x : ℕ). x * 2 ^ d + f .fourth) n3
+
+  width-four : widthOfAll (fieldsOf a b c d f) ≡ a + b + c + d
+  unfolding widthOfAll
+  width-four = omega arith
+
+  -- stored as a number, they are put one after another
+  pub stored-four : (os : List ℕ) (at : ℕ) → Octets os → at % 8 ≡ 0 → (a + b + c + d) % 8 ≡ 0 → at + (a + b + c + d) ≤ 8 * length os
+      → stored os (at / 8) ((at + a + b + c + d) / 8) four ≡ putAll os at (fieldsOf a b c d f)
+  stored-four os at ho ha hw hl =
+      let fs : List Field = fieldsOf a b c d f in
+      let first : ℕ = at / 8 in
+      let end : ℕ = (at + a + b + c + d) / 8 in
+      let k : ℕ = 8 * (end - first) in
+      let w : widthOfAll fs ≡ k = width-four ∙ omega arith in
+      let m : bitsOf k four ≡ bitsOfAll fs = ap (λ (x : ℕ). bitsOf k x) (sym number-four) ∙ bitsOf-number-at k (bitsOfAll fs) (length-bitsOfAll fs ∙ w) in
+      let p : 8 * first ≡ at = omega arith in
+      let q : 8 * end ≡ at + widthOfAll fs = omega (arith, width-four) in
+      same-bits (stored os first end four) (putAll os at fs) (stored-octets os first end four ho) (putAll-octets fs os at ho)
+      (bits-stored os first end four (omega arith) (omega arith)
+      ∙ ap₂ {C = List Bool} (λ (x y : List Bool). x ++ y) (ap₂ {C = List Bool} (λ (x y : List Bool). x ++ y) (ap (λ (n : ℕ). take n (bits os)) p) m) (ap (λ (n : ℕ). drop n (bits os)) q)
+      ∙ sym (bits-putAll fs os at (omega (arith, width-four))))

@@ -72,6 +72,11 @@ pub record Field : Type 0 where
   pub width : ℕ
   pub value : ℕ
 
+-- four fields by their widths and values
+abbrev pub fieldsOf : ℕ → ℕ → ℕ → ℕ → Four → List Field
+fieldsOf a b c d f =
+    record { width = a; value = f .first } ∷ record { width = b; value = f .second } ∷ record { width = c; value = f .third } ∷ record { width = d; value = f .fourth } ∷ []
+
 -- a field's value is one of its width's
 abbrev pub Fit : Field → Type 0
 Fit f = f .value < 2 ^ f .width

@@ -1,25 +1,16 @@
--- Fields put one after another: four of them, as the header, a state and a transition have, and those of one item more. Assumes nothing.
+-- Fields put one after another: those of one item more. Assumes nothing.
 use mathlib.Core.List.{List, [], _∷_, _++_, append-nil}
 use mathlib.Core.Path.{_≡_, refl, sym, ap, ap₂, _∙_}
 use Prim.Native.Nat.{ℕ, suc, _+_, _*_, _≤_, _<_}
 use native.Mathlib.Numerals.{add-one}
 use native.Mathlib.Omega.{arith}
 use lib.ListN.{length}
-use Rattle.field.specs.Field.{Field, withField, putAll, widthOfAll}
+use Rattle.field.specs.Field.{Field, putAll, widthOfAll}
 use Rattle.field.proofs.Pack.{putAll-append}
-use Rattle.rules.specs.Image.{field, fieldsOfEach}
+use Rattle.rules.specs.Image.{fieldsOfEach}
 use Rattle.rules.proofs.Fields.{width-each}
 use Rattle.arrays.specs.Tables.{tabulate}
 use Rattle.arrays.proofs.Lists.{length-tabulate}
-
-pub putAll-four : (os : List ℕ) (at w₁ v₁ w₂ v₂ w₃ v₃ w₄ v₄ : ℕ)
-    → withField (withField (withField (withField os at w₁ v₁) (at + w₁) w₂ v₂) (at + (w₁ + w₂)) w₃ v₃) (at + (w₁ + w₂ + w₃)) w₄ v₄
-    ≡ putAll os at (field w₁ v₁ ∷ field w₂ v₂ ∷ field w₃ v₃ ∷ field w₄ v₄ ∷ [])
-unfolding putAll
-putAll-four os at w₁ v₁ w₂ v₂ w₃ v₃ w₄ v₄ =
-    let p : at + (w₁ + w₂) ≡ at + w₁ + w₂ = omega arith in
-    let q : at + (w₁ + w₂ + w₃) ≡ at + w₁ + w₂ + w₃ = omega arith in
-    ap₂ (λ (x y : ℕ). withField (withField (withField (withField os at w₁ v₁) (at + w₁) w₂ v₂) x w₃ v₃) y w₄ v₄) p q
 
 -- one item more, of w bits each, from a base position on
 module _ {A : Type 0} (fields : A → List Field) (w : ℕ) (wide : (a : A) → widthOfAll (fields a) ≡ w) where

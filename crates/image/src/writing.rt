@@ -1,34 +1,42 @@
 // A plan's states and transitions, written as the fields of an image.
 ghost use mathlib.Core.Path.{_≡_};
-ghost use Prim.Native.Nat.{_+_, _*_, _≤_, _<_, _^_};
+ghost use Prim.Native.Nat.{_+_, _*_, _%_, _≤_, _<_};
 ghost use lib.ListN.{length};
-ghost use Rattle.field.specs.Field.{Within, AllFit, putAll};
+ghost use Rattle.field.specs.Field.{Spans, AllFit, putAll};
 ghost use Rattle.graph.specs.Graph.{marked};
 ghost use Rattle.rules.specs.Image.{headerFields, stateFields, transitionFields, fieldsOfEach};
 ghost use Rattle.rules.specs.Limits.{all, transitionOk};
 ghost use mathlib.Core.Bool.{true};
 ghost use Rattle.arrays.specs.Tables.{statesOf, transitionOf, transitionsOf};
+use arrays::limits;
+use field::Four;
 
 // Puts the fields of the header at the front.
 pub fn header(buffer: &mut [u8], n: usize, m: usize)
     requires { ⌜ (n ≤ 512) × (m ≤ 2048) × (4 ≤ length (now buffer)) ⌝ }
     ensures { λ r. ⌜ now (buffer .exit) ≡ putAll (now (buffer .entry)) 0 (headerFields n m) ⌝ }
 {
-    field::put(buffer, 0, 4, 1);
-    field::put(buffer, 4, 10, n as u32);
-    field::put(buffer, 14, 12, m as u32);
-    field::put(buffer, 26, 6, 0);
+    let fields = Four {
+        first: 1,
+        second: n,
+        third: m,
+        fourth: 0,
+    };
+    field::put_four(buffer, 0, 4, 10, 12, 6, fields);
 }
 
 // Puts the fields of a state at a bit position.
 fn state(buffer: &mut [u8], at: usize, value: u8)
-    requires { ⌜ Within (now buffer) at 8 ⌝ }
+    requires { ⌜ Spans (now buffer) at 8 × (at % 8 ≡ 0) ⌝ }
     ensures { λ r. ⌜ now (buffer .exit) ≡ putAll (now (buffer .entry)) at (stateFields (marked value)) ⌝ }
 {
-    field::put(buffer, at, 1, (value / 4 % 2) as u32);
-    field::put(buffer, at + 1, 1, (value / 2 % 2) as u32);
-    field::put(buffer, at + 2, 1, (value % 2) as u32);
-    field::put(buffer, at + 3, 5, 0);
+    let fields = Four {
+        first: (value / 4 % 2) as usize,
+        second: (value / 2 % 2) as usize,
+        third: (value % 2) as usize,
+        fourth: 0,
+    };
+    field::put_four(buffer, at, 1, 1, 1, 5, fields);
 }
 
 // Puts the fields of the transition at place i of the arrays at a bit position.
@@ -41,15 +49,18 @@ fn transition(
     high: &[u16; 2048],
     i: usize,
 )
-    requires { ⌜ (at + 40 ≤ 8 * length (now buffer)) × (at + 40 < 2 ^ 32) × (i < 2048) ⌝ }
+    requires { ⌜ Spans (now buffer) at 40 × (at % 8 ≡ 0) × (i < 2048) ⌝ }
     requires { ⌜ AllFit (transitionFields (transitionOf (now from) (now to) (now low) (now high) i)) ⌝ }
     ensures { λ r. ⌜ now (buffer .exit) ≡ putAll (now (buffer .entry)) at
         (transitionFields (transitionOf (now (from .entry)) (now (to .entry)) (now (low .entry)) (now (high .entry)) i)) ⌝ }
 {
-    field::put(buffer, at, 9, from[i] as u32);
-    field::put(buffer, at + 9, 9, to[i] as u32);
-    field::put(buffer, at + 18, 11, low[i] as u32);
-    field::put(buffer, at + 29, 11, high[i] as u32);
+    let fields = Four {
+        first: limits::wide(from[i]),
+        second: limits::wide(to[i]),
+        third: limits::wide(low[i]),
+        fourth: limits::wide(high[i]),
+    };
+    field::put_four(buffer, at, 9, 9, 11, 11, fields);
 }
 
 // Puts the fields of the first n states, by number.

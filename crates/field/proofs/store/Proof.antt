@@ -1,4 +1,5 @@
--- `field::store` meets its contract. The loop's invariant: the octets up to i are those of the number, and the later ones are as they were.
+-- `field::store` meets its contract. Five octets are those of `store_five`. The loop's invariant: the octets up to i are those of the number, and the
+-- later ones are as they were.
 -- Assumes nothing.
 use Prim.Native.Nat.{ℕ, _+_, _-_, _≤_, _<_, _^_, _*_, _/_, _%_}
 use mathlib.Core.List.{List}
@@ -13,6 +14,7 @@ use Rattle.field.proofs.store.Statement.{statement}
 use Rattle.field.proofs.store.Tie as tie
 use Rattle.field.proofs.store.Reads as reads
 use Rattle.field.proofs.store.Lts as lts
+use Rattle.field.proofs.store_five.Reads as store-five-reads
 
 abbrev Inv-loop : tie.InvT-loop
 Inv-loop octets₀ first end value i₀ octets i = (first ≤ i) × (i ≤ end) × (length octets ≡ length octets₀) × (octets ≡ paste octets₀ first (digits first end value) (i - first))
@@ -20,9 +22,24 @@ Inv-loop octets₀ first end value i₀ octets i = (first ≤ i) × (i ≤ end) 
 abbrev μ-loop : tie.MeasureT-loop
 μ-loop octets₀ first end value i₀ octets i = end - i
 
+sub-if1 : tie.Need-sub-if1 Inv-loop μ-loop
+sub-if1 c = omega arith
+
+store-five-requires : tie.Need-store-five-requires Inv-loop μ-loop
+store-five-requires c κs = omega arith
+
+same-length : tie.Need-same-length Inv-loop μ-loop
+same-length c = search needs
+
+returns : tie.Need-returns Inv-loop μ-loop
+returns c =
+    let a = c .before .before .before .before .before .before .args in
+    let e : a .first + 5 ≡ a .end = omega arith in
+    c .before .before .store-five .ensures ∙ ap (λ (k : ℕ). stored (a .octets .now) (a .first) k (a .value)) e
+
 loop-holds : tie.Need-loop-holds Inv-loop μ-loop
 loop-holds c =
-    let a = c .args in
+    let a = c .before .before .args in
     let e : 0 ≡ a .first - a .first = omega arith in (
       search needs,
       search needs,
@@ -57,7 +74,7 @@ loop-less c = omega arith
 
 loop-again : tie.Need-loop-again Inv-loop μ-loop
 loop-again c =
-    let a = c .before .before .args in
+    let a = c .before .before .before .before .args in
     let l = c .before .loop in (
       omega arith,
       omega arith,
@@ -66,13 +83,13 @@ loop-again c =
           ∙ stored-more (a .octets .now) (a .first) (a .end) (a .value) (l .i) (omega arith) (omega arith) (omega arith),
     )
 
-same-length : tie.Need-same-length Inv-loop μ-loop
-same-length c = c .before .loop .inv .2
+same-length-2 : tie.Need-same-length-2 Inv-loop μ-loop
+same-length-2 c = c .before .loop .inv .2
 
-returns : tie.Need-returns Inv-loop μ-loop
+returns-2 : tie.Need-returns-2 Inv-loop μ-loop
 unfolding stored
-returns c =
-    let a = c .before .before .args in
+returns-2 c =
+    let a = c .before .before .before .before .args in
     let l = c .before .loop in
     let e : l .i - a .first ≡ a .end - a .first = omega arith in
     l .inv .3 ∙ ap (λ (k : ℕ). paste (a .octets .now) (a .first) (digits (a .first) (a .end) (a .value)) k) e
@@ -83,6 +100,10 @@ store-spec =
     (tie.spec
     Inv-loop
     μ-loop
+    sub-if1
+    store-five-requires
+    same-length
+    returns
     loop-holds
     sub-octets
     sub-octets-2
@@ -93,5 +114,5 @@ store-spec =
     add-i
     loop-less
     loop-again
-    same-length
-    returns)
+    same-length-2
+    returns-2)

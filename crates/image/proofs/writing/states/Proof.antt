@@ -39,7 +39,7 @@ element-copy-out-state : tie.Need-element-copy-out-state Inv-loop μ-loop
 element-copy-out-state c = omega arith
 
 state-requires : tie.Need-state-requires Inv-loop μ-loop
-state-requires c κs = record { some = omega arith; most = omega arith; inside = omega arith; near = omega arith }
+state-requires c κs = (record { most = omega arith; inside = omega arith; near = omega arith }, omega arith)
 
 add-i : tie.Need-add-i Inv-loop μ-loop
 add-i c = omega arith

@@ -1,116 +1,87 @@
--- `image::writing::transition` meets its contract: four fields put one after another, each value within its width.
+-- `image::writing::transition` meets its contract: the four fields, each value within its width.
 -- Assumes nothing.
-use Prim.Native.Nat.{ℕ, _+_, _-_, _*_, _/_, _%_, _≤_, _<_}
-use mathlib.Core.List.{List}
-use mathlib.Core.Path.{_≡_, refl, sym, ap, _∙_}
+use mathlib.Core.Path.{_≡_, sym, ap, _∙_, subst}
 use native.Mathlib.Omega.{arith}
+use lib.ListN.{getD}
+use Rattle.field.specs.Field.{AllFit, fieldsOf, putAll}
+use Rattle.field.specs.declared.Four.{Four}
 use borrow.Author.Needs.{needs}
-use lib.ListN.{length, getD}
-use Rattle.field.specs.Field.{withField, putAll}
-use Rattle.image.proofs.Puts.{putAll-four}
-use Rattle.field.specs.Field.{AllFit}
 use Rattle.image.proofs.writing.transition.Statement.{statement}
 use Rattle.image.proofs.writing.transition.Tie as tie
 use Rattle.image.proofs.writing.transition.Reads as reads
 use Rattle.image.proofs.writing.transition.Lts as lts
-use Rattle.field.proofs.put.Reads as put-reads
+use Rattle.arrays.proofs.limits.wide.Reads as wide-reads
+use Rattle.field.proofs.put_four.Reads as put-four-reads
 
-mul-put : tie.Need-mul-put
-mul-put c = search needs
+mul-wide : tie.Need-mul-wide
+mul-wide c = search needs
 
-element-copy-out-put : tie.Need-element-copy-out-put
-element-copy-out-put c = search needs
+element-copy-out-wide : tie.Need-element-copy-out-wide
+element-copy-out-wide c = search needs
 
-cast-put : tie.Need-cast-put
-unfolding AllFit
-cast-put c = omega (arith, c .before .before .before .pre .1 .0)
+wide-requires : tie.Need-wide-requires
+wide-requires c κs = search needs
 
-put-requires : tie.Need-put-requires
-unfolding AllFit
-put-requires c κs = (record { some = omega arith; most = omega arith; inside = omega arith; near = omega arith }, c .before .before .before .pre .1 .0)
+mul-wide-2 : tie.Need-mul-wide-2
+mul-wide-2 c = search needs
 
-add-put : tie.Need-add-put
-add-put c = search needs
+element-copy-out-wide-2 : tie.Need-element-copy-out-wide-2
+element-copy-out-wide-2 c = search needs
 
-mul-put-2 : tie.Need-mul-put-2
-mul-put-2 c = search needs
+wide-requires-2 : tie.Need-wide-requires-2
+wide-requires-2 c κs = search needs
 
-element-copy-out-put-2 : tie.Need-element-copy-out-put-2
-element-copy-out-put-2 c = search needs
+mul-wide-3 : tie.Need-mul-wide-3
+mul-wide-3 c = search needs
 
-cast-put-2 : tie.Need-cast-put-2
-unfolding AllFit
-cast-put-2 c = omega (arith, c .before .before .before .before .before .before .before .before .pre .1 .1 .0)
+element-copy-out-wide-3 : tie.Need-element-copy-out-wide-3
+element-copy-out-wide-3 c = search needs
 
-put-requires-2 : tie.Need-put-requires-2
-unfolding AllFit
-put-requires-2 c κs = (record { some = omega arith; most = omega arith; inside = omega arith; near = omega arith }, c .before .before .before .before .before .before .before .before .pre .1 .1 .0)
+wide-requires-3 : tie.Need-wide-requires-3
+wide-requires-3 c κs = search needs
 
-add-put-2 : tie.Need-add-put-2
-add-put-2 c = search needs
+mul-wide-4 : tie.Need-mul-wide-4
+mul-wide-4 c = search needs
 
-mul-put-3 : tie.Need-mul-put-3
-mul-put-3 c = search needs
+element-copy-out-wide-4 : tie.Need-element-copy-out-wide-4
+element-copy-out-wide-4 c = search needs
 
-element-copy-out-put-3 : tie.Need-element-copy-out-put-3
-element-copy-out-put-3 c = search needs
+wide-requires-4 : tie.Need-wide-requires-4
+wide-requires-4 c κs = search needs
 
-cast-put-3 : tie.Need-cast-put-3
-unfolding AllFit
-cast-put-3 c = omega (arith, c .before .before .before .before .before .before .before .before .before .before .before .before .before .pre .1 .1 .1 .0)
+-- the fields are those of the transition
+meant : (c : tie.After-wide4) → _≡_ {A = Four}
+    (record { first = c .before .before .before .before .before .before .wide .result; second = c .before .before .before .before .wide2 .result; third = c .before .before .wide3 .result; fourth = c .wide4 .result })
+    (record { first = getD (c .before .before .before .before .before .before .before .before .before .args .from .now) (c .before .before .before .before .before .before .before .before .before .args .i) 0; second = getD (c .before .before .before .before .before .before .before .before .before .args .to .now) (c .before .before .before .before .before .before .before .before .before .args .i) 0; third = getD (c .before .before .before .before .before .before .before .before .before .args .low .now) (c .before .before .before .before .before .before .before .before .before .args .i) 0; fourth = getD (c .before .before .before .before .before .before .before .before .before .args .high .now) (c .before .before .before .before .before .before .before .before .before .args .i) 0 })
+meant c = λ j. record { first = c .before .before .before .before .before .before .wide .ensures j; second = c .before .before .before .before .wide2 .ensures j; third = c .before .before .wide3 .ensures j; fourth = c .wide4 .ensures j }
 
-put-requires-3 : tie.Need-put-requires-3
-unfolding AllFit
-put-requires-3 c κs = (record { some = omega arith; most = omega arith; inside = omega arith; near = omega arith }, c .before .before .before .before .before .before .before .before .before .before .before .before .before .pre .1 .1 .1 .0)
-
-add-put-3 : tie.Need-add-put-3
-add-put-3 c = search needs
-
-mul-put-4 : tie.Need-mul-put-4
-mul-put-4 c = search needs
-
-element-copy-out-put-4 : tie.Need-element-copy-out-put-4
-element-copy-out-put-4 c = search needs
-
-cast-put-4 : tie.Need-cast-put-4
-unfolding AllFit
-cast-put-4 c = omega (arith, c .before .before .before .before .before .before .before .before .before .before .before .before .before .before .before .before .before .before .pre .1 .1 .1 .1 .0)
-
-put-requires-4 : tie.Need-put-requires-4
-unfolding AllFit
-put-requires-4 c κs = (record { some = omega arith; most = omega arith; inside = omega arith; near = omega arith }, c .before .before .before .before .before .before .before .before .before .before .before .before .before .before .before .before .before .before .pre .1 .1 .1 .1 .0)
+put-four-requires : tie.Need-put-four-requires
+put-four-requires c κs = ((record { most = omega arith; inside = omega arith; near = omega arith }, omega arith, omega arith), subst (λ (f : Four). AllFit (fieldsOf 9 9 11 11 f)) (sym (meant (c .before))) (c .before .before .before .before .before .before .before .before .before .before .pre .1))
 
 same-length : tie.Need-same-length
 same-length c = search needs
 
 returns : tie.Need-returns
 returns c =
-    let a = c .before .before .before .before .before .before .before .before .before .before .before .before .before .before .before .before .before .before .before .before .before .args in
-    c .before .before .put4 .ensures ∙ ap (λ (b : List ℕ). withField b (a .at + 29) 11 (getD (a .high .now) (a .i) 0)) (c .before .before .before .before .before .before .before .put3 .ensures ∙ ap (λ (b : List ℕ). withField b (a .at + 18) 11 (getD (a .low .now) (a .i) 0)) (c .before .before .before .before .before .before .before .before .before .before .before .before .put2 .ensures ∙ ap (λ (b : List ℕ). withField b (a .at + 9) 9 (getD (a .to .now) (a .i) 0)) (c .before .before .before .before .before .before .before .before .before .before .before .before .before .before .before .before .before .put .ensures)))
-    ∙ putAll-four (a .buffer .now) (a .at) 9 (getD (a .from .now) (a .i) 0) 9 (getD (a .to .now) (a .i) 0) 11 (getD (a .low .now) (a .i) 0) 11 (getD (a .high .now) (a .i) 0)
+    let a = c .before .before .before .before .before .before .before .before .before .before .before .before .before .args in
+    c .before .before .put-four .ensures ∙ ap (λ (f : Four). putAll (a .buffer .now) (a .at) (fieldsOf 9 9 11 11 f)) (meant (c .before .before .before .before))
 
 pub transition-spec : {M : Type 1} → statement M
 transition-spec =
     tie.close
     (tie.spec
-    mul-put
-    element-copy-out-put
-    cast-put
-    put-requires
-    add-put
-    mul-put-2
-    element-copy-out-put-2
-    cast-put-2
-    put-requires-2
-    add-put-2
-    mul-put-3
-    element-copy-out-put-3
-    cast-put-3
-    put-requires-3
-    add-put-3
-    mul-put-4
-    element-copy-out-put-4
-    cast-put-4
-    put-requires-4
+    mul-wide
+    element-copy-out-wide
+    wide-requires
+    mul-wide-2
+    element-copy-out-wide-2
+    wide-requires-2
+    mul-wide-3
+    element-copy-out-wide-3
+    wide-requires-3
+    mul-wide-4
+    element-copy-out-wide-4
+    wide-requires-4
+    put-four-requires
     same-length
     returns)

@@ -46,7 +46,7 @@ transition-requires c κs =
     let a = c .before .before .before .before .args in
     let l = c .before .before .loop in
     let f = transitionOf (a .from .now) (a .to .now) (a .low .now) (a .high .now) in (
-      (omega arith, omega arith, omega arith),
+      (record { most = omega arith; inside = omega arith; near = omega arith }, omega arith, omega arith),
       transition-fits (a .n) (f (l .i)) (omega arith) (all-at (transitionOk (a .n)) (a .m) f (c .before .before .before .before .pre .1) (l .i) (omega arith)),
     )
 
