@@ -6,7 +6,7 @@ use mathlib.Core.List.{List}
 use mathlib.Core.Path.{_≡_, refl, sym, ap, _∙_}
 use Prim.Native.Nat.{ℕ, _≤_, _<_}
 use native.Mathlib.Omega.{arith}
-use borrow.Author.Tests.{ltb-false, le-ltb}
+use borrow.Author.Tests.{ltb-false}
 use lib.Dec.{ltb}
 use lib.ListN.{length}
 use Rattle.graph.specs.Graph.{Graph, states}
@@ -96,15 +96,3 @@ module _ (P : Says) (g : Graph) (before : List ℕ) where
     kept = λ k f. absurd (never tt k (sym f ∙ e));
     quoted = λ r f. let s : q ≡ r = cc in rw (← s) h;
   }
-
--- a quotation of a plan within the limits, with places for n transitions, is accepted
-pub quote-done : (p : Plan) (places : List ℕ) → within (view p) ≡ true → p .states ≤ length places → quoteRule (view p) places ≡ accepted tt
-unfolding quoteRule
-quote-done p places w h =
-    let l : ltb (length places) (states (view p)) ≡ false = le-ltb (length places) (states (view p)) (omega (arith, states-are p)) in
-    rw (w, l) refl
-
--- so it answers a quote, and no refusal
-pub not-refused : (P : Says) (p : Plan) (before after : List ℕ) (r : Refusal) (q : Quotation) → Quotes P (view p) before after q → q ≡ NotQuoted r
-    → quoteRule (view p) before ≡ accepted tt → ⊥
-not-refused P p before after r q s e a = never tt (number r) (ap saidQuotation (sym e) ∙ s .answer ∙ a)

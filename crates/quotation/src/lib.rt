@@ -10,6 +10,10 @@ ghost use Rattle.field.specs.Field.{Within, putAll};
 ghost use Rattle.plan.specs.Promise.{Write};
 ghost use Rattle.rules.specs.Quotations.{meant, figureFields, quotesFields, recordOctets, recordRule, quoteRule, Quotes, QuotesAll, LeastDelay, GreatestDelay, LeastCount, GreatestCount};
 ghost use Rattle.plan.specs.View.{view};
+ghost use Rattle.rules.specs.Limits.{within as withinLimits};
+ghost use Rattle.rules.specs.Quotations.{Stated};
+ghost use Rattle.quotation.specs.Costs.{Least, Greatest};
+ghost use mathlib.Core.Bool.{true};
 use greatest_search::greatest;
 use plan::Plan;
 use rules::Answer;
@@ -20,6 +24,12 @@ use rules::Quote;
 use rules::Refusal;
 use rules::Written;
 use search::chain;
+
+// What is summed along a route: seconds, or counted states.
+pub enum Cost {
+    Delay,
+    Count,
+}
 
 // Whether a quotation is refused that was lent so many places: the plan's limits, then the places.
 fn ask(plan: Plan, places: usize) -> Answer
@@ -35,14 +45,11 @@ fn ask(plan: Plan, places: usize) -> Answer
     Answer::Accepted
 }
 
-// The least delay, with a route that attains it.
-pub fn least_delay(plan: Plan, walk: &mut [u16]) -> Quotation
-    ensures { λ r. ⌜ Quotes (LeastDelay (view plan)) (view plan) (now (walk .entry)) (now (walk .exit)) r ⌝ }
+// The least figure of a cost, with a route that attains it.
+fn least(plan: Plan, cost: Cost, walk: &mut [u16]) -> Quote
+    requires { ⌜ (withinLimits (view plan) ≡ true) × (plan .states ≤ length (now walk)) ⌝ }
+    ensures { λ r. ⌜ Stated (Least cost (view plan)) r (now (walk .entry)) (now (walk .exit)) ⌝ }
 {
-    let asked = ask(plan, walk.len());
-    if let Answer::Refused(r) = asked {
-        return Quotation::Refused(r);
-    }
     let n = plan.states;
     let m = plan.transitions;
     let marks = plan.marks;
@@ -55,29 +62,40 @@ pub fn least_delay(plan: Plan, walk: &mut [u16]) -> Quotation
     let mut out_link = [0u16; 2048];
     chain::chains(&to, m, &mut into, &mut into_link);
     chain::chains(&from, m, &mut out, &mut out_link);
-    Quotation::Quoted(figures::least_delay(
-        n,
-        m,
-        &marks,
-        &from,
-        &to,
-        &low,
-        &into,
-        &into_link,
-        &out,
-        &out_link,
-        walk,
-    ))
+    match cost {
+        Cost::Delay => figures::least_delay(
+            n,
+            m,
+            &marks,
+            &from,
+            &to,
+            &low,
+            &into,
+            &into_link,
+            &out,
+            &out_link,
+            walk,
+        ),
+        Cost::Count => figures::least_count(
+            n,
+            m,
+            &marks,
+            &from,
+            &to,
+            &into,
+            &into_link,
+            &out,
+            &out_link,
+            walk,
+        ),
+    }
 }
 
-// The greatest delay, with the walk that shows it.
-pub fn greatest_delay(plan: Plan, walk: &mut [u16]) -> Quotation
-    ensures { λ r. ⌜ Quotes (GreatestDelay (view plan)) (view plan) (now (walk .entry)) (now (walk .exit)) r ⌝ }
+// The greatest figure of a cost, with the walk that shows it.
+fn greatest(plan: Plan, cost: Cost, walk: &mut [u16]) -> Quote
+    requires { ⌜ (withinLimits (view plan) ≡ true) × (plan .states ≤ length (now walk)) ⌝ }
+    ensures { λ r. ⌜ Stated (Greatest cost (view plan)) r (now (walk .entry)) (now (walk .exit)) ⌝ }
 {
-    let asked = ask(plan, walk.len());
-    if let Answer::Refused(r) = asked {
-        return Quotation::Refused(r);
-    }
     let n = plan.states;
     let m = plan.transitions;
     let marks = plan.marks;
@@ -106,23 +124,63 @@ pub fn greatest_delay(plan: Plan, walk: &mut [u16]) -> Quotation
         &mut order,
         &mut via,
     );
-    Quotation::Quoted(figures::greatest_delay(
-        found,
-        n,
-        m,
-        &marks,
-        &from,
-        &to,
-        &high,
-        &out,
-        &out_link,
-        &rank,
-        &cursor,
-        &stack,
-        &order,
-        &via,
-        walk,
-    ))
+    match cost {
+        Cost::Delay => figures::greatest_delay(
+            found,
+            n,
+            m,
+            &marks,
+            &from,
+            &to,
+            &high,
+            &out,
+            &out_link,
+            &rank,
+            &cursor,
+            &stack,
+            &order,
+            &via,
+            walk,
+        ),
+        Cost::Count => figures::greatest_count(
+            found,
+            n,
+            m,
+            &marks,
+            &from,
+            &to,
+            &out,
+            &out_link,
+            &rank,
+            &cursor,
+            &stack,
+            &order,
+            &via,
+            walk,
+        ),
+    }
+}
+
+// The least delay, with a route that attains it.
+pub fn least_delay(plan: Plan, walk: &mut [u16]) -> Quotation
+    ensures { λ r. ⌜ Quotes (LeastDelay (view plan)) (view plan) (now (walk .entry)) (now (walk .exit)) r ⌝ }
+{
+    let asked = ask(plan, walk.len());
+    match asked {
+        Answer::Accepted => Quotation::Quoted(least(plan, Cost::Delay, walk)),
+        Answer::Refused(r) => Quotation::Refused(r),
+    }
+}
+
+// The greatest delay, with the walk that shows it.
+pub fn greatest_delay(plan: Plan, walk: &mut [u16]) -> Quotation
+    ensures { λ r. ⌜ Quotes (GreatestDelay (view plan)) (view plan) (now (walk .entry)) (now (walk .exit)) r ⌝ }
+{
+    let asked = ask(plan, walk.len());
+    match asked {
+        Answer::Accepted => Quotation::Quoted(greatest(plan, Cost::Delay, walk)),
+        Answer::Refused(r) => Quotation::Refused(r),
+    }
 }
 
 // The least count, with a route that attains it.
@@ -130,32 +188,10 @@ pub fn least_count(plan: Plan, walk: &mut [u16]) -> Quotation
     ensures { λ r. ⌜ Quotes (LeastCount (view plan)) (view plan) (now (walk .entry)) (now (walk .exit)) r ⌝ }
 {
     let asked = ask(plan, walk.len());
-    if let Answer::Refused(r) = asked {
-        return Quotation::Refused(r);
+    match asked {
+        Answer::Accepted => Quotation::Quoted(least(plan, Cost::Count, walk)),
+        Answer::Refused(r) => Quotation::Refused(r),
     }
-    let n = plan.states;
-    let m = plan.transitions;
-    let marks = plan.marks;
-    let from = plan.from;
-    let to = plan.to;
-    let mut into = [2048u16; 512];
-    let mut into_link = [0u16; 2048];
-    let mut out = [2048u16; 512];
-    let mut out_link = [0u16; 2048];
-    chain::chains(&to, m, &mut into, &mut into_link);
-    chain::chains(&from, m, &mut out, &mut out_link);
-    Quotation::Quoted(figures::least_count(
-        n,
-        m,
-        &marks,
-        &from,
-        &to,
-        &into,
-        &into_link,
-        &out,
-        &out_link,
-        walk,
-    ))
 }
 
 // The greatest count, with the walk that shows it.
@@ -163,52 +199,10 @@ pub fn greatest_count(plan: Plan, walk: &mut [u16]) -> Quotation
     ensures { λ r. ⌜ Quotes (GreatestCount (view plan)) (view plan) (now (walk .entry)) (now (walk .exit)) r ⌝ }
 {
     let asked = ask(plan, walk.len());
-    if let Answer::Refused(r) = asked {
-        return Quotation::Refused(r);
+    match asked {
+        Answer::Accepted => Quotation::Quoted(greatest(plan, Cost::Count, walk)),
+        Answer::Refused(r) => Quotation::Refused(r),
     }
-    let n = plan.states;
-    let m = plan.transitions;
-    let marks = plan.marks;
-    let from = plan.from;
-    let to = plan.to;
-    let mut out = [2048u16; 512];
-    let mut out_link = [0u16; 2048];
-    chain::chains(&from, m, &mut out, &mut out_link);
-    let mut rank = [0u16; 512];
-    let mut cursor = [0u16; 512];
-    let mut stack = [0u16; 512];
-    let mut order = [0u16; 512];
-    let mut via = [0u16; 512];
-    let found = greatest::reach(
-        n,
-        m,
-        &marks,
-        &from,
-        &to,
-        &out,
-        &out_link,
-        &mut rank,
-        &mut cursor,
-        &mut stack,
-        &mut order,
-        &mut via,
-    );
-    Quotation::Quoted(figures::greatest_count(
-        found,
-        n,
-        m,
-        &marks,
-        &from,
-        &to,
-        &out,
-        &out_link,
-        &rank,
-        &cursor,
-        &stack,
-        &order,
-        &via,
-        walk,
-    ))
 }
 
 // All four figures, with the walks that show them, one after another in four parts of 512 places.

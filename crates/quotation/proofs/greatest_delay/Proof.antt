@@ -1,108 +1,65 @@
--- `quotation::greatest_delay` meets its contract. Assumes nothing.
-use Prim.Native.Nat.{ℕ, zero, suc, _+_, _-_, _*_, _≤_, _<_}
-use mathlib.Core.Bool.{Bool, true, false, not}
-use mathlib.Core.List.{List, [], _∷_, _++_}
-use mathlib.Core.Logic.{_⊎_, inl, inr, ⊎-elim}
+-- `quotation::greatest_delay` meets its contract: the rule's answer, and the figure of a plan that is not refused. Assumes nothing.
 use mathlib.Core.Path.{_≡_, refl, sym, ap, _∙_}
+use Prim.Native.Nat.{ℕ, _≤_}
 use native.Mathlib.Omega.{arith}
-use borrow.Author.Count.{below-none, below-more}
-use borrow.Author.Needs.{needs}
-use borrow.Author.Tests.{lt-ltb, le-ltb, le-leb, lt-leb, eq-eqb, ne-eqb, not-true, not-false, eqb-true, eqb-false}
-use lib.Dec.{ltb, leb, eqb}
-use lib.ListN.{length, getD, set, take, drop, length-set}
-use lib.Seq.{getD-set-same, getD-set-other}
-use borrow.Author.Needs.{needs}
-use lib.ListN.{getD-replicate}
-use native.Mathlib.Nat.{le-refl}
-use Rattle.figures.proofs.Answers.{zeros}
-use Rattle.rules.specs.Quotations.{GreatestDelay}
-use Rattle.quotation.proofs.Asked.{states-are, ends, lows, highs, accepted-within, room, refusal, acceptance}
-use Rattle.search.specs.Arrays.{at}
 use Rattle.plan.specs.View.{view}
-use Rattle.rules.specs.Quotations.{quoteRule}
-use Rattle.rules.specs.Refusal.{accepted, said, number}
+use Rattle.rules.specs.Quotations.{quoteRule, GreatestDelay}
+use Rattle.rules.specs.Refusal.{accepted, said}
+use Rattle.quotation.proofs.Asked.{states-are, accepted-within, room, refusal, acceptance}
+use borrow.Author.Needs.{needs}
 use Rattle.quotation.proofs.greatest_delay.Statement.{statement}
 use Rattle.quotation.proofs.greatest_delay.Tie as tie
 use Rattle.quotation.proofs.greatest_delay.Reads as reads
 use Rattle.quotation.proofs.greatest_delay.Lts as lts
-use Rattle.figures.proofs.greatest_delay.Reads as greatest-delay-reads
 use Rattle.quotation.proofs.ask.Reads as ask-reads
-use Rattle.search.proofs.chain.chains.Reads as chains-reads
-use Rattle.greatest_search.proofs.greatest.reach.Reads as reach-reads
+use Rattle.quotation.proofs.greatest.Reads as greatest-reads
 
--- src/lib.rt:60:9
+-- src/lib.rt:179:9
 ask-requires : tie.Need-ask-requires
 ask-requires c κs = search needs
 
--- src/lib.rt:61:28
-enum-known-asked : tie.Need-enum-known-asked
-enum-known-asked c = search needs
-
--- src/lib.rt:62:9
-returns : tie.Need-returns
-returns c =
-    let a = c .before .before .before .before .before .args in
-    refusal (GreatestDelay (view (a .plan))) (view (a .plan)) (a .walk .now) _ (ap said (sym (c .before .asked .given .1)) ∙ c .before .before .before .ask .ensures (a .walk .now) refl)
-
+-- src/lib.rt:181:62
 enum-told : tie.Need-enum-told
 enum-told c = search needs
 
--- src/lib.rt:72:5
-chains-requires : tie.Need-chains-requires
-chains-requires c κs =
-    let a = c .before .before .before .before .before .before .before .before .before .before .before .args in
-    let p = a .plan in
-    let e : quoteRule (view p) (a .walk .now) ≡ accepted tt = sym (c .before .before .before .before .before .before .before .before .before .ask .ensures (a .walk .now) refl) ∙ ap said (c .before .before .before .before .before .before .before .enum-told .given .1) in
-    let w = accepted-within (view p) (a .walk .now) e in
-    let h : p .states ≤ length (a .walk .now) = omega (arith, room (view p) (a .walk .now) e, states-are p) in
-    let b = ends p w in
-    ((b .count, λ t l. omega (arith, b .leaves t l, b .states)), ((λ s l. getD-replicate 512 s 2048 0 l), le-refl 512, le-refl 2048))
+-- src/lib.rt:181:47
+greatest-requires : tie.Need-greatest-requires
+greatest-requires c κs =
+    let a = c .before .before .before .before .before .args in
+    let g = view (a .plan) in
+    let e : quoteRule g (a .walk .now) ≡ accepted tt = sym (c .before .before .before .ask .ensures (a .walk .now) refl) ∙ ap said (c .before .enum-told .given .1) in
+    (accepted-within g (a .walk .now) e, omega (arith, room g (a .walk .now) e, states-are (a .plan)))
 
--- src/lib.rt:78:9
-reach-requires : tie.Need-reach-requires
-reach-requires c κs =
-    let a = c .before .before .before .before .before .before .before .before .before .before .before .before .before .before .before .before .before .before .before .before .before .before .args in
-    let p = a .plan in
-    let e : quoteRule (view p) (a .walk .now) ≡ accepted tt = sym (c .before .before .before .before .before .before .before .before .before .before .before .before .before .before .before .before .before .before .before .before .ask .ensures (a .walk .now) refl) ∙ ap said (c .before .before .before .before .before .before .before .before .before .before .before .before .before .before .before .before .before .before .enum-told .given .1) in
-    let w = accepted-within (view p) (a .walk .now) e in
-    let h : p .states ≤ length (a .walk .now) = omega (arith, room (view p) (a .walk .now) e, states-are p) in
-    ((ends p w, c .before .before .before .before .before .before .before .before .before .before .chains .ensures, λ s. zeros 512 s), record { rank = le-refl 512; cursor = le-refl 512; stack = le-refl 512; order = le-refl 512; via = le-refl 512 })
+-- src/lib.rt:182:25
+enum-known-asked : tie.Need-enum-known-asked
+enum-known-asked c = search needs
 
--- src/lib.rt:81:23
-greatest-delay-requires : tie.Need-greatest-delay-requires
-greatest-delay-requires c κs =
-    let a = c .before .before .before .before .before .before .before .before .before .before .before .before .before .before .before .before .before .before .before .before .before .before .before .before .before .before .before .before .before .before .before .before .before .before .before .args in
-    let p = a .plan in
-    let e : quoteRule (view p) (a .walk .now) ≡ accepted tt = sym (c .before .before .before .before .before .before .before .before .before .before .before .before .before .before .before .before .before .before .before .before .before .before .before .before .before .before .before .before .before .before .before .before .before .ask .ensures (a .walk .now) refl) ∙ ap said (c .before .before .before .before .before .before .before .before .before .before .before .before .before .before .before .before .before .before .before .before .before .before .before .before .before .before .before .before .before .before .before .enum-told .given .1) in
-    let w = accepted-within (view p) (a .walk .now) e in
-    let h : p .states ≤ length (a .walk .now) = omega (arith, room (view p) (a .walk .now) e, states-are p) in
-    ((highs p w, h, c .before .before .before .before .before .before .before .before .before .before .before .before .before .before .before .before .before .before .before .before .before .before .before .chains .ensures), c .before .before .before .before .before .before .before .before .before .before .before .before .reach .ensures)
-
--- src/lib.rt:57:1
+-- src/lib.rt:176:1
 same-length : tie.Need-same-length
 same-length c = search needs
 
--- src/lib.rt:57:1
+-- src/lib.rt:176:1
+returns : tie.Need-returns
+returns c =
+    let a = c .before .before .before .before .before .before .before .before .args in
+    let g = view (a .plan) in
+    acceptance (GreatestDelay g) g (a .walk .now) _ (c .before .before .greatest .result) (sym (c .before .before .before .before .before .before .ask .ensures (a .walk .now) refl) ∙ ap said (c .before .before .before .before .enum-told .given .1)) (c .before .before .greatest .ensures)
+
+-- src/lib.rt:176:1
 returns-2 : tie.Need-returns-2
-unfolding view
 returns-2 c =
-    let a = c .before .before .before .before .before .before .before .before .before .before .before .before .before .before .before .before .before .before .before .before .before .before .before .before .before .before .before .before .before .before .before .before .before .before .before .before .before .before .args in
-    let p = a .plan in
-    let e : quoteRule (view p) (a .walk .now) ≡ accepted tt = sym (c .before .before .before .before .before .before .before .before .before .before .before .before .before .before .before .before .before .before .before .before .before .before .before .before .before .before .before .before .before .before .before .before .before .before .before .before .ask .ensures (a .walk .now) refl) ∙ ap said (c .before .before .before .before .before .before .before .before .before .before .before .before .before .before .before .before .before .before .before .before .before .before .before .before .before .before .before .before .before .before .before .before .before .before .enum-told .given .1) in
-    let w = accepted-within (view p) (a .walk .now) e in
-    let h : p .states ≤ length (a .walk .now) = omega (arith, room (view p) (a .walk .now) e, states-are p) in
-    acceptance (GreatestDelay (view p)) (view p) (a .walk .now) _ (c .before .before .greatest-delay .result) e (c .before .before .greatest-delay .ensures (p .low))
+    let a = c .before .before .before .before .before .args in
+    let g = view (a .plan) in
+    refusal (GreatestDelay g) g (a .walk .now) _ (ap said (sym (c .before .asked .given .1)) ∙ c .before .before .before .ask .ensures (a .walk .now) refl)
 
 pub greatest-delay-spec : {M : Type 1} → statement M
 greatest-delay-spec =
     tie.close
     (tie.spec
     ask-requires
-    enum-known-asked
-    returns
     enum-told
-    chains-requires
-    reach-requires
-    greatest-delay-requires
+    greatest-requires
+    enum-known-asked
     same-length
+    returns
     returns-2)

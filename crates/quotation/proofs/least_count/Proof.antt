@@ -1,107 +1,58 @@
--- `quotation::least_count` meets its contract. Assumes nothing.
-use Prim.Native.Nat.{ℕ, zero, suc, _+_, _-_, _*_, _≤_, _<_}
-use mathlib.Core.Bool.{Bool, true, false, not}
-use mathlib.Core.List.{List, [], _∷_, _++_}
-use mathlib.Core.Logic.{_⊎_, inl, inr, ⊎-elim}
+-- `quotation::least_count` meets its contract: the rule's answer, and the figure of a plan that is not refused. Assumes nothing.
 use mathlib.Core.Path.{_≡_, refl, sym, ap, _∙_}
+use Prim.Native.Nat.{ℕ, _≤_}
 use native.Mathlib.Omega.{arith}
-use borrow.Author.Count.{below-none, below-more}
-use borrow.Author.Needs.{needs}
-use borrow.Author.Tests.{lt-ltb, le-ltb, le-leb, lt-leb, eq-eqb, ne-eqb, not-true, not-false, eqb-true, eqb-false}
-use lib.Dec.{ltb, leb, eqb}
-use lib.ListN.{length, getD, set, take, drop, length-set}
-use lib.Seq.{getD-set-same, getD-set-other}
-use borrow.Author.Needs.{needs}
-use lib.ListN.{getD-replicate}
-use native.Mathlib.Nat.{le-refl}
-use Rattle.rules.specs.Quotations.{LeastCount}
-use Rattle.quotation.proofs.Asked.{states-are, ends, lows, highs, accepted-within, room, refusal, acceptance}
-use Rattle.search.specs.Arrays.{at}
 use Rattle.plan.specs.View.{view}
-use Rattle.rules.specs.Quotations.{quoteRule}
-use Rattle.rules.specs.Refusal.{accepted, said, number}
+use Rattle.rules.specs.Quotations.{quoteRule, LeastCount}
+use Rattle.rules.specs.Refusal.{accepted, said}
+use Rattle.quotation.proofs.Asked.{states-are, accepted-within, room, refusal, acceptance}
+use borrow.Author.Needs.{needs}
 use Rattle.quotation.proofs.least_count.Statement.{statement}
 use Rattle.quotation.proofs.least_count.Tie as tie
 use Rattle.quotation.proofs.least_count.Reads as reads
 use Rattle.quotation.proofs.least_count.Lts as lts
-use Rattle.figures.proofs.least_count.Reads as least-count-reads
 use Rattle.quotation.proofs.ask.Reads as ask-reads
-use Rattle.search.proofs.chain.chains.Reads as chains-reads
+use Rattle.quotation.proofs.least.Reads as least-reads
 
--- src/lib.rt:90:9
+-- src/lib.rt:190:9
 ask-requires : tie.Need-ask-requires
 ask-requires c κs = search needs
 
--- src/lib.rt:91:28
-enum-known-asked : tie.Need-enum-known-asked
-enum-known-asked c = search needs
-
--- src/lib.rt:92:9
-returns : tie.Need-returns
-returns c =
-    let a = c .before .before .before .before .before .args in
-    refusal (LeastCount (view (a .plan))) (view (a .plan)) (a .walk .now) _ (ap said (sym (c .before .asked .given .1)) ∙ c .before .before .before .ask .ensures (a .walk .now) refl)
-
+-- src/lib.rt:192:59
 enum-told : tie.Need-enum-told
 enum-told c = search needs
 
--- src/lib.rt:103:5
-chains-requires : tie.Need-chains-requires
-chains-requires c κs =
-    let a = c .before .before .before .before .before .before .before .before .before .before .args in
-    let p = a .plan in
-    let e : quoteRule (view p) (a .walk .now) ≡ accepted tt = sym (c .before .before .before .before .before .before .before .before .ask .ensures (a .walk .now) refl) ∙ ap said (c .before .before .before .before .before .before .enum-told .given .1) in
-    let w = accepted-within (view p) (a .walk .now) e in
-    let h : p .states ≤ length (a .walk .now) = omega (arith, room (view p) (a .walk .now) e, states-are p) in
-    let b = ends p w in
-    ((b .count, λ t l. omega (arith, b .arrives t l, b .states)), ((λ s l. getD-replicate 512 s 2048 0 l), le-refl 512, le-refl 2048))
+-- src/lib.rt:192:47
+least-requires : tie.Need-least-requires
+least-requires c κs =
+    let a = c .before .before .before .before .before .args in
+    let g = view (a .plan) in
+    let e : quoteRule g (a .walk .now) ≡ accepted tt = sym (c .before .before .before .ask .ensures (a .walk .now) refl) ∙ ap said (c .before .enum-told .given .1) in
+    (accepted-within g (a .walk .now) e, omega (arith, room g (a .walk .now) e, states-are (a .plan)))
 
--- src/lib.rt:104:5
-chains-requires-2 : tie.Need-chains-requires-2
-chains-requires-2 c κs =
-    let a = c .before .before .before .before .before .before .before .before .before .before .before .before .before .before .args in
-    let p = a .plan in
-    let e : quoteRule (view p) (a .walk .now) ≡ accepted tt = sym (c .before .before .before .before .before .before .before .before .before .before .before .before .ask .ensures (a .walk .now) refl) ∙ ap said (c .before .before .before .before .before .before .before .before .before .before .enum-told .given .1) in
-    let w = accepted-within (view p) (a .walk .now) e in
-    let h : p .states ≤ length (a .walk .now) = omega (arith, room (view p) (a .walk .now) e, states-are p) in
-    let b = ends p w in
-    ((b .count, λ t l. omega (arith, b .leaves t l, b .states)), ((λ s l. getD-replicate 512 s 2048 0 l), le-refl 512, le-refl 2048))
+-- src/lib.rt:193:25
+enum-known-asked : tie.Need-enum-known-asked
+enum-known-asked c = search needs
 
--- src/lib.rt:105:23
-least-count-requires : tie.Need-least-count-requires
-least-count-requires c κs =
-    let a = c .before .before .before .before .before .before .before .before .before .before .before .before .before .before .before .before .before .before .before .before .before .before .before .args in
-    let p = a .plan in
-    let e : quoteRule (view p) (a .walk .now) ≡ accepted tt = sym (c .before .before .before .before .before .before .before .before .before .before .before .before .before .before .before .before .before .before .before .before .before .ask .ensures (a .walk .now) refl) ∙ ap said (c .before .before .before .before .before .before .before .before .before .before .before .before .before .before .before .before .before .before .before .enum-told .given .1) in
-    let w = accepted-within (view p) (a .walk .now) e in
-    let h : p .states ≤ length (a .walk .now) = omega (arith, room (view p) (a .walk .now) e, states-are p) in
-    ((ends p w, h), (c .before .before .before .before .before .before .before .before .before .before .before .before .chains .ensures, c .before .before .before .before .before .before .before .before .chains2 .ensures))
-
--- src/lib.rt:87:1
+-- src/lib.rt:187:1
 same-length : tie.Need-same-length
 same-length c = search needs
 
--- src/lib.rt:87:1
+-- src/lib.rt:187:1
+returns : tie.Need-returns
+returns c =
+    let a = c .before .before .before .before .before .before .before .before .args in
+    let g = view (a .plan) in
+    acceptance (LeastCount g) g (a .walk .now) _ (c .before .before .least .result) (sym (c .before .before .before .before .before .before .ask .ensures (a .walk .now) refl) ∙ ap said (c .before .before .before .before .enum-told .given .1)) (c .before .before .least .ensures)
+
+-- src/lib.rt:187:1
 returns-2 : tie.Need-returns-2
-unfolding view
 returns-2 c =
-    let a = c .before .before .before .before .before .before .before .before .before .before .before .before .before .before .before .before .before .before .before .before .before .before .before .before .before .before .args in
-    let p = a .plan in
-    let e : quoteRule (view p) (a .walk .now) ≡ accepted tt = sym (c .before .before .before .before .before .before .before .before .before .before .before .before .before .before .before .before .before .before .before .before .before .before .before .before .ask .ensures (a .walk .now) refl) ∙ ap said (c .before .before .before .before .before .before .before .before .before .before .before .before .before .before .before .before .before .before .before .before .before .before .enum-told .given .1) in
-    let w = accepted-within (view p) (a .walk .now) e in
-    let h : p .states ≤ length (a .walk .now) = omega (arith, room (view p) (a .walk .now) e, states-are p) in
-    acceptance (LeastCount (view p)) (view p) (a .walk .now) _ (c .before .before .least-count .result) e (c .before .before .least-count .ensures (p .low) (p .high))
+    let a = c .before .before .before .before .before .args in
+    let g = view (a .plan) in
+    refusal (LeastCount g) g (a .walk .now) _ (ap said (sym (c .before .asked .given .1)) ∙ c .before .before .before .ask .ensures (a .walk .now) refl)
 
 pub least-count-spec : {M : Type 1} → statement M
 least-count-spec =
     tie.close
-    (tie.spec
-    ask-requires
-    enum-known-asked
-    returns
-    enum-told
-    chains-requires
-    chains-requires-2
-    least-count-requires
-    same-length
-    returns-2)
+    (tie.spec ask-requires enum-told least-requires enum-known-asked same-length returns returns-2)
