@@ -33,6 +33,14 @@ and-false : (b c : Bool) → c ≡ false → (b && c) ≡ false
 and-false true c e = e
 and-false false c e = refl
 
+and-unit : (b : Bool) → (b && true) ≡ b
+and-unit true = refl
+and-unit false = refl
+
+and-assoc : (a b c : Bool) → (a && (b && c)) ≡ ((a && b) && c)
+and-assoc true b c = refl
+and-assoc false b c = refl
+
 and-more : (b c d : Bool) → (b && c) ≡ false → (c ≡ false → d ≡ false) → (b && d) ≡ false
 and-more true c d e f = f e
 and-more false c d e f = refl
@@ -70,6 +78,16 @@ module _ {A : Type 0} where
   all-tabulate test zero f h = refl
   all-tabulate test (suc n) f h =
       all-append test (tabulate n f) (f n ∷ []) (all-tabulate test n f (λ i k. h i (omega arith))) (rw (h n (omega arith)) refl)
+
+  -- a test of one more
+  all-last-of : (test : A → Bool) (xs : List A) (x : A) → all test (xs ++ (x ∷ [])) ≡ (all test xs && test x)
+  unfolding all
+  all-last-of test [] x = and-unit (test x)
+  all-last-of test (y ∷ xs) x = ap (λ (b : Bool). test y && b) (all-last-of test xs x) ∙ and-assoc (test y) (all test xs) (test x)
+
+  pub all-more : (test : A → Bool) (n : ℕ) (f : ℕ → A) → (all test (tabulate n f) && test (f n)) ≡ all test (tabulate (n + 1) f)
+  unfolding tabulate
+  all-more test n f = sym (all-last-of test (tabulate n f) (f n)) ∙ ap (λ (k : ℕ). all test (tabulate k f)) (sym (add-one n))
 
   -- a test that fails of one of them fails
   all-front : (test : A → Bool) (xs ys : List A) → all test xs ≡ false → all test (xs ++ ys) ≡ false

@@ -68,23 +68,22 @@ pub fn marks_within(marks: &[u8; 512], n: usize) -> bool
     true
 }
 
-// Whether the transition at place i joins states of a plan with n of them, and has durations within the limits.
+// Whether the transition at place i joins states of a plan with n of them, and has durations within the limits. No test waits for another, and no
+// branch is taken, so that a compiler can look at several places at once.
 fn transition_within(
     from: &[u16; 2048],
     to: &[u16; 2048],
     low: &[u16; 2048],
     high: &[u16; 2048],
-    n: usize,
+    n: u16,
     i: usize,
 ) -> bool
     requires { ⌜ i < 2048 ⌝ }
     ensures { λ r. ⌜ r ≡ transitionOk n (transitionOf (now (from .entry)) (now (to .entry)) (now (low .entry)) (now (high .entry)) i) ⌝ }
 {
-    if ends_ok(n, wide(from[i]), wide(to[i])) {
-        durations_ok(wide(low[i]), wide(high[i]))
-    } else {
-        false
-    }
+    let ends = (from[i] < n) & (to[i] < n);
+    let durations = (low[i] <= high[i]) & (high[i] <= 2047);
+    ends & durations
 }
 
 // Whether the first m transitions are within the limits of a plan with n states.
@@ -96,16 +95,16 @@ pub fn transitions_within(
     n: usize,
     m: usize,
 ) -> bool
-    requires { ⌜ m ≤ 2048 ⌝ }
+    requires { ⌜ (n ≤ 512) × (m ≤ 2048) ⌝ }
     ensures { λ r. ⌜ r ≡ all (transitionOk n)
         (transitionsOf m (now (from .entry)) (now (to .entry)) (now (low .entry)) (now (high .entry))) ⌝ }
 {
+    let end = n as u16;
+    let mut sound = true;
     let mut i = 0;
     while i < m {
-        if !transition_within(from, to, low, high, n, i) {
-            return false;
-        }
+        sound = sound & transition_within(from, to, low, high, end, i);
         i += 1;
     }
-    true
+    sound
 }

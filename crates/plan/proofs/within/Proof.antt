@@ -1,6 +1,8 @@
 -- `plan::within` meets its contract: each test is one of the limits, over the counts and the arrays.
 -- Assumes nothing.
+use Prim.Native.Nat.{_≤_}
 use mathlib.Core.Path.{sym, _∙_}
+use native.Mathlib.Omega.{arith}
 use borrow.Author.Needs.{needs}
 use borrow.Author.Tests.{le-leb, lt-leb, leb-true, not-true, not-false}
 use lib.Dec.{leb}
@@ -25,10 +27,15 @@ returns-2 c =
     let s = sym (c .before .before .state-count-ok .ensures) ∙ not-false _ (c .before .if1 .left) in
     count-out (c .before .before .before .args .plan) s (lt-leb _ _ (c .if2 .taken))
 
+-- the state count is at most 512
+few : (c : tie.Else1) → c .before .before .args .plan .states ≤ 512
+few c =
+    let n = c .before .before .args .plan .states in
+    let s = sym (c .before .state-count-ok .ensures) ∙ not-false _ (c .if1 .left) in
+    leb-true n 512 (and-true (leb 1 n) (leb n 512) s .1)
+
 marks-within-requires : tie.Need-marks-within-requires
-marks-within-requires c κs =
-    let s = sym (c .before .before .before .before .state-count-ok .ensures) ∙ not-false _ (c .before .before .before .if1 .left) in
-    leb-true (c .before .before .before .before .before .args .plan .states) 512 (and-true (leb 1 (c .before .before .before .before .before .args .plan .states)) (leb (c .before .before .before .before .before .args .plan .states) 512) s .1)
+marks-within-requires c κs = few (c .before .before .before)
 
 returns-3 : tie.Need-returns-3
 returns-3 c =
@@ -36,7 +43,7 @@ returns-3 c =
     marks-out (c .before .before .before .before .before .before .before .args .plan) s (le-leb _ _ (c .before .before .before .before .if2 .left)) (sym (c .before .marks-within .ensures) ∙ not-true _ (c .if3 .taken))
 
 transitions-within-requires : tie.Need-transitions-within-requires
-transitions-within-requires c κs = search needs
+transitions-within-requires c κs = (few (c .before .before .before .before .before .before .before .before .before .before .before .before .before), omega arith)
 
 returns-4 : tie.Need-returns-4
 returns-4 c =
