@@ -11,7 +11,8 @@ use native.Mathlib.Nat.{add-zero, zero-add, add-assoc, mul-div-cancel-left}
 use native.Mathlib.Omega.{arith}
 use lib.ListN.{length, getD, take, drop, length-append, length-take, length-drop, take-append-drop}
 use lib.Seq.{length-take-le, take-at, drop-at, drop-drop, take-add, take-length}
-use Rattle.field.specs.Field.{Field, Fit, AllFit, number, bitsOf, bits, octetsOf, fieldAt, withField, Octets, bitsOfAll, widthOfAll, pack, unpack, putAll, widths}
+use Rattle.field.specs.Field.{Field, Fit, AllFit, number, bitsOf, bits, octetsOf, fieldAt, withField, Octets, bitsOfAll, widthOfAll, pack, unpack, putAll, widths, fieldsOf, fourAt}
+use Rattle.field.specs.declared.Four.{Four}
 use Rattle.field.proofs.Number.{length-bitsOf, number-lt, number-bitsOf-lt, bitsOf-number-at}
 use Rattle.field.proofs.Bits.{length-bits, bits-append, bits-take, bits-drop, length-octetsOf, octetsOf-octets, bits-octetsOf, same-bits, drop-octets, append-octets}
 use Rattle.field.proofs.Laws.{length-withField, withField-octets, put-front, put-back}
@@ -155,3 +156,24 @@ putAll-pack fs k os ho e h =
     (bits-putAll fs os 0 (omega (arith, zero-add (widthOfAll fs)))
     ∙ ap₂ {C = List Bool} (λ (x y : List Bool). x ++ y) (sym (bits-pack fs k e)) (ap (λ (n : ℕ). drop n (bits os)) (zero-add (widthOfAll fs) ∙ e) ∙ bits-drop k os h)
     ∙ sym (bits-append (pack fs) (drop k os)))
+
+-- ---- four fields
+
+-- those that four positions give are those that a running position gives
+pub unpack-four : (os : List ℕ) (at a b c d : ℕ) → unpack os at (a ∷ b ∷ c ∷ d ∷ []) ≡ fieldsOf a b c d (fourAt os at a b c d)
+unfolding unpack
+unpack-four os at a b c d = refl
+
+-- four fields that were put come back
+pub take-put-four : (os : List ℕ) (at a b c d : ℕ) (f : Four) → AllFit (fieldsOf a b c d f) → at + widthOfAll (fieldsOf a b c d f) ≤ 8 * length os
+    → fourAt (putAll os at (fieldsOf a b c d f)) at a b c d ≡ f
+take-put-four os at a b c d f h k =
+    let fs : List Field = fieldsOf a b c d f in
+    let o′ : List ℕ = putAll os at fs in
+    let rest : List Bool = drop (at + widthOfAll fs) (bits os) in
+    let l : length (take at (bits os)) ≡ at = length-take-le at (bits os) (omega (arith, length-bits os)) in
+    let e : drop at (bits o′) ≡ bitsOfAll fs ++ rest =
+    ap (λ (x : List Bool). drop at x) (bits-putAll fs os at k ∙ append-assoc (take at (bits os)) (bitsOfAll fs) rest) ∙ drop-at (take at (bits os)) (bitsOfAll fs ++ rest) at l in
+    let u : fieldsOf a b c d (fourAt o′ at a b c d) ≡ fs = sym (unpack-four o′ at a b c d) ∙ unpack-of-bits o′ fs at rest h e in
+    let none : Field = record { width = 0; value = 0 } in
+    λ i. record { first = getD (u i) 0 none .value; second = getD (u i) 1 none .value; third = getD (u i) 2 none .value; fourth = getD (u i) 3 none .value }
