@@ -180,8 +180,9 @@ pub fn read(plan: Plan, octets: &[u8]) -> Edited
     if !within(plan) {
         return refuse(plan, Refusal::PlanLimits);
     }
-    let mut at = 0;
-    let heading = reading::header(octets, &mut at);
+    let mut position = 0;
+    let at = &mut position;
+    let heading = reading::header(octets, at);
     let head = heading.answer;
     if let Answer::Refused(r) = head {
         return refuse(plan, r);
@@ -189,7 +190,7 @@ pub fn read(plan: Plan, octets: &[u8]) -> Edited
     let n = heading.states;
     let m = heading.transitions;
     let mut marks = plan.marks;
-    let marked = reading::states(octets, &mut at, n, &mut marks);
+    let marked = reading::states(octets, at, n, &mut marks);
     if let Answer::Refused(r) = marked {
         return refuse(plan, r);
     }
@@ -197,16 +198,7 @@ pub fn read(plan: Plan, octets: &[u8]) -> Edited
     let mut to = plan.to;
     let mut low = plan.low;
     let mut high = plan.high;
-    let listed = reading::transitions(
-        octets,
-        &mut at,
-        n,
-        m,
-        &mut from,
-        &mut to,
-        &mut low,
-        &mut high,
-    );
+    let listed = reading::transitions(octets, at, n, m, &mut from, &mut to, &mut low, &mut high);
     let image = Plan {
         states: n,
         transitions: m,

@@ -62,10 +62,10 @@ refuse-requires-2 c κs = search needs
 returns-2 : tie.Need-returns-2
 unfolding readRule readImage
 returns-2 c =
-    let p = c .before .before .before .before .before .before .before .before .before .args .plan in
-    let os = c .before .before .before .before .before .before .before .before .before .args .octets .now in
+    let p = c .before .before .before .before .before .before .before .before .before .before .args .plan in
+    let os = c .before .before .before .before .before .before .before .before .before .before .args .octets .now in
     let r = c .before .before .head .given .0 .0 in
-    let w : within (view p) ≡ true = sym (c .before .before .before .before .before .before .before .within .ensures) ∙ not-false _ (c .before .before .before .before .before .before .if1 .left) in
+    let w : within (view p) ≡ true = sym (c .before .before .before .before .before .before .before .before .within .ensures) ∙ not-false _ (c .before .before .before .before .before .before .before .if1 .left) in
     let h : headerRule os ≡ refused (number r) = sym (c .before .before .before .before .header .ensures .0) ∙ ap said (c .before .before .head .given .1) in
     rw (c .refuse2 .ensures) (refusal p (readRule (view p) os) r (rw (w, h)))
 
@@ -81,18 +81,18 @@ record Head (p : Plan) (os : List ℕ) (n m at : ℕ) : Type 0 where
   transitions : m ≡ transitionCountOf os
   position : at ≡ 32
 
-head : (c : tie.After-enum-told) → Head (c .before .before .before .before .before .before .before .args .plan) (c .before .before .before .before .before .before .before .args .octets .now) (c .before .before .header .result .states) (c .before .before .header .result .transitions) (c .before .before .header .last .1 .0)
+head : (c : tie.After-enum-told) → Head (c .before .before .before .before .before .before .before .before .args .plan) (c .before .before .before .before .before .before .before .before .args .octets .now) (c .before .before .header .result .states) (c .before .before .header .result .transitions) (c .before .before .header .last .1 .0)
 head c =
-    let os = c .before .before .before .before .before .before .before .args .octets .now in
+    let os = c .before .before .before .before .before .before .before .before .args .octets .now in
     let h : headerRule os ≡ accepted tt = sym (c .before .before .header .ensures .0) ∙ ap said (c .enum-told .given .1) in
     let k = accepted-header os h in
     let e = c .before .before .header .ensures .1 (omega (arith, k .long)) in
-    record { sound = sym (c .before .before .before .before .before .within .ensures) ∙ not-false _ (c .before .before .before .before .if1 .left); rule = h; header = k; states = e .0; transitions = e .1; position = e .2 }
+    record { sound = sym (c .before .before .before .before .before .before .within .ensures) ∙ not-false _ (c .before .before .before .before .before .if1 .left); rule = h; header = k; states = e .0; transitions = e .1; position = e .2 }
 
 states-requires : tie.Need-states-requires
 states-requires c κs =
     let h = head (c .before .before .before) in
-    omega (arith, h .header, h .states, h .transitions, h .position, sized (c .before .before .before .before .before .before .before .before .before .before) .marks)
+    omega (arith, h .header, h .states, h .transitions, h .position, sized (c .before .before .before .before .before .before .before .before .before .before .before) .marks)
 
 enum-known-marked : tie.Need-enum-known-marked
 enum-known-marked c = search needs
@@ -117,7 +117,7 @@ refuse-requires-3 c κs = search needs
 
 returns-3 : tie.Need-returns-3
 returns-3 c =
-    let a = c .before .before .before .before .before .before .before .before .before .before .before .before .before .before .before .args in
+    let a = c .before .before .before .before .before .before .before .before .before .before .before .before .before .before .before .before .args in
     let h = head (c .before .before .before .before .before .before .before .before) in
     let n = c .before .before .before .before .before .before .before .before .before .before .header .result .states in
     let r = c .before .before .marked .given .0 .0 in
@@ -131,12 +131,12 @@ enum-told-2 c = search needs
 transitions-requires : tie.Need-transitions-requires
 transitions-requires c κs =
     let z = sized (c .before .before .before .before .before .before .before .before .before .before .before .before .before .before .before .before .before .before .before .before .before .before) in
-    let h = head (c .before .before .before .before .before .before .before .before .before .before .before .before .before .before .before) in
-    let e = c .before .before .before .before .before .before .before .before .before .before .before .states .ensures .2 (c .before .before .before .before .before .before .before .before .before .enum-told2 .given .1) in
+    let h = head (c .before .before .before .before .before .before .before .before .before .before .before .before .before .before) in
+    let e = c .before .before .before .before .before .before .before .before .before .before .states .ensures .2 (c .before .before .before .before .before .before .before .before .enum-told2 .given .1) in
     omega (arith, h .header, h .states, h .transitions, e, z .from, z .to, z .low, z .high)
 
 -- the states are accepted as the array has them
-marked : (c : tie.After-enum-told2) → statesIn (c .before .before .before .before .before .before .before .before .before .before .before .before .before .args .octets .now) (c .before .before .before .before .before .before .before .before .header .result .states) ≡ accepted (statesOf (c .before .before .before .before .before .before .before .before .header .result .states) (c .before .before .states .last .1 .1 .1 .0))
+marked : (c : tie.After-enum-told2) → statesIn (c .before .before .before .before .before .before .before .before .before .before .before .before .before .before .args .octets .now) (c .before .before .before .before .before .before .before .before .header .result .states) ≡ accepted (statesOf (c .before .before .before .before .before .before .before .before .header .result .states) (c .before .before .states .last .1 .1 .1 .0))
 marked c = sym (c .before .before .states .ensures .0) ∙ ap (λ (x : Answer). outcome x (statesOf (c .before .before .before .before .before .before .before .before .header .result .states) (c .before .before .states .last .1 .1 .1 .0))) (c .enum-told2 .given .1)
 
 enum-told-3 : tie.Need-enum-told-3
@@ -155,31 +155,31 @@ returns-4 : tie.Need-returns-4
 unfolding view
 returns-4 c =
     let a = c .before .before .before .before .before .before .before .before .before .before .before .before .before .before .before .before .before .before .before .before .before .before .before .before .before .before .args in
-    let n = c .before .before .before .before .before .before .before .before .before .before .before .before .before .before .before .before .before .before .before .before .before .header .result .states in
-    let m = c .before .before .before .before .before .before .before .before .before .before .before .before .before .before .before .before .before .before .before .before .before .header .result .transitions in
+    let n = c .before .before .before .before .before .before .before .before .before .before .before .before .before .before .before .before .before .before .before .before .header .result .states in
+    let m = c .before .before .before .before .before .before .before .before .before .before .before .before .before .before .before .before .before .before .before .before .header .result .transitions in
     let e = c .before .before .before .transitions .ensures in
     let l = c .before .before .before .transitions .last in
-    let ms = statesOf n (c .before .before .before .before .before .before .before .before .before .before .before .before .before .before .before .states .last .1 .1 .1 .0) in
+    let ms = statesOf n (c .before .before .before .before .before .before .before .before .before .before .before .before .before .before .states .last .1 .1 .1 .0) in
     let ts = transitionsOf m (l .1 .1 .1 .1 .0) (l .1 .1 .1 .1 .1 .0) (l .1 .1 .1 .1 .1 .1 .0) (l .1 .1 .1 .1 .1 .1 .1 .0) in
     let t : transitionsIn (a .octets .now) n m ≡ accepted ts = sym (e .0) ∙ ap (λ (x : Answer). outcome x ts) (c .before .enum-told3 .given .1) in
     rw (c .accept .ensures)
     (acceptance (a .plan) _ (readRule (view (a .plan)) (a .octets .now)) (record { stateList = ms; transitions = ts })
-    (by-both (a .plan) (a .octets .now) n m _ (head (c .before .before .before .before .before .before .before .before .before .before .before .before .before .before .before .before .before .before .before)) ms ts (marked (c .before .before .before .before .before .before .before .before .before .before .before .before .before)) t)
+    (by-both (a .plan) (a .octets .now) n m _ (head (c .before .before .before .before .before .before .before .before .before .before .before .before .before .before .before .before .before .before)) ms ts (marked (c .before .before .before .before .before .before .before .before .before .before .before .before)) t)
     refl
-    (record { marks = c .before .before .before .before .before .before .before .before .before .before .before .before .before .before .before .states .ensures .1; from = e .1; to = e .2; low = e .3; high = e .4 }))
+    (record { marks = c .before .before .before .before .before .before .before .before .before .before .before .before .before .before .states .ensures .1; from = e .1; to = e .2; low = e .3; high = e .4 }))
 
 returns-5 : tie.Need-returns-5
 returns-5 c =
     let a = c .before .before .before .before .before .before .before .before .before .before .before .before .before .before .before .before .before .before .before .before .before .before .before .before .before .before .before .args in
-    let n = c .before .before .before .before .before .before .before .before .before .before .before .before .before .before .before .before .before .before .before .before .before .before .header .result .states in
-    let m = c .before .before .before .before .before .before .before .before .before .before .before .before .before .before .before .before .before .before .before .before .before .before .header .result .transitions in
+    let n = c .before .before .before .before .before .before .before .before .before .before .before .before .before .before .before .before .before .before .before .before .before .header .result .states in
+    let m = c .before .before .before .before .before .before .before .before .before .before .before .before .before .before .before .before .before .before .before .before .before .header .result .transitions in
     let r = c .before .before .listed .given .0 .0 in
     let l = c .before .before .before .before .transitions .last in
     let ts = transitionsOf m (l .1 .1 .1 .1 .0) (l .1 .1 .1 .1 .1 .0) (l .1 .1 .1 .1 .1 .1 .0) (l .1 .1 .1 .1 .1 .1 .1 .0) in
     let t : transitionsIn (a .octets .now) n m ≡ refused (number r) = sym (c .before .before .before .before .transitions .ensures .0) ∙ ap (λ (x : Answer). outcome x ts) (c .before .before .listed .given .1) in
     rw (c .refuse4 .ensures)
     (refusal (a .plan) (readRule (view (a .plan)) (a .octets .now)) r
-    (by-transitions (a .plan) (a .octets .now) n m _ (head (c .before .before .before .before .before .before .before .before .before .before .before .before .before .before .before .before .before .before .before .before)) (statesOf n (c .before .before .before .before .before .before .before .before .before .before .before .before .before .before .before .before .states .last .1 .1 .1 .0)) (number r) (marked (c .before .before .before .before .before .before .before .before .before .before .before .before .before .before)) t))
+    (by-transitions (a .plan) (a .octets .now) n m _ (head (c .before .before .before .before .before .before .before .before .before .before .before .before .before .before .before .before .before .before .before)) (statesOf n (c .before .before .before .before .before .before .before .before .before .before .before .before .before .before .before .states .last .1 .1 .1 .0)) (number r) (marked (c .before .before .before .before .before .before .before .before .before .before .before .before .before)) t))
 
 pub read-spec : {M : Type 1} → statement M
 read-spec =
