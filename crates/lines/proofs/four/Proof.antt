@@ -31,7 +31,11 @@ part-line-end c = search needs
 
 -- src/lib.rt:54:9
 line-requires : tie.Need-line-requires
-line-requires c κs = search needs
+unfolding octets
+line-requires c κs =
+    let s = c .before .before .before .before .before .before .before .before .before .before .before .pre in
+    let w = cut-length 0 (c .before .before .before .before .before .before .before .before .before .before .before .args .walks .now) (omega (arith, s .1)) in
+    ((omega (arith, w, s .0 .least-delay .0), s .0 .least-delay .0, omega (arith, s .0 .least-delay .1)), omega (arith, s .2))
 
 -- src/lib.rt:55:33
 slice-aggregate-line-2 : tie.Need-slice-aggregate-line-2
@@ -51,7 +55,14 @@ part-line-end-2 c = search needs
 
 -- src/lib.rt:55:9
 line-requires-2 : tie.Need-line-requires-2
-line-requires-2 c κs = search needs
+unfolding octets
+line-requires-2 c κs =
+    let s = c .before .before .before .before .before .before .before .before .before .before .before .before .before .before .before .before .before .pre in
+    let w = cut-length 512 (c .before .before .before .before .before .before .before .before .before .before .before .before .before .before .before .before .before .args .walks .now) (omega (arith, s .1)) in
+    let x = c .before .before .before .before .before .line .ensures in
+    let k = line-kept 3108 (x .0) (x .1) (omega (arith, s .2)) in
+    let a = line-end 3108 (x .0) (x .1) in
+    ((omega (arith, w, s .0 .greatest-delay .0), s .0 .greatest-delay .0, omega (arith, s .0 .greatest-delay .1)), omega (arith, s .2, k, a))
 
 -- src/lib.rt:56:35
 slice-aggregate-line-3 : tie.Need-slice-aggregate-line-3
@@ -71,7 +82,17 @@ part-line-end-3 c = search needs
 
 -- src/lib.rt:56:9
 line-requires-3 : tie.Need-line-requires-3
-line-requires-3 c κs = search needs
+unfolding octets
+line-requires-3 c κs =
+    let s = c .before .before .before .before .before .before .before .before .before .before .before .before .before .before .before .before .before .before .before .before .before .before .before .pre in
+    let w = cut-length 1024 (c .before .before .before .before .before .before .before .before .before .before .before .before .before .before .before .before .before .before .before .before .before .before .before .args .walks .now) (omega (arith, s .1)) in
+    let x = c .before .before .before .before .before .before .before .before .before .before .before .line .ensures in
+    let y = c .before .before .before .before .before .line2 .ensures in
+    let k = line-kept 3108 (x .0) (x .1) (omega (arith, s .2)) in
+    let a = line-end 3108 (x .0) (x .1) in
+    let l = line-kept 3111 (y .0) (y .1) (omega (arith, s .2, k, a)) in
+    let b = line-end 3111 (y .0) (y .1) in
+    ((omega (arith, w, s .0 .least-count .0), s .0 .least-count .0, omega (arith, s .0 .least-count .1)), omega (arith, s .2, k, l, a, b))
 
 -- src/lib.rt:60:9
 slice-aggregate-line-4 : tie.Need-slice-aggregate-line-4
