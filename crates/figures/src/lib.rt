@@ -6,11 +6,12 @@ ghost use Rattle.rules.specs.Quotations.{meant};
 ghost use Rattle.costs.specs.Scaled.{divided};
 ghost use Rattle.search.specs.Arrays.{Ends};
 ghost use Rattle.search.specs.Chain.{Chains};
-ghost use Rattle.greatest_search.specs.Explored.{table, Reached};
+ghost use Rattle.reach.specs.Explored.{table, Reached};
 ghost use Rattle.figures.specs.Figures.{Lent, LeastDelayOf, GreatestDelayOf, LeastCountOf, GreatestCountOf, LeastOf, GreatestOf};
-use greatest_search::Reach;
 use greatest_search::greatest;
 use least_search::least;
+use reach::Reach;
+use reach::explore;
 use rules::Figure;
 use rules::Pair;
 use rules::Quote;
@@ -274,7 +275,7 @@ pub fn greatest(
     let mut stack = [0u16; 512];
     let mut order = [0u16; 512];
     let mut via = [0u16; 512];
-    let found = greatest::reach(
+    let found = explore::reach(
         n,
         m,
         marks,

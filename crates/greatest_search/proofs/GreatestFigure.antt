@@ -26,13 +26,14 @@ use Rattle.graph.proofs.Certificate.{FallingRank, GreatestValues, Choices, Choi
 use Rattle.graph.proofs.Repeat.{nth, Apart}
 use Rattle.search.specs.Arrays.{at, finalMark, StartIn, FinalIn, UnfinishedIn, Leaves, Ends, Holds}
 use Rattle.arrays.specs.Tables.{costOf}
-use Rattle.greatest_search.specs.Explored.{Table, Loop, Ranked, Rooted, NoDeadEnd, DeadEndAt}
+use Rattle.reach.specs.Explored.{Table, Loop, Ranked, Rooted, NoDeadEnd, DeadEndAt}
 use Rattle.search.specs.Sizes.{heaviest}
 use Rattle.search.specs.Quoted.{Quoted}
 use Rattle.search.specs.Route.{Accounts, along, Steps, Leading, Traced}
-use Rattle.greatest_search.specs.Tree.{Rising, up, Climbs, Climbed}
+use Rattle.reach.specs.Tree.{Rising, up, Climbs, Climbed}
 use Rattle.greatest_search.specs.Values.{Ordered, Valued, Farthest}
-use Rattle.greatest_search.proofs.Climbing.{climbed-along, climbed-steps}
+use Rattle.reach.proofs.Hunting.{onward-lower}
+use Rattle.reach.proofs.Climbing.{climbed-along, climbed-steps}
 use Rattle.search.proofs.Held.{held-final, held-start, begins-in, final-in, departs, leaves, dead-end, leads, held-walk, held-arrival}
 use Rattle.search.proofs.Held.{held-different}
 
@@ -86,10 +87,9 @@ module _ (n m : ℕ) (marks from to′ : List ℕ) (ends : Ends n m from to′) 
   -- ---- 2
 
   module _ (done : ℕ) (r : Ranked n m marks from to′ a done) where
-    -- where an entered state's transition leads: a final state, or an entered one of lower rank
-    pub lower : (s t : ℕ) → s < n → 0 < at (a .rank) s → Leaves m from s t → UnfinishedIn marks (at to′ t)
+    lower : (s t : ℕ) → s < n → 0 < at (a .rank) s → Leaves m from s t → UnfinishedIn marks (at to′ t)
         → (0 < at (a .rank) (at to′ t)) × (at (a .rank) (at to′ t) < at (a .rank) s)
-    lower s t h p l u = ⊎-elim (λ f. absurd (true≢false (sym f ∙ u))) (λ w. w) (r .onward s h p t l)
+    lower = onward-lower n m marks from to′ a done r
 
     pub rising : Rising n m from (a .rank) (a .via)
     rising s h p = (most, go (r .origin s h p))

@@ -1,3 +1,1 @@
-pub mod Explored
-pub mod Tree
 pub mod Values

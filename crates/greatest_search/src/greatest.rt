@@ -8,16 +8,14 @@ ghost use mathlib.Core.List.{List};
 ghost use Rattle.search.specs.Arrays.{at, StartIn, Ends, Holds};
 ghost use Rattle.arrays.specs.Tables.{costOf};
 ghost use Rattle.search.specs.Chain.{Chains};
-ghost use Rattle.greatest_search.specs.Explored.{table, Sized, Ranked, NoDeadEnd, Reached};
+ghost use Rattle.reach.specs.Explored.{table, Sized, Ranked, NoDeadEnd, Reached};
 ghost use Rattle.search.specs.Sizes.{far, heaviest};
 ghost use Rattle.rules.specs.Quotations.{meant};
 ghost use Rattle.search.specs.Quoted.{Quoted};
 ghost use Rattle.greatest_search.specs.Values.{Largest, Ordered, Valued, Farthest};
-use crate::Reach;
-use crate::explore;
-use crate::hunt;
-use crate::tree;
 use arrays::limits::wide;
+use reach::Reach;
+use reach::tree;
 use rules::Figure;
 use rules::Quote;
 use search::is_start;
@@ -97,50 +95,6 @@ fn farthest_start(n: usize, marks: &[u8; 512], value: &[u32; 512]) -> usize
         s += 1;
     }
     best
-}
-
-// What the starts reach: no start, a loop, a dead end, or neither. The arrays of the search are zero before it.
-pub fn reach(
-    n: usize,
-    m: usize,
-    marks: &[u8; 512],
-    from: &[u16; 2048],
-    to: &[u16; 2048],
-    head: &[u16; 512],
-    link: &[u16; 2048],
-    rank: &mut [u16; 512],
-    cursor: &mut [u16; 512],
-    stack: &mut [u16; 512],
-    order: &mut [u16; 512],
-    via: &mut [u16; 512],
-) -> Reach
-    requires { ⌜ Ends n m (now from) (now to) × Chains (now from) m (now head) (now link) × ((s : ℕ) → at (now rank) s ≡ 0) ⌝ }
-    requires { ⌜ Sized (table (now rank) (now cursor) (now stack) (now order) (now via)) ⌝ }
-    ensures { λ r. ⌜ Reached n m (now (marks .entry)) (now (from .entry)) (now (to .entry))
-        (table (now (rank .exit)) (now (cursor .exit)) (now (stack .exit)) (now (order .exit)) (now (via .exit))) r ⌝ }
-{
-    let found = explore::explore(
-        n,
-        m,
-        marks,
-        from,
-        to,
-        head,
-        link,
-        rank,
-        cursor,
-        stack,
-        order,
-        via,
-    );
-    let Reach::Ends(left) = found else {
-        return found;
-    };
-    let dead = hunt::hunt(n, m, marks, from, to, head, link, rank, via);
-    if dead < 512 {
-        return Reach::DeadEnd(dead);
-    }
-    Reach::Ends(left)
 }
 
 // The greatest cost of a route, where neither a loop nor a dead end is reached, and a route that attains it.

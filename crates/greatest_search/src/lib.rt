@@ -1,21 +1,2 @@
-// The search for the greatest cost of a route over lent arrays, any cost, with the walk that shows it: one depth-first search, the hunt for a dead
-// end, and values in the order of leaving.
-pub mod explore;
+// The greatest cost of a route over lent arrays, any cost, from what the starts reach, with the walk that shows it: values in the order of leaving.
 pub mod greatest;
-pub mod hunt;
-pub mod tree;
-
-// What the search from the starts found: no start; a loop, from a stack of so many states back to a place on it; a dead end; or neither, with so
-// many states left.
-pub enum Reach {
-    NoStart,
-    Looped(usize, usize),
-    DeadEnd(usize),
-    Ends(usize),
-}
-
-// A turn of the search: on with so many states on the stack and so many left, or back to a place on the stack.
-pub enum Turn {
-    On(usize, usize),
-    Back(usize),
-}

@@ -14,8 +14,8 @@ ghost use Rattle.rules.specs.Limits.{within as withinLimits};
 ghost use Rattle.rules.specs.Quotations.{Stated};
 ghost use Rattle.quotation.specs.Costs.{Least, Greatest};
 ghost use mathlib.Core.Bool.{true};
-use greatest_search::greatest;
 use plan::Plan;
+use reach::explore;
 use rules::Answer;
 use rules::FourQuotes;
 use rules::Quotation;
@@ -110,7 +110,7 @@ fn greatest(plan: Plan, cost: Cost, walk: &mut [u16]) -> Quote
     let mut stack = [0u16; 512];
     let mut order = [0u16; 512];
     let mut via = [0u16; 512];
-    let found = greatest::reach(
+    let found = explore::reach(
         n,
         m,
         &marks,

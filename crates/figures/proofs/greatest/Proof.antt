@@ -17,7 +17,7 @@ use Rattle.figures.proofs.greatest.Reads as reads
 use Rattle.figures.proofs.greatest.Lts as lts
 use Rattle.figures.proofs.greatest_count.Reads as greatest-count-reads
 use Rattle.figures.proofs.greatest_delay.Reads as greatest-delay-reads
-use Rattle.greatest_search.proofs.greatest.reach.Reads as reach-reads
+use Rattle.reach.proofs.explore.reach.Reads as reach-reads
 
 -- src/lib.rt:277:9
 reach-requires : tie.Need-reach-requires

@@ -14,7 +14,7 @@ use Rattle.quotation.proofs.greatest.Reads as reads
 use Rattle.quotation.proofs.greatest.Lts as lts
 use Rattle.figures.proofs.greatest_count.Reads as greatest-count-reads
 use Rattle.figures.proofs.greatest_delay.Reads as greatest-delay-reads
-use Rattle.greatest_search.proofs.greatest.reach.Reads as reach-reads
+use Rattle.reach.proofs.explore.reach.Reads as reach-reads
 use Rattle.search.proofs.chain.chains.Reads as chains-reads
 
 -- src/lib.rt:107:5

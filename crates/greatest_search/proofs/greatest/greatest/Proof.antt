@@ -14,7 +14,7 @@ use lib.Seq.{getD-set-same, getD-set-other}
 use borrow.Author.Needs.{needs}
 use Rattle.greatest_search.proofs.GreatestFigure.{loop-shown, rising, falling, dead-end-shown}
 use Rattle.search.proofs.Held.{begins-in}
-use Rattle.greatest_search.specs.Explored.{table}
+use Rattle.reach.specs.Explored.{table}
 use Rattle.search.specs.Arrays.{at}
 use Rattle.arrays.specs.Tables.{costOf}
 use Rattle.graph.proofs.Certificate.{greatest-endless, greatest-stranded}
@@ -23,8 +23,8 @@ use Rattle.greatest_search.proofs.greatest.greatest.Tie as tie
 use Rattle.greatest_search.proofs.greatest.greatest.Reads as reads
 use Rattle.greatest_search.proofs.greatest.greatest.Lts as lts
 use Rattle.greatest_search.proofs.greatest.number.Reads as number-reads
-use Rattle.greatest_search.proofs.tree.along_stack.Reads as along-stack-reads
-use Rattle.greatest_search.proofs.tree.climb.Reads as climb-reads
+use Rattle.reach.proofs.tree.along_stack.Reads as along-stack-reads
+use Rattle.reach.proofs.tree.climb.Reads as climb-reads
 
 -- src/greatest.rt:191:43
 enum-told : tie.Need-enum-told

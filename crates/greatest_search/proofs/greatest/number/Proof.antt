@@ -14,7 +14,7 @@ use lib.Seq.{getD-set-same, getD-set-other}
 use borrow.Author.Needs.{needs}
 use Rattle.greatest_search.proofs.GreatestFigure.{ordered, leading, start-inside, number-shown}
 use Rattle.search.specs.Sizes.{far, heaviest}
-use Rattle.greatest_search.specs.Explored.{table}
+use Rattle.reach.specs.Explored.{table}
 use Rattle.search.specs.Arrays.{at}
 use Rattle.greatest_search.proofs.greatest.number.Statement.{statement}
 use Rattle.greatest_search.proofs.greatest.number.Tie as tie

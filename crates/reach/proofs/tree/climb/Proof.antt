@@ -13,15 +13,15 @@ use lib.Dec.{ltb, leb, eqb}
 use lib.ListN.{length, getD, set, take, drop, length-set}
 use lib.Seq.{getD-set-same, getD-set-other}
 use lib.Seq.{drop-set-lt}
-use Rattle.greatest_search.proofs.Climbing.{Writing, writing-turn}
-use Rattle.greatest_search.specs.Tree.{up}
+use Rattle.reach.proofs.Climbing.{Writing, writing-turn}
+use Rattle.reach.specs.Tree.{up}
 use Rattle.search.specs.Arrays.{at}
-use Rattle.greatest_search.proofs.tree.climb.Statement.{statement}
-use Rattle.greatest_search.proofs.tree.climb.Tie as tie
-use Rattle.greatest_search.proofs.tree.climb.Reads as reads
-use Rattle.greatest_search.proofs.tree.climb.Lts as lts
+use Rattle.reach.proofs.tree.climb.Statement.{statement}
+use Rattle.reach.proofs.tree.climb.Tie as tie
+use Rattle.reach.proofs.tree.climb.Reads as reads
+use Rattle.reach.proofs.tree.climb.Lts as lts
 use Rattle.arrays.proofs.limits.wide.Reads as wide-reads
-use Rattle.greatest_search.proofs.tree.height.Reads as height-reads
+use Rattle.reach.proofs.tree.height.Reads as height-reads
 
 abbrev Inv-loop : tie.InvT-loop
 Inv-loop s n m from rank via walk₀ k x₀ i₀ walk x i = (i ≤ k) × (length walk ≡ length walk₀) × (x ≡ up from via s (k - i)) × Writing from via s k i walk × (drop k walk ≡ drop k walk₀)

@@ -3,7 +3,7 @@ ghost use mathlib.Core.Path.{_≡_};
 ghost use Prim.Native.Nat.{ℕ, _≤_, _<_};
 ghost use Rattle.search.specs.Arrays.{at, UnfinishedIn, Ends};
 ghost use Rattle.search.specs.Chain.{Chains};
-ghost use Rattle.greatest_search.specs.Explored.{Rooted, Hunted};
+ghost use Rattle.reach.specs.Explored.{Rooted, Hunted};
 use arrays::limits::wide;
 use search::is_final;
 

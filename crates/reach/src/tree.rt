@@ -3,7 +3,7 @@ ghost use mathlib.Core.Path.{_≡_};
 ghost use Prim.Native.Nat.{ℕ, _≤_, _<_};
 ghost use lib.ListN.{length, drop};
 ghost use Rattle.search.specs.Arrays.{at, Ends};
-ghost use Rattle.greatest_search.specs.Tree.{Rising, up, Climbs, Climbed};
+ghost use Rattle.reach.specs.Tree.{Rising, up, Climbs, Climbed};
 use arrays::limits::wide;
 
 // Writes the cursors of the d states on the stack to the front of the places.

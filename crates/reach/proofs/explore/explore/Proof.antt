@@ -8,11 +8,11 @@ use native.Mathlib.Omega.{arith}
 use borrow.Author.Needs.{needs}
 use borrow.Author.Tests.{not-true, not-false}
 use Rattle.search.specs.Arrays.{at, StartIn}
-use Rattle.greatest_search.specs.Explored.{table}
-use Rattle.greatest_search.specs.declared.Reach.the-variants.{Ends as Over}
-use Rattle.greatest_search.proofs.Searched.{Exploring, exploring-none, exploring-more, explored-ends, explored-early}
-use Rattle.greatest_search.proofs.explore.explore.Statement.{statement}
-use Rattle.greatest_search.proofs.explore.explore.Tie as tie
+use Rattle.reach.specs.Explored.{table}
+use Rattle.reach.specs.declared.Reach.the-variants.{Ends as Over}
+use Rattle.reach.proofs.Searched.{Exploring, exploring-none, exploring-more, explored-ends, explored-early}
+use Rattle.reach.proofs.explore.explore.Statement.{statement}
+use Rattle.reach.proofs.explore.explore.Tie as tie
 
 abbrev Inv-loop : tie.InvT-loop
 Inv-loop n m marks from to head link rank₀ cursor₀ stack₀ order₀ via₀ any₀ left₀ s₀ rank cursor stack order via any left s =

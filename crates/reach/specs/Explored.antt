@@ -10,10 +10,10 @@ use mathlib.Core.Path.{_≡_}
 use Prim.Native.Nat.{ℕ, zero, suc, _+_, _-_, _≤_, _<_}
 use lib.Dec.{eqb, ltb}
 use lib.ListN.{length}
-use Rattle.greatest_search.specs.declared.Turn.{Turn}
-use Rattle.greatest_search.specs.declared.Turn.the-variants.{On, Back}
-use Rattle.greatest_search.specs.declared.Reach.{Reach}
-use Rattle.greatest_search.specs.declared.Reach.the-variants.{NoStart, Looped, DeadEnd, Ends}
+use Rattle.reach.specs.declared.Turn.{Turn}
+use Rattle.reach.specs.declared.Turn.the-variants.{On, Back}
+use Rattle.reach.specs.declared.Reach.{Reach}
+use Rattle.reach.specs.declared.Reach.the-variants.{NoStart, Looped, DeadEnd, Ends}
 use Rattle.search.specs.Arrays.{at, StartIn, FinalIn, UnfinishedIn, Leaves}
 use Rattle.search.specs.Sizes.{sumTo}
 

@@ -12,7 +12,7 @@ use lib.ListN.{length, set}
 use lib.Seq.{getD-set-same, getD-set-other}
 use Rattle.search.specs.Arrays.{at, UnfinishedIn, Leaves}
 use Rattle.search.specs.Route.{along, Steps}
-use Rattle.greatest_search.specs.Tree.{Rising, up, Climbs, Climbed}
+use Rattle.reach.specs.Tree.{Rising, up, Climbs, Climbed}
 use Rattle.arrays.proofs.Lists.{same-or-not, below-or-not}
 
 module _ (n m : ℕ) (from rank via : List ℕ) (s : ℕ) where

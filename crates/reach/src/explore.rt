@@ -5,9 +5,10 @@ ghost use Prim.Native.Nat.{ℕ, _+_, _≤_, _<_};
 ghost use lib.ListN.{set};
 ghost use Rattle.search.specs.Arrays.{at, StartIn, UnfinishedIn, Ends};
 ghost use Rattle.search.specs.Chain.{Chains};
-ghost use Rattle.greatest_search.specs.Explored.{table, Sized, Searching, Explored, Turned, Descended};
+ghost use Rattle.reach.specs.Explored.{table, Sized, Searching, Explored, Turned, Descended, Reached};
 use crate::Reach;
 use crate::Turn;
+use crate::hunt;
 use arrays::limits::wide;
 use search::is_final;
 use search::is_start;
@@ -195,4 +196,48 @@ pub fn explore(
     } else {
         Reach::NoStart
     }
+}
+
+// What the starts reach: no start, a loop, a dead end, or neither. The arrays of the search are zero before it.
+pub fn reach(
+    n: usize,
+    m: usize,
+    marks: &[u8; 512],
+    from: &[u16; 2048],
+    to: &[u16; 2048],
+    head: &[u16; 512],
+    link: &[u16; 2048],
+    rank: &mut [u16; 512],
+    cursor: &mut [u16; 512],
+    stack: &mut [u16; 512],
+    order: &mut [u16; 512],
+    via: &mut [u16; 512],
+) -> Reach
+    requires { ⌜ Ends n m (now from) (now to) × Chains (now from) m (now head) (now link) × ((s : ℕ) → at (now rank) s ≡ 0) ⌝ }
+    requires { ⌜ Sized (table (now rank) (now cursor) (now stack) (now order) (now via)) ⌝ }
+    ensures { λ r. ⌜ Reached n m (now (marks .entry)) (now (from .entry)) (now (to .entry))
+        (table (now (rank .exit)) (now (cursor .exit)) (now (stack .exit)) (now (order .exit)) (now (via .exit))) r ⌝ }
+{
+    let found = explore(
+        n,
+        m,
+        marks,
+        from,
+        to,
+        head,
+        link,
+        rank,
+        cursor,
+        stack,
+        order,
+        via,
+    );
+    let Reach::Ends(left) = found else {
+        return found;
+    };
+    let dead = hunt::hunt(n, m, marks, from, to, head, link, rank, via);
+    if dead < 512 {
+        return Reach::DeadEnd(dead);
+    }
+    Reach::Ends(left)
 }

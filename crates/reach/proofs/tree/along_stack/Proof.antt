@@ -14,10 +14,10 @@ use lib.ListN.{length, getD, set, take, drop, length-set}
 use lib.Seq.{getD-set-same, getD-set-other}
 use lib.Seq.{drop-set-lt}
 use Rattle.search.specs.Arrays.{at}
-use Rattle.greatest_search.proofs.tree.along_stack.Statement.{statement}
-use Rattle.greatest_search.proofs.tree.along_stack.Tie as tie
-use Rattle.greatest_search.proofs.tree.along_stack.Reads as reads
-use Rattle.greatest_search.proofs.tree.along_stack.Lts as lts
+use Rattle.reach.proofs.tree.along_stack.Statement.{statement}
+use Rattle.reach.proofs.tree.along_stack.Tie as tie
+use Rattle.reach.proofs.tree.along_stack.Reads as reads
+use Rattle.reach.proofs.tree.along_stack.Lts as lts
 use Rattle.arrays.proofs.limits.wide.Reads as wide-reads
 
 abbrev Inv-loop : tie.InvT-loop

@@ -29,10 +29,10 @@ use lib.Seq.{getD-set-same, getD-set-other, getD-take, length-take-le}
 use Rattle.graph.proofs.Repeat.{Apart, nth-snoc, Snoc, different-take, different-snoc, different-length}
 use Rattle.search.specs.Arrays.{at, StartIn, FinalIn, UnfinishedIn, Leaves, Ends}
 use Rattle.search.specs.Chain.{First, Chains}
-use Rattle.greatest_search.specs.declared.Turn.the-variants.{On}
-use Rattle.greatest_search.specs.declared.Reach.{Reach}
-use Rattle.greatest_search.specs.declared.Reach.the-variants.{NoStart, Looped, DeadEnd, Ends as Over}
-use Rattle.greatest_search.specs.Explored.{Table, Sized, Grown, table, Placed, Origin, Searching, Loop, Ranked, Explored, Turned, Descended, toDo, workIn}
+use Rattle.reach.specs.declared.Turn.the-variants.{On}
+use Rattle.reach.specs.declared.Reach.{Reach}
+use Rattle.reach.specs.declared.Reach.the-variants.{NoStart, Looped, DeadEnd, Ends as Over}
+use Rattle.reach.specs.Explored.{Table, Sized, Grown, table, Placed, Origin, Searching, Loop, Ranked, Explored, Turned, Descended, toDo, workIn}
 use Rattle.search.proofs.Places.{at-set, sum-falls}
 use Rattle.arrays.proofs.Lists.{same-or-not, below-or-not}
 use Rattle.search.proofs.Chained.{first-leaves, passed-none, first-passed, chain-rises}

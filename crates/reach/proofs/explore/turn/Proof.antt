@@ -6,10 +6,10 @@ use native.Mathlib.Omega.{arith}
 use borrow.Author.Needs.{needs}
 use borrow.Author.Tests.{not-true, not-false}
 use Rattle.search.specs.Arrays.{at, finalMark}
-use Rattle.greatest_search.specs.Explored.{Table, table}
-use Rattle.greatest_search.proofs.Searched.{AtTop, AtStep, top-below, leave-count, turn-leave, at-step, turn-pass, step-below, turn-enter, loop, turn-depth}
-use Rattle.greatest_search.proofs.explore.turn.Statement.{statement}
-use Rattle.greatest_search.proofs.explore.turn.Tie as tie
+use Rattle.reach.specs.Explored.{Table, table}
+use Rattle.reach.proofs.Searched.{AtTop, AtStep, top-below, leave-count, turn-leave, at-step, turn-pass, step-below, turn-enter, loop, turn-depth}
+use Rattle.reach.proofs.explore.turn.Statement.{statement}
+use Rattle.reach.proofs.explore.turn.Tie as tie
 
 -- the arrays of the search
 abbrev arrays : tie.Start → Table

@@ -14,13 +14,13 @@ use lib.ListN.{length, getD, set, take, drop, length-set}
 use lib.Seq.{getD-set-same, getD-set-other}
 use native.Mathlib.Nat.{le-refl}
 use native.Mathlib.Numerals.{add-one}
-use Rattle.greatest_search.proofs.Climbing.{Climbing, climbing-first, climbing-via, climbing-fits, climbing-turn, climbs}
-use Rattle.greatest_search.specs.Tree.{up}
+use Rattle.reach.proofs.Climbing.{Climbing, climbing-first, climbing-via, climbing-fits, climbing-turn, climbs}
+use Rattle.reach.specs.Tree.{up}
 use Rattle.search.specs.Arrays.{at}
-use Rattle.greatest_search.proofs.tree.height.Statement.{statement}
-use Rattle.greatest_search.proofs.tree.height.Tie as tie
-use Rattle.greatest_search.proofs.tree.height.Reads as reads
-use Rattle.greatest_search.proofs.tree.height.Lts as lts
+use Rattle.reach.proofs.tree.height.Statement.{statement}
+use Rattle.reach.proofs.tree.height.Tie as tie
+use Rattle.reach.proofs.tree.height.Reads as reads
+use Rattle.reach.proofs.tree.height.Lts as lts
 use Rattle.arrays.proofs.limits.wide.Reads as wide-reads
 
 abbrev Inv-loop : tie.InvT-loop

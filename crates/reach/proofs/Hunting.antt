@@ -1,16 +1,22 @@
 -- The hunt for a dead end. A state is looked at (`Looked`) when it has a transition itself, if it was entered as a start, and when each unfinished
 -- state that its transitions lead to has one. A state that was entered is a start, or a transition leads to it from a state that was entered: so
 -- when all were looked at, none is a dead end (`hunted-none`). Assumes nothing.
+use mathlib.Core.Bool.{true≢false}
 use mathlib.Core.List.{List}
-use mathlib.Core.Logic.{_⊎_, inl, inr}
+use mathlib.Core.Logic.{_⊎_, inl, inr, ⊎-elim}
 use mathlib.Core.Path.{_≡_, refl, sym, ap, _∙_}
 use Prim.Native.Nat.{ℕ, zero, suc, _≤_, _<_}
 use native.Mathlib.Omega.{arith}
 use Rattle.search.specs.Arrays.{at, StartIn, UnfinishedIn, Ends, Leaves}
 use Rattle.search.specs.Chain.{First, Chains}
-use Rattle.greatest_search.specs.declared.Reach.{Reach}
-use Rattle.greatest_search.specs.declared.Reach.the-variants.{NoStart, Looped, DeadEnd, Ends as Over}
-use Rattle.greatest_search.specs.Explored.{Table, Rooted, NoDeadEnd, Explored, Reached}
+use Rattle.reach.specs.declared.Reach.{Reach}
+use Rattle.reach.specs.declared.Reach.the-variants.{NoStart, Looped, DeadEnd, Ends as Over}
+use Rattle.reach.specs.Explored.{Table, Rooted, NoDeadEnd, Explored, Ranked, Reached}
+
+-- where an entered state's transition leads: a final state, or an entered one of lower rank
+pub onward-lower : (n m : ℕ) (marks from to : List ℕ) (a : Table) (done : ℕ) → Ranked n m marks from to a done → (s t : ℕ) → s < n → 0 < at (a .rank) s
+    → Leaves m from s t → UnfinishedIn marks (at to t) → (0 < at (a .rank) (at to t)) × (at (a .rank) (at to t) < at (a .rank) s)
+onward-lower n m marks from to a done r s t h p l u = ⊎-elim (λ f. absurd (true≢false (sym f ∙ u))) (λ w. w) (r .onward s h p t l)
 
 module _ (m : ℕ) (marks from to head via : List ℕ) where
   -- a transition to an unfinished state that has a transition

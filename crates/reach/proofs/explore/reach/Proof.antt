@@ -1,4 +1,4 @@
--- `search::greatest::reach` meets its contract: what the search found, and after its end what the hunt found. Assumes nothing.
+-- `reach::explore::reach` meets its contract: what the search found, and after its end what the hunt found. Assumes nothing.
 use Prim.Native.Nat.{ℕ, zero, suc, _+_, _-_, _*_, _≤_, _<_}
 use mathlib.Core.Bool.{Bool, true, false, not}
 use mathlib.Core.List.{List, [], _∷_, _++_}
@@ -12,16 +12,15 @@ use lib.Dec.{ltb, leb, eqb}
 use lib.ListN.{length, getD, set, take, drop, length-set}
 use lib.Seq.{getD-set-same, getD-set-other}
 use borrow.Author.Needs.{needs}
-use Rattle.greatest_search.proofs.Hunting.{reached-early}
-use Rattle.greatest_search.proofs.GreatestFigure.{lower}
-use Rattle.greatest_search.specs.declared.Reach.the-variants.{Ends as Over}
-use Rattle.greatest_search.specs.Explored.{table}
-use Rattle.greatest_search.proofs.greatest.reach.Statement.{statement}
-use Rattle.greatest_search.proofs.greatest.reach.Tie as tie
-use Rattle.greatest_search.proofs.greatest.reach.Reads as reads
-use Rattle.greatest_search.proofs.greatest.reach.Lts as lts
-use Rattle.greatest_search.proofs.explore.explore.Reads as explore-reads
-use Rattle.greatest_search.proofs.hunt.hunt.Reads as hunt-reads
+use Rattle.reach.proofs.Hunting.{onward-lower, reached-early}
+use Rattle.reach.specs.declared.Reach.the-variants.{Ends as Over}
+use Rattle.reach.specs.Explored.{table}
+use Rattle.reach.proofs.explore.reach.Statement.{statement}
+use Rattle.reach.proofs.explore.reach.Tie as tie
+use Rattle.reach.proofs.explore.reach.Reads as reads
+use Rattle.reach.proofs.explore.reach.Lts as lts
+use Rattle.reach.proofs.explore.explore.Reads as explore-reads
+use Rattle.reach.proofs.hunt.hunt.Reads as hunt-reads
 
 -- src/greatest.rt:121:9
 explore-requires : tie.Need-explore-requires
@@ -51,7 +50,7 @@ hunt-requires c κs =
       (p .0 .0, p .0 .1),
       (
         (λ s h q. (r .unfinished s h q, r .origin s h q)),
-        (λ s y h q b e u. lower (a .n) (a .m) (a .marks .now) (a .from .now) (a .to .now) (p .0 .0) t _ r s y h q (record { listed = b; source = e }) u .0),
+        (λ s y h q b e u. onward-lower (a .n) (a .m) (a .marks .now) (a .from .now) (a .to .now) t _ r s y h q (record { listed = b; source = e }) u .0),
       ),
     )
 

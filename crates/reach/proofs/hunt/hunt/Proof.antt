@@ -16,13 +16,13 @@ use lib.Seq.{getD-set-same, getD-set-other}
 use mathlib.Core.Bool.{true≢false}
 use Rattle.search.proofs.Chained.{Passed, passed-none, first-passed, first-leaves, chain-rises, all-passed, head-below}
 use Rattle.search.specs.Arrays.{finalMark}
-use Rattle.greatest_search.proofs.Hunting.{Onward, Looked, none-leaves, hunted-none}
+use Rattle.reach.proofs.Hunting.{Onward, Looked, none-leaves, hunted-none}
 use Rattle.search.proofs.Chained.{Passed, passed-none, first-passed, first-leaves, chain-rises, all-passed, head-below}
 use Rattle.search.specs.Arrays.{at, UnfinishedIn}
-use Rattle.greatest_search.proofs.hunt.hunt.Statement.{statement}
-use Rattle.greatest_search.proofs.hunt.hunt.Tie as tie
-use Rattle.greatest_search.proofs.hunt.hunt.Reads as reads
-use Rattle.greatest_search.proofs.hunt.hunt.Lts as lts
+use Rattle.reach.proofs.hunt.hunt.Statement.{statement}
+use Rattle.reach.proofs.hunt.hunt.Tie as tie
+use Rattle.reach.proofs.hunt.hunt.Reads as reads
+use Rattle.reach.proofs.hunt.hunt.Lts as lts
 use Rattle.arrays.proofs.limits.wide.Reads as wide-reads
 use Rattle.search.proofs.is_final.Reads as is-final-reads
 

@@ -5,10 +5,10 @@ use mathlib.Core.Path.{_≡_}
 use native.Mathlib.Omega.{arith}
 use borrow.Author.Needs.{needs}
 use Rattle.search.specs.Arrays.{at}
-use Rattle.greatest_search.specs.Explored.{table, Sized, Grown, Searching, workIn}
-use Rattle.greatest_search.proofs.Searched.{Under, enter-start, enter-sized, enter-grown, enter-now}
-use Rattle.greatest_search.proofs.explore.descend.Statement.{statement}
-use Rattle.greatest_search.proofs.explore.descend.Tie as tie
+use Rattle.reach.specs.Explored.{table, Sized, Grown, Searching, workIn}
+use Rattle.reach.proofs.Searched.{Under, enter-start, enter-sized, enter-grown, enter-now}
+use Rattle.reach.proofs.explore.descend.Statement.{statement}
+use Rattle.reach.proofs.explore.descend.Tie as tie
 
 abbrev Inv-loop : tie.InvT-loop
 Inv-loop s n m done marks from to head link rank₀ cursor₀ stack₀ order₀ via₀ d₀ left₀ rank cursor stack order via d left =

@@ -1,0 +1,2 @@
+pub mod Explored
+pub mod Tree
