@@ -26,7 +26,7 @@ use Rattle.arrays.specs.Tables.{over}
 use Rattle.plan.specs.declared.Edited.{Edited}
 use Rattle.plan.specs.Promise.{Held}
 use Rattle.plan.specs.View.{view}
-use Rattle.plan.proofs.Holding.{held-within}
+use Rattle.plan.proofs.Holding.{held-within, held-plan}
 use Rattle.quotation.proofs.Small.{four-small}
 use Rattle.quotation.proofs.Together.{all-done, all-not-refused}
 use Rattle.binding.specs.Quoted.{numbersOf, fourNumbers, AllSmall, AllAnswered, canQuote, LentQuotes}
@@ -118,7 +118,7 @@ module _ (image walks out : List ℕ) where
     quotes-done walks′ out′ (AllQuoted q) r a x y = record {
       short = λ s. true-false (canQuote walks out) (enough h l) s;
       refusal = λ s k i. absurd (never tt k (sym (e .answer ∙ ap answerOf i) ∙ ap said a));
-      quoted = λ s g i. (y .0, record { quotes = q; stated = subst (λ (z : Graph). AllStated z q walks walks′) (e .plan g i) (x .quoted q refl); places = y .1 });
+      quoted = λ s g i. (y .0, record { quotes = q; stated = subst (λ (z : Graph). AllStated z q walks walks′) (held-plan image f e g i) (x .quoted q refl); places = y .1 });
     }
     quotes-done walks′ out′ (NoneQuoted k) r a x y =
         absurd (all-not-refused (view (f .plan)) walks walks′ (NoneQuoted k) k x refl (all-done (view (f .plan)) walks (held-within image f e a) h))

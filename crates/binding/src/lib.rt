@@ -1,7 +1,7 @@
-// The plan half for programs in other languages. A plan crosses as three lent slices: the two counts; the marks values, 512 places; and the
+// The calculator for programs in other languages. A plan crosses as three lent slices: the two counts; the marks values, 512 places; and the
 // transitions' fields, 2,048 places each for from, to, low and high. A call answers a refusal by its number, 256 for accepted, and 255 where a
 // lent slice is too short for a plan; write and record answer 256 plus the octets' number. A quotation answers in four more lent places: the
-// figure's kind (0 number, 1 NONE, 2 STRANDED, 3 ENDLESS) and number, k and j.
+// figure's kind (0 number, 1 NONE, 2 STRANDED, 3 ENDLESS) and number, k and j. One call takes no plan: an image in, its four figures out.
 ghost use mathlib.Core.Bool.{_&&_};
 ghost use mathlib.Core.Path.{_≡_};
 ghost use Prim.Native.Nat.{_+_, _≤_};

@@ -10,6 +10,7 @@ use Rattle.graph.specs.Graph.{Graph}
 use Rattle.plan.specs.declared.Edited.{Edited}
 use Rattle.plan.specs.Promise.{Held}
 use Rattle.plan.specs.View.{view}
+use Rattle.plan.proofs.Holding.{held-plan}
 use Rattle.rules.specs.declared.Answer.the-variants.{Accepted, Refused}
 use Rattle.rules.specs.declared.Refusal.{Refusal}
 use Rattle.rules.specs.Image.{readImage}
@@ -44,7 +45,7 @@ module _ (image : List ℕ) (f : Edited) (h : Held image f) where
     pub prints-figures : f .answer ≡ Accepted → FourLines (view (f .plan)) before after r → Printed image before after r
     prints-figures a q = record {
       refusal = λ k m e. absurd (never tt k (sym (h .answer ∙ ap answerOf e) ∙ ap said a));
-      figures = λ g m e. subst (λ (x : Graph). FourLines x before after r) (h .plan g e) q;
+      figures = λ g m e. subst (λ (x : Graph). FourLines x before after r) (held-plan image f h g e) q;
       short = λ m. absurd (omega arith);
       counts = put-counts (q .put);
     }

@@ -10,10 +10,10 @@ use Rattle.rules.specs.Calls.{Call, step}
 use Rattle.rules.specs.Image.{readImage}
 use Rattle.rules.specs.declared.Written.{Written}
 use Rattle.rules.specs.Refusal.{Result, accepted, refused, answerOf, said, wrote}
-use Rattle.rules.specs.Rules.{next, written}
+use Rattle.rules.specs.Rules.{freshRule, next, written}
 use Rattle.plan.specs.declared.Plan.{Plan}
 use Rattle.plan.specs.declared.Edited.{Edited}
-use Rattle.plan.specs.View.{view, laid}
+use Rattle.plan.specs.View.{view, laid, noPlan}
 
 -- what a call returns: a refusal with the plan as it was, or the plan that it made
 abbrev pub refusing : Plan → Refusal → Edited
@@ -34,10 +34,9 @@ pub record Edit (p : Plan) (o : Result Graph) (r : Edited) : Type 0 where
   pub plan : view (r .plan) ≡ next (view p) o
   pub whole : r .plan ≡ nextValue p o
 
--- what is read of an image into a fresh plan: its refusal, or the plan that it holds
-pub record Held (image : List ℕ) (r : Edited) : Type 0 where
-  pub answer : said (r .answer) ≡ answerOf (readImage image)
-  pub plan : (g : Graph) → readImage image ≡ accepted g → view (r .plan) ≡ g
+-- an image read into the plan that fresh makes of one state, which no ground of a plan refuses: an edit of that plan by the image's grounds alone
+abbrev pub Held : List ℕ → Edited → Type 0
+Held image r = Edit (nextValue noPlan (freshRule 1)) (readImage image) r
 
 -- a call that puts octets at the front of a lent buffer and for which the rules give o: its answer and the buffer afterwards are the rules'
 pub record Write (octets : List ℕ) (o : Result ℕ) (before after : List ℕ) (r : Written) : Type 0 where

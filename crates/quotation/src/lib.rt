@@ -1,4 +1,4 @@
-// The four quotations of a plan, and the record of its figures. Each call takes the plan by value, refuses bad input by its row of the table, and
+// The four quotations of a plan, one by one and all at once, and the record of its figures. Each call takes the plan by value, refuses bad input by its row of the table, and
 // writes the walk that it shows, or the record, to the front of a lent slice.
 ghost use mathlib.Core.List.{List};
 ghost use mathlib.Core.Path.{_≡_};
@@ -8,10 +8,9 @@ ghost use Rattle.rules.specs.Refusal.{said};
 ghost use Rattle.graph.specs.Figure.{value};
 ghost use Rattle.field.specs.Field.{Within, putAll};
 ghost use Rattle.plan.specs.Promise.{Write};
-ghost use Rattle.rules.specs.Quotations.{meant, figureFields, quotesFields, recordOctets, recordRule, quoteRule, Quotes, QuotesAll, LeastDelay, GreatestDelay, LeastCount, GreatestCount};
+ghost use Rattle.rules.specs.Quotations.{meant, figureFields, quotesFields, recordOctets, recordRule, quoteRule, Quotes, QuotesAll, Stated, LeastDelay, GreatestDelay, LeastCount, GreatestCount};
 ghost use Rattle.plan.specs.View.{view};
 ghost use Rattle.rules.specs.Limits.{within as withinLimits};
-ghost use Rattle.rules.specs.Quotations.{Stated};
 ghost use Rattle.quotation.specs.Costs.{Least, Greatest};
 ghost use mathlib.Core.Bool.{true};
 use plan::Plan;

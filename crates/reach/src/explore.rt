@@ -136,7 +136,7 @@ fn descend(
     Reach::Ends(left)
 }
 
-// Searches from every start. The arrays of the search are zero before it.
+// Searches from every start. The ranks are zero before it.
 pub fn explore(
     n: usize,
     m: usize,
@@ -198,7 +198,7 @@ pub fn explore(
     }
 }
 
-// What the starts reach: no start, a loop, a dead end, or neither. The arrays of the search are zero before it.
+// What the starts reach: no start, a loop, a dead end, or neither. The ranks are zero before it.
 pub fn reach(
     n: usize,
     m: usize,

@@ -9,33 +9,26 @@ use Rattle.binding.proofs.answer_all.Lts as lts
 use Rattle.binding.proofs.put_quotes.Reads as put-quotes-reads
 use Rattle.rules.proofs.number.Reads as number-reads
 
--- src/lib.rt:470:28
 enum-known-quotations : tie.Need-enum-known-quotations
 enum-known-quotations c = search needs
 
--- src/lib.rt:471:13
 put-quotes-requires : tie.Need-put-quotes-requires
 put-quotes-requires c κs =
     (c .before .before .before .before .before .pre .0 _ (c .before .before .quotations .given .1), c .before .before .before .before .before .pre .1)
 
--- src/lib.rt:474:29
 enum-known-quotations-2 : tie.Need-enum-known-quotations-2
 enum-known-quotations-2 c = search needs
 
--- src/lib.rt:474:35
 number-requires : tie.Need-number-requires
 number-requires c κs = search needs
 
--- src/lib.rt:464:1
 same-length : tie.Need-same-length
 same-length c = search needs
 
--- src/lib.rt:464:1
 returns : tie.Need-returns
 returns c =
     rw (c .before .before .before .before .before .quotations .given .1) (refl, c .before .before .put-quotes .ensures)
 
--- src/lib.rt:464:1
 returns-2 : tie.Need-returns-2
 returns-2 c =
     rw (c .before .before .quotations2 .given .1) (c .number .ensures, refl)

@@ -14,31 +14,25 @@ use Rattle.plan.proofs.held.Reads as held-reads
 use Rattle.quotation.proofs.all.Reads as all-reads
 use Rattle.rules.proofs.number.Reads as number-reads
 
--- src/lib.rt:484:9
 returns : tie.Need-returns
 returns c =
     let a = c .before .before .before .before .args in
     short-of-walks (a .octets .now) (a .walks .now) (a .out .now) (c .if1 .taken)
 
--- src/lib.rt:487:9
 returns-2 : tie.Need-returns-2
 returns-2 c =
     let a = c .before .before .before .before .before .args in
     short-of-places (a .octets .now) (a .walks .now) (a .out .now) (c .before .if1 .left) (c .if2 .taken)
 
--- src/lib.rt:489:9
 held-requires : tie.Need-held-requires
 held-requires c κs = search needs
 
--- src/lib.rt:491:28
 enum-known-read : tie.Need-enum-known-read
 enum-known-read c = search needs
 
--- src/lib.rt:492:9
 number-requires : tie.Need-number-requires
 number-requires c κs = search needs
 
--- src/lib.rt:492:9
 returns-3 : tie.Need-returns-3
 returns-3 c =
     let a = c .before .before .before .before .before .before .before .before .before .before .args in
@@ -48,11 +42,9 @@ returns-3 c =
 enum-told : tie.Need-enum-told
 enum-told c = search needs
 
--- src/lib.rt:495:9
 all-requires : tie.Need-all-requires
 all-requires c κs = search needs
 
--- src/lib.rt:496:5
 answer-all-requires : tie.Need-answer-all-requires
 answer-all-requires c κs =
     let a = c .before .before .before .before .before .before .before .before .before .before .before .before .before .before .args in
@@ -60,15 +52,12 @@ answer-all-requires c κs =
     let w = held-within (a .octets .now) e (c .before .before .before .before .before .before .before .before .held .ensures) (c .before .before .before .before .before .before .enum-told .given .1) in
     (all-small (view (e .plan)) w (a .walks .now) _ (c .before .before .before .all .result) (c .before .before .before .all .ensures), omega (arith, c .before .before .before .before .before .before .before .before .before .if2 .left))
 
--- src/lib.rt:479:1
 same-length : tie.Need-same-length
 same-length c = search needs
 
--- src/lib.rt:479:1
 same-length-2 : tie.Need-same-length-2
 same-length-2 c = search needs
 
--- src/lib.rt:479:1
 returns-4 : tie.Need-returns-4
 returns-4 c =
     let a = c .before .before .before .before .before .before .before .before .before .before .before .before .before .before .before .before .before .args in

@@ -9,75 +9,57 @@ use Rattle.binding.proofs.put_quotes.Reads as reads
 use Rattle.binding.proofs.put_quotes.Lts as lts
 use Rattle.binding.proofs.put_quote.Reads as put-quote-reads
 
--- src/lib.rt:457:22
 sub-put-quote : tie.Need-sub-put-quote
 sub-put-quote c = search needs
 
--- src/lib.rt:457:22
 part-put-quote-start : tie.Need-part-put-quote-start
 part-put-quote-start c = search needs
 
--- src/lib.rt:457:22
 part-put-quote-end : tie.Need-part-put-quote-end
 part-put-quote-end c = search needs
 
--- src/lib.rt:457:5
 put-quote-requires : tie.Need-put-quote-requires
 put-quote-requires c κs = search needs
 
--- src/lib.rt:458:23
 sub-put-quote-2 : tie.Need-sub-put-quote-2
 sub-put-quote-2 c = search needs
 
--- src/lib.rt:458:23
 part-put-quote-start-2 : tie.Need-part-put-quote-start-2
 part-put-quote-start-2 c = search needs
 
--- src/lib.rt:458:23
 part-put-quote-end-2 : tie.Need-part-put-quote-end-2
 part-put-quote-end-2 c = search needs
 
--- src/lib.rt:458:5
 put-quote-requires-2 : tie.Need-put-quote-requires-2
 put-quote-requires-2 c κs = search needs
 
--- src/lib.rt:459:22
 sub-put-quote-3 : tie.Need-sub-put-quote-3
 sub-put-quote-3 c = search needs
 
--- src/lib.rt:459:22
 part-put-quote-start-3 : tie.Need-part-put-quote-start-3
 part-put-quote-start-3 c = search needs
 
--- src/lib.rt:459:22
 part-put-quote-end-3 : tie.Need-part-put-quote-end-3
 part-put-quote-end-3 c = search needs
 
--- src/lib.rt:459:5
 put-quote-requires-3 : tie.Need-put-quote-requires-3
 put-quote-requires-3 c κs = search needs
 
--- src/lib.rt:460:23
 sub-put-quote-4 : tie.Need-sub-put-quote-4
 sub-put-quote-4 c = search needs
 
--- src/lib.rt:460:23
 part-put-quote-start-4 : tie.Need-part-put-quote-start-4
 part-put-quote-start-4 c = search needs
 
--- src/lib.rt:460:23
 part-put-quote-end-4 : tie.Need-part-put-quote-end-4
 part-put-quote-end-4 c = search needs
 
--- src/lib.rt:460:5
 put-quote-requires-4 : tie.Need-put-quote-requires-4
 put-quote-requires-4 c κs = search needs
 
--- src/lib.rt:446:1
 same-length : tie.Need-same-length
 same-length c = search needs
 
--- src/lib.rt:446:1
 returns : tie.Need-returns
 returns c =
     four-put (c .before .before .before .before .before .before .before .before .before .before .before .before .before .before .before .before .before .before .before .before .before .before .before .args .quotes) (c .before .before .before .before .before .before .before .before .before .before .before .before .before .before .before .before .before .before .before .before .before .before .before .args .out .now) _ _ _ _ (c .before .before .before .before .before .before .before .before .before .before .before .before .before .before .before .before .before .before .before .before .before .before .before .pre .1) (c .before .before .before .before .before .before .before .before .before .before .before .before .before .before .put-quote .ensures) (c .before .before .before .before .before .before .before .before .before .before .put-quote2 .ensures) (c .before .before .before .before .before .before .put-quote3 .ensures) (c .before .before .put-quote4 .ensures)

@@ -11,41 +11,32 @@ use borrow.Author.Tests.{lt-ltb, le-ltb, le-leb, lt-leb, eq-eqb, ne-eqb, not-tru
 use lib.Dec.{ltb, leb, eqb}
 use lib.ListN.{length, getD, set, take, drop, length-set}
 use lib.Seq.{getD-set-same, getD-set-other}
-use borrow.Author.Needs.{needs}
 use Rattle.figures.proofs.divide.Statement.{statement}
 use Rattle.figures.proofs.divide.Tie as tie
 use Rattle.figures.proofs.divide.Reads as reads
 use Rattle.figures.proofs.divide.Lts as lts
 
--- src/lib.rt:22:24
 enum-known-figure : tie.Need-enum-known-figure
 enum-known-figure c = search needs
 
--- src/lib.rt:23:25
 enum-told : tie.Need-enum-told
 enum-told c = search needs
 
--- src/lib.rt:24:29
 enum-told-2 : tie.Need-enum-told-2
 enum-told-2 c = search needs
 
--- src/lib.rt:25:28
 enum-told-3 : tie.Need-enum-told-3
 enum-told-3 c = search needs
 
--- src/lib.rt:18:1
 returns : tie.Need-returns
 returns c = rw (c .before .figure .given .1) refl
 
--- src/lib.rt:18:1
 returns-2 : tie.Need-returns-2
 returns-2 c = rw (c .enum-told .given .1) refl
 
--- src/lib.rt:18:1
 returns-3 : tie.Need-returns-3
 returns-3 c = rw (c .enum-told2 .given .1) refl
 
--- src/lib.rt:18:1
 returns-4 : tie.Need-returns-4
 returns-4 c = rw (c .enum-told3 .given .1) refl
 

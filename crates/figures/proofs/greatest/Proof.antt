@@ -19,25 +19,20 @@ use Rattle.figures.proofs.greatest_count.Reads as greatest-count-reads
 use Rattle.figures.proofs.greatest_delay.Reads as greatest-delay-reads
 use Rattle.reach.proofs.explore.reach.Reads as reach-reads
 
--- src/lib.rt:277:9
 reach-requires : tie.Need-reach-requires
 reach-requires c κs =
     let q = c .before .before .before .before .before .before .pre in
     ((q .0 .ends, q .1, λ s. zeros 512 s), record { rank = le-refl 512; cursor = le-refl 512; stack = le-refl 512; order = le-refl 512; via = le-refl 512 })
 
--- src/lib.rt:306:9
 sub-greatest-delay : tie.Need-sub-greatest-delay
 sub-greatest-delay c = search needs
 
--- src/lib.rt:306:9
 part-greatest-delay-start : tie.Need-part-greatest-delay-start
 part-greatest-delay-start c = search needs
 
--- src/lib.rt:306:9
 part-greatest-delay-end : tie.Need-part-greatest-delay-end
 part-greatest-delay-end c = search needs
 
--- src/lib.rt:291:9
 greatest-delay-requires : tie.Need-greatest-delay-requires
 greatest-delay-requires c κs =
     let a = c .before .before .before .before .before .before .before .before .before .before .before .before .before .args in
@@ -46,15 +41,12 @@ greatest-delay-requires c κs =
     let l : length (cut 512 w) ≡ 512 = cut-length 512 w (omega (arith, q .2)) in
     ((q .0, omega (arith, l, q .0 .ends .states), q .1), c .before .before .before .before .before .before .reach .ensures)
 
--- src/lib.rt:322:9
 sub-greatest-count : tie.Need-sub-greatest-count
 sub-greatest-count c = search needs
 
--- src/lib.rt:322:9
 part-greatest-count-start : tie.Need-part-greatest-count-start
 part-greatest-count-start c = search needs
 
--- src/lib.rt:322:9
 part-greatest-count-end : tie.Need-part-greatest-count-end
 part-greatest-count-end c =
     let a = c .before .before .before .before .before .before .before .before .before .before .before .before .before .before .before .before .before .before .before .before .before .args in
@@ -66,7 +58,6 @@ part-greatest-count-end c =
     let g : 2048 ≤ length (put 512 y w) = omega (arith, l1, q .2) in
     g
 
--- src/lib.rt:308:9
 greatest-count-requires : tie.Need-greatest-count-requires
 greatest-count-requires c κs =
     let a = c .before .before .before .before .before .before .before .before .before .before .before .before .before .before .before .before .before .before .before .before .before .before .args in
@@ -78,11 +69,9 @@ greatest-count-requires c κs =
     let l : length (cut 1536 (put 512 y w)) ≡ 512 = cut-length 1536 (put 512 y w) (omega (arith, q .2, l1)) in
     ((q .0 .ends, omega (arith, l, q .0 .ends .states), q .1), c .before .before .before .before .before .before .before .before .before .before .before .before .before .before .before .reach .ensures)
 
--- src/lib.rt:258:1
 same-length : tie.Need-same-length
 same-length c = search needs
 
--- src/lib.rt:258:1
 returns : tie.Need-returns
 returns c =
     let a = c .before .before .before .before .before .before .before .before .before .before .before .before .before .before .before .before .before .before .before .before .before .before .before .before .before .args in

@@ -11,7 +11,6 @@ use borrow.Author.Tests.{lt-ltb, le-ltb, le-leb, lt-leb, eq-eqb, ne-eqb, not-tru
 use lib.Dec.{ltb, leb, eqb}
 use lib.ListN.{length, getD, set, take, drop, length-set}
 use lib.Seq.{getD-set-same, getD-set-other}
-use borrow.Author.Needs.{needs}
 use lib.ListN.{replicate, length-replicate}
 use native.Mathlib.Nat.{le-refl}
 use Rattle.figures.proofs.Answers.{counts-light, closes-light, holds, greatest-said}
@@ -30,17 +29,14 @@ use Rattle.costs.proofs.closes.Reads as closes-reads
 use Rattle.costs.proofs.counts.Reads as counts-reads
 use Rattle.greatest_search.proofs.greatest.greatest.Reads as greatest-reads
 
--- src/lib.rt:150:5
 counts-requires : tie.Need-counts-requires
 counts-requires c κs =
     let p = c .before .before .pre in
     (p .0 .0 .count, omega arith, omega arith, le-refl 2048, λ t h. omega (arith, p .0 .0 .leaves t h, p .0 .0 .states))
 
--- src/lib.rt:151:5
 closes-requires : tie.Need-closes-requires
 closes-requires c κs = (c .before .before .before .before .pre .0 .0 .states, omega arith, le-refl 512)
 
--- src/lib.rt:152:5
 greatest-requires : tie.Need-greatest-requires
 greatest-requires c κs =
     let a = c .before .before .before .before .before .before .before .before .args in
@@ -57,11 +53,9 @@ greatest-requires c κs =
       p .1,
     )
 
--- src/lib.rt:127:1
 same-length : tie.Need-same-length
 same-length c = search needs
 
--- src/lib.rt:127:1
 returns : tie.Need-returns
 returns c =
     let a = c .before .before .before .before .before .before .before .before .before .before .before .args in

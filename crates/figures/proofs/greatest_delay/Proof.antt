@@ -11,7 +11,6 @@ use borrow.Author.Tests.{lt-ltb, le-ltb, le-leb, lt-leb, eq-eqb, ne-eqb, not-tru
 use lib.Dec.{ltb, leb, eqb}
 use lib.ListN.{length, getD, set, take, drop, length-set}
 use lib.Seq.{getD-set-same, getD-set-other}
-use borrow.Author.Needs.{needs}
 use lib.ListN.{replicate, length-replicate}
 use native.Mathlib.Nat.{le-refl}
 use Rattle.figures.proofs.Answers.{zeros, delays-light, holds, greatest-said}
@@ -28,11 +27,9 @@ use Rattle.figures.proofs.greatest_delay.Lts as lts
 use Rattle.costs.proofs.delays.Reads as delays-reads
 use Rattle.greatest_search.proofs.greatest.greatest.Reads as greatest-reads
 
--- src/lib.rt:120:5
 delays-requires : tie.Need-delays-requires
 delays-requires c κs = search needs
 
--- src/lib.rt:121:5
 greatest-requires : tie.Need-greatest-requires
 greatest-requires c κs =
     let a = c .before .before .before .before .before .before .args in
@@ -40,11 +37,9 @@ greatest-requires c κs =
     let light = delays-light (a .m) (a .high .now) _ _ (p .0 .0 .durations-most) 1 0 (omega arith) (omega arith) (c .before .before .before .delays .ensures) in
     ((p .0 .0 .ends, p .0 .2, p .0 .1, (λ t h. light t h .1), (λ s. omega (arith, zeros 512 s)), le-refl 512), p .1)
 
--- src/lib.rt:96:1
 same-length : tie.Need-same-length
 same-length c = search needs
 
--- src/lib.rt:96:1
 returns : tie.Need-returns
 returns c =
     let a = c .before .before .before .before .before .before .before .before .before .args in

@@ -19,25 +19,20 @@ use Rattle.figures.proofs.least_count.Reads as least-count-reads
 use Rattle.figures.proofs.least_delay.Reads as least-delay-reads
 use Rattle.search.proofs.chain.chains.Reads as chains-reads
 
--- src/lib.rt:228:5
 chains-requires : tie.Need-chains-requires
 chains-requires c κs =
     let b = c .before .before .before .pre .0 .ends in
     ((b .count, λ t l. omega (arith, b .arrives t l, b .states)), ((λ s l. getD-replicate 512 s 2048 0 l), le-refl 512, le-refl 2048))
 
--- src/lib.rt:240:9
 sub-least-delay : tie.Need-sub-least-delay
 sub-least-delay c = search needs
 
--- src/lib.rt:240:9
 part-least-delay-start : tie.Need-part-least-delay-start
 part-least-delay-start c = search needs
 
--- src/lib.rt:240:9
 part-least-delay-end : tie.Need-part-least-delay-end
 part-least-delay-end c = search needs
 
--- src/lib.rt:229:9
 least-delay-requires : tie.Need-least-delay-requires
 least-delay-requires c κs =
     let a = c .before .before .before .before .before .before .before .args in
@@ -46,19 +41,15 @@ least-delay-requires c κs =
     let l : length (take 512 (a .walks .now)) ≡ 512 = cut-length 0 (a .walks .now) (omega (arith, q .2)) in
     ((q .0, omega (arith, l, b .states)), (c .before .before .before .chains .ensures, q .1))
 
--- src/lib.rt:252:9
 sub-least-count : tie.Need-sub-least-count
 sub-least-count c = search needs
 
--- src/lib.rt:252:9
 part-least-count-start : tie.Need-part-least-count-start
 part-least-count-start c = search needs
 
--- src/lib.rt:252:9
 part-least-count-end : tie.Need-part-least-count-end
 part-least-count-end c = search needs
 
--- src/lib.rt:242:9
 least-count-requires : tie.Need-least-count-requires
 least-count-requires c κs =
     let a = c .before .before .before .before .before .before .before .before .before .before .before .before .before .args in
@@ -70,11 +61,9 @@ least-count-requires c κs =
     let l : length (cut 1024 (put 0 y w)) ≡ 512 = cut-length 1024 (put 0 y w) (omega (arith, q .2, put-length 0 y w (omega (arith, q .2)) ly)) in
     ((b, omega (arith, l, b .states)), (c .before .before .before .before .before .before .before .before .before .chains .ensures, q .1))
 
--- src/lib.rt:212:1
 same-length : tie.Need-same-length
 same-length c = search needs
 
--- src/lib.rt:212:1
 returns : tie.Need-returns
 returns c =
     let a = c .before .before .before .before .before .before .before .before .before .before .before .before .before .before .before .before .args in

@@ -11,7 +11,6 @@ use borrow.Author.Tests.{lt-ltb, le-ltb, le-leb, lt-leb, eq-eqb, ne-eqb, not-tru
 use lib.Dec.{ltb, leb, eqb}
 use lib.ListN.{length, getD, set, take, drop, length-set}
 use lib.Seq.{getD-set-same, getD-set-other}
-use borrow.Author.Needs.{needs}
 use lib.ListN.{replicate, length-replicate}
 use native.Mathlib.Nat.{le-refl}
 use Rattle.figures.proofs.Answers.{counts-light, closes-light, holds, least-said}
@@ -31,17 +30,14 @@ use Rattle.costs.proofs.counts.Reads as counts-reads
 use Rattle.figures.proofs.divide.Reads as divide-reads
 use Rattle.least_search.proofs.least.least.Reads as least-reads
 
--- src/lib.rt:82:5
 counts-requires : tie.Need-counts-requires
 counts-requires c κs =
     let p = c .before .before .pre in
     (p .0 .0 .count, le-refl 1024, le-refl 1, le-refl 2048, λ t h. omega (arith, p .0 .0 .leaves t h, p .0 .0 .states))
 
--- src/lib.rt:83:5
 closes-requires : tie.Need-closes-requires
 closes-requires c κs = (c .before .before .before .before .pre .0 .0 .states, le-refl 1024, le-refl 512)
 
--- src/lib.rt:84:9
 least-requires : tie.Need-least-requires
 least-requires c κs =
     let a = c .before .before .before .before .before .before .before .before .args in
@@ -59,15 +55,12 @@ least-requires c κs =
       p .1,
     )
 
--- src/lib.rt:89:17
 divide-requires : tie.Need-divide-requires
 divide-requires c κs = search needs
 
--- src/lib.rt:63:1
 same-length : tie.Need-same-length
 same-length c = search needs
 
--- src/lib.rt:63:1
 returns : tie.Need-returns
 returns c =
     let a = c .before .before .before .before .before .before .before .before .before .before .before .before .args in

@@ -11,7 +11,6 @@ use borrow.Author.Tests.{lt-ltb, le-ltb, le-leb, lt-leb, eq-eqb, ne-eqb, not-tru
 use lib.Dec.{ltb, leb, eqb}
 use lib.ListN.{length, getD, set, take, drop, length-set}
 use lib.Seq.{getD-set-same, getD-set-other}
-use borrow.Author.Needs.{needs}
 use lib.ListN.{replicate, length-replicate}
 use native.Mathlib.Nat.{le-refl}
 use Rattle.figures.proofs.Answers.{zeros, delays-light, holds, least-said}
@@ -29,11 +28,9 @@ use Rattle.costs.proofs.delays.Reads as delays-reads
 use Rattle.figures.proofs.divide.Reads as divide-reads
 use Rattle.least_search.proofs.least.least.Reads as least-reads
 
--- src/lib.rt:50:5
 delays-requires : tie.Need-delays-requires
 delays-requires c κs = search needs
 
--- src/lib.rt:51:9
 least-requires : tie.Need-least-requires
 least-requires c κs =
     let a = c .before .before .before .before .before .before .args in
@@ -51,15 +48,12 @@ least-requires c κs =
       p .1,
     )
 
--- src/lib.rt:56:17
 divide-requires : tie.Need-divide-requires
 divide-requires c κs = search needs
 
--- src/lib.rt:30:1
 same-length : tie.Need-same-length
 same-length c = search needs
 
--- src/lib.rt:30:1
 returns : tie.Need-returns
 returns c =
     let a = c .before .before .before .before .before .before .before .before .before .before .args in

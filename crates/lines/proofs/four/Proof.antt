@@ -13,23 +13,18 @@ use Rattle.lines.proofs.four.Reads as reads
 use Rattle.lines.proofs.four.Lts as lts
 use Rattle.lines.proofs.line.Reads as line-reads
 
--- src/lib.rt:54:31
 slice-aggregate-line : tie.Need-slice-aggregate-line
 slice-aggregate-line c = search needs
 
--- src/lib.rt:54:54
 sub-line : tie.Need-sub-line
 sub-line c = search needs
 
--- src/lib.rt:54:54
 part-line-start : tie.Need-part-line-start
 part-line-start c = search needs
 
--- src/lib.rt:54:54
 part-line-end : tie.Need-part-line-end
 part-line-end c = search needs
 
--- src/lib.rt:54:9
 line-requires : tie.Need-line-requires
 unfolding octets
 line-requires c κs =
@@ -37,23 +32,18 @@ line-requires c κs =
     let w = cut-length 0 (c .before .before .before .before .before .before .before .before .before .before .before .args .walks .now) (omega (arith, s .1)) in
     ((omega (arith, w, s .0 .least-delay .0), s .0 .least-delay .0, omega (arith, s .0 .least-delay .1)), omega (arith, s .2))
 
--- src/lib.rt:55:33
 slice-aggregate-line-2 : tie.Need-slice-aggregate-line-2
 slice-aggregate-line-2 c = search needs
 
--- src/lib.rt:55:60
 sub-line-2 : tie.Need-sub-line-2
 sub-line-2 c = search needs
 
--- src/lib.rt:55:60
 part-line-start-2 : tie.Need-part-line-start-2
 part-line-start-2 c = search needs
 
--- src/lib.rt:55:60
 part-line-end-2 : tie.Need-part-line-end-2
 part-line-end-2 c = search needs
 
--- src/lib.rt:55:9
 line-requires-2 : tie.Need-line-requires-2
 unfolding octets
 line-requires-2 c κs =
@@ -64,23 +54,18 @@ line-requires-2 c κs =
     let a = line-end 3108 (x .0) (x .1) in
     ((omega (arith, w, s .0 .greatest-delay .0), s .0 .greatest-delay .0, omega (arith, s .0 .greatest-delay .1)), omega (arith, s .2, k, a))
 
--- src/lib.rt:56:35
 slice-aggregate-line-3 : tie.Need-slice-aggregate-line-3
 slice-aggregate-line-3 c = search needs
 
--- src/lib.rt:56:58
 sub-line-3 : tie.Need-sub-line-3
 sub-line-3 c = search needs
 
--- src/lib.rt:56:58
 part-line-start-3 : tie.Need-part-line-start-3
 part-line-start-3 c = search needs
 
--- src/lib.rt:56:58
 part-line-end-3 : tie.Need-part-line-end-3
 part-line-end-3 c = search needs
 
--- src/lib.rt:56:9
 line-requires-3 : tie.Need-line-requires-3
 unfolding octets
 line-requires-3 c κs =
@@ -94,23 +79,18 @@ line-requires-3 c κs =
     let b = line-end 3111 (y .0) (y .1) in
     ((omega (arith, w, s .0 .least-count .0), s .0 .least-count .0, omega (arith, s .0 .least-count .1)), omega (arith, s .2, k, l, a, b))
 
--- src/lib.rt:60:9
 slice-aggregate-line-4 : tie.Need-slice-aggregate-line-4
 slice-aggregate-line-4 c = search needs
 
--- src/lib.rt:62:9
 sub-line-4 : tie.Need-sub-line-4
 sub-line-4 c = search needs
 
--- src/lib.rt:62:9
 part-line-start-4 : tie.Need-part-line-start-4
 part-line-start-4 c = search needs
 
--- src/lib.rt:62:9
 part-line-end-4 : tie.Need-part-line-end-4
 part-line-end-4 c = search needs
 
--- src/lib.rt:57:5
 line-requires-4 : tie.Need-line-requires-4
 unfolding octets
 line-requires-4 c κs =
@@ -128,11 +108,9 @@ line-requires-4 c κs =
     let d = line-end 3108 (z .0) (z .1) in
     ((omega (arith, w, s .0 .greatest-count .0), s .0 .greatest-count .0, omega (arith, s .0 .greatest-count .1)), omega (arith, s .2, k, l, m, a, b, d))
 
--- src/lib.rt:44:1
 same-length : tie.Need-same-length
 same-length c = search needs
 
--- src/lib.rt:44:1
 returns : tie.Need-returns
 unfolding octets
 returns c =

@@ -13,38 +13,30 @@ use Rattle.lines.proofs.quoted.Lts as lts
 use Rattle.lines.proofs.four.Reads as four-reads
 use Rattle.quotation.proofs.all.Reads as all-reads
 
--- src/lib.rt:72:43
 slice-aggregate-all : tie.Need-slice-aggregate-all
 slice-aggregate-all c = search needs
 
--- src/lib.rt:72:9
 all-requires : tie.Need-all-requires
 all-requires c κs = search needs
 
--- src/lib.rt:74:28
 enum-known-quotations : tie.Need-enum-known-quotations
 enum-known-quotations c = search needs
 
--- src/lib.rt:74:52
 slice-aggregate-four : tie.Need-slice-aggregate-four
 slice-aggregate-four c = search needs
 
--- src/lib.rt:74:39
 four-requires : tie.Need-four-requires
 four-requires c κs =
     let s = c .before .before .before .before .before .before .before .before .before .pre in
     let g = view (c .before .before .before .before .before .before .before .before .before .args .plan) in
     (four-small g (s .0) _ _ _ (c .before .before .before .before .before .before .all .ensures .quoted _ (c .before .before .before .quotations .given .1)), omega (arith, c .before .before .before .before .before .before .all .kept .1 .0), omega (arith, s .1))
 
--- src/lib.rt:75:35
 enum-told : tie.Need-enum-told
 enum-told c = search needs
 
--- src/lib.rt:67:1
 same-length : tie.Need-same-length
 same-length c = search needs
 
--- src/lib.rt:67:1
 returns : tie.Need-returns
 returns c =
     record {
@@ -55,7 +47,6 @@ returns c =
       put = c .before .before .four .ensures;
     }
 
--- src/lib.rt:67:1
 returns-2 : tie.Need-returns-2
 returns-2 c =
     let g = view (c .before .before .before .before .before .before .args .plan) in

@@ -22,46 +22,38 @@ use Rattle.figures.proofs.least.Reads as least-reads
 use Rattle.plan.proofs.within.Reads as within-reads
 use Rattle.search.proofs.chain.chains.Reads as chains-reads
 
--- src/lib.rt:218:9
 within-requires : tie.Need-within-requires
 within-requires c κs = search needs
 
--- src/lib.rt:219:9
 returns : tie.Need-returns
 returns c =
     let a = c .before .before .before .args in
     all-refusal (view (a .plan)) (a .walks .now) PlanLimits (all-limits (view (a .plan)) (a .walks .now) (sym (c .before .within .ensures) ∙ not-true _ (c .if1 .taken)))
 
--- src/lib.rt:222:9
 returns-2 : tie.Need-returns-2
 returns-2 c =
     let a = c .before .before .before .before .args in
     all-refusal (view (a .plan)) (a .walks .now) BufferLength (all-short (view (a .plan)) (a .walks .now) (sym (c .before .before .within .ensures) ∙ not-false _ (c .before .if1 .left)) (c .if2 .taken))
 
--- src/lib.rt:233:5
 chains-requires : tie.Need-chains-requires
 chains-requires c κs =
     let p = c .before .before .before .before .before .before .before .before .before .before .before .before .args .plan in
     let b = ends p (sym (c .before .before .before .before .before .before .before .before .before .before .within .ensures) ∙ not-false _ (c .before .before .before .before .before .before .before .before .before .if1 .left)) in
     ((b .count, λ t l. omega (arith, b .leaves t l, b .states)), ((λ s l. getD-replicate 512 s 2048 0 l), le-refl 512, le-refl 2048))
 
--- src/lib.rt:234:9
 least-requires : tie.Need-least-requires
 least-requires c κs =
     let p = c .before .before .before .before .before .before .before .before .before .before .before .before .before .before .before .before .before .before .before .before .args .plan in
     (lows p (sym (c .before .before .before .before .before .before .before .before .before .before .before .before .before .before .before .before .before .before .within .ensures) ∙ not-false _ (c .before .before .before .before .before .before .before .before .before .before .before .before .before .before .before .before .before .if1 .left)), c .before .before .before .before .before .before .before .chains .ensures, omega (arith, c .before .before .before .before .before .before .before .before .before .before .before .before .before .before .before .before .if2 .left))
 
--- src/lib.rt:235:9
 greatest-requires : tie.Need-greatest-requires
 greatest-requires c κs =
     let p = c .before .before .before .before .before .before .before .before .before .before .before .before .before .before .before .before .before .before .before .before .before .before .before .before .before .before .before .before .before .before .args .plan in
     (highs p (sym (c .before .before .before .before .before .before .before .before .before .before .before .before .before .before .before .before .before .before .before .before .before .before .before .before .before .before .before .before .within .ensures) ∙ not-false _ (c .before .before .before .before .before .before .before .before .before .before .before .before .before .before .before .before .before .before .before .before .before .before .before .before .before .before .before .if1 .left)), c .before .before .before .before .before .before .before .before .before .before .before .before .before .before .before .before .before .chains .ensures, omega (arith, c .before .before .before .before .before .before .before .before .before .before .before .before .before .before .before .before .before .before .before .before .before .before .before .before .before .before .if2 .left, c .before .before .before .before .before .before .before .before .before .least .ensures .as-long))
 
--- src/lib.rt:215:1
 same-length : tie.Need-same-length
 same-length c = search needs
 
--- src/lib.rt:215:1
 returns-3 : tie.Need-returns-3
 returns-3 c =
     let a = c .before .before .before .before .before .before .before .before .before .before .before .before .before .before .before .before .before .before .before .before .before .before .before .before .before .before .before .before .before .before .before .before .before .args in

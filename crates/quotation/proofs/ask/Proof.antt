@@ -11,7 +11,6 @@ use borrow.Author.Tests.{lt-ltb, le-ltb, le-leb, lt-leb, eq-eqb, ne-eqb, not-tru
 use lib.Dec.{ltb, leb, eqb}
 use lib.ListN.{length, getD, set, take, drop, length-set}
 use lib.Seq.{getD-set-same, getD-set-other}
-use borrow.Author.Needs.{needs}
 use Rattle.quotation.proofs.Asked.{states-are}
 use Rattle.plan.specs.View.{view}
 use Rattle.rules.specs.Quotations.{quoteRule}
@@ -22,18 +21,15 @@ use Rattle.quotation.proofs.ask.Reads as reads
 use Rattle.quotation.proofs.ask.Lts as lts
 use Rattle.plan.proofs.within.Reads as within-reads
 
--- src/lib.rt:21:9
 within-requires : tie.Need-within-requires
 within-requires c κs = search needs
 
--- src/lib.rt:22:9
 returns : tie.Need-returns
 unfolding quoteRule
 returns c =
     let w = sym (c .before .within .ensures) ∙ not-true _ (c .if1 .taken) in
     λ lent e. rw w refl
 
--- src/lib.rt:26:9
 returns-2 : tie.Need-returns-2
 unfolding quoteRule
 returns-2 c =
@@ -43,7 +39,6 @@ returns-2 c =
     let l : ltb (length lent) (states (view p)) ≡ true = lt-ltb (length lent) (states (view p)) (omega (arith, states-are p, c .if2 .taken)) in
     rw (w, l) refl
 
--- src/lib.rt:18:1
 returns-3 : tie.Need-returns-3
 unfolding quoteRule
 returns-3 c =

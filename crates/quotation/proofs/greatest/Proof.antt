@@ -17,54 +17,44 @@ use Rattle.figures.proofs.greatest_delay.Reads as greatest-delay-reads
 use Rattle.reach.proofs.explore.reach.Reads as reach-reads
 use Rattle.search.proofs.chain.chains.Reads as chains-reads
 
--- src/lib.rt:107:5
 chains-requires : tie.Need-chains-requires
 chains-requires c κs =
     let b = ends (c .before .before .before .before .before .before .before .before .args .plan) (c .before .before .before .before .before .before .before .before .pre .0) in
     ((b .count, λ t l. omega (arith, b .leaves t l, b .states)), ((λ s l. getD-replicate 512 s 2048 0 l), le-refl 512, le-refl 2048))
 
--- src/lib.rt:113:9
 reach-requires : tie.Need-reach-requires
 reach-requires c κs =
     let b = ends (c .before .before .before .before .before .before .before .before .before .before .before .before .before .before .before .before .before .before .before .args .plan) (c .before .before .before .before .before .before .before .before .before .before .before .before .before .before .before .before .before .before .before .pre .0) in
     ((b, c .before .before .before .before .before .before .before .before .before .before .chains .ensures, λ s. zeros 512 s), record { rank = le-refl 512; cursor = le-refl 512; stack = le-refl 512; order = le-refl 512; via = le-refl 512 })
 
--- src/lib.rt:132:13
 enum-told : tie.Need-enum-told
 enum-told c = search needs
 
--- src/lib.rt:128:24
 greatest-delay-requires : tie.Need-greatest-delay-requires
 greatest-delay-requires c κs =
     let s = c .before .before .before .before .before .before .before .before .before .before .before .before .before .before .before .before .before .before .before .before .before .before .before .before .before .before .before .before .before .before .before .before .before .before .pre in
     ((highs (c .before .before .before .before .before .before .before .before .before .before .before .before .before .before .before .before .before .before .before .before .before .before .before .before .before .before .before .before .before .before .before .before .before .before .args .plan) (s .0), s .1, c .before .before .before .before .before .before .before .before .before .before .before .before .before .before .before .before .before .before .before .before .before .before .before .before .before .chains .ensures), c .before .before .before .before .before .before .before .before .before .before .before .before .before .before .reach .ensures)
 
--- src/lib.rt:149:13
 enum-told-2 : tie.Need-enum-told-2
 enum-told-2 c = search needs
 
--- src/lib.rt:145:24
 greatest-count-requires : tie.Need-greatest-count-requires
 greatest-count-requires c κs =
     let s = c .before .before .before .before .before .before .before .before .before .before .before .before .before .before .before .before .before .before .before .before .before .before .before .before .before .before .before .before .before .before .before .before .before .pre in
     ((ends (c .before .before .before .before .before .before .before .before .before .before .before .before .before .before .before .before .before .before .before .before .before .before .before .before .before .before .before .before .before .before .before .before .before .args .plan) (s .0), s .1, c .before .before .before .before .before .before .before .before .before .before .before .before .before .before .before .before .before .before .before .before .before .before .before .before .chains .ensures), c .before .before .before .before .before .before .before .before .before .before .before .before .before .reach .ensures)
 
--- src/lib.rt:95:1
 same-length : tie.Need-same-length
 same-length c = search needs
 
--- src/lib.rt:95:1
 returns : tie.Need-returns
 unfolding view
 returns c =
     let p = c .before .before .before .before .before .before .before .before .before .before .before .before .before .before .before .before .before .before .before .before .before .before .before .before .before .before .before .before .before .before .before .before .before .before .before .before .before .args .plan in
     rw (c .before .before .before .before .before .before .before .before .before .before .before .before .before .before .before .enum-told .given .1) (c .before .before .greatest-delay .ensures (p .low))
 
--- src/lib.rt:95:1
 same-length-2 : tie.Need-same-length-2
 same-length-2 c = search needs
 
--- src/lib.rt:95:1
 returns-2 : tie.Need-returns-2
 unfolding view
 returns-2 c =

@@ -14,15 +14,12 @@ use Rattle.quotation.proofs.greatest_delay.Lts as lts
 use Rattle.quotation.proofs.ask.Reads as ask-reads
 use Rattle.quotation.proofs.greatest.Reads as greatest-reads
 
--- src/lib.rt:179:9
 ask-requires : tie.Need-ask-requires
 ask-requires c κs = search needs
 
--- src/lib.rt:181:62
 enum-told : tie.Need-enum-told
 enum-told c = search needs
 
--- src/lib.rt:181:47
 greatest-requires : tie.Need-greatest-requires
 greatest-requires c κs =
     let a = c .before .before .before .before .before .args in
@@ -30,22 +27,18 @@ greatest-requires c κs =
     let e : quoteRule g (a .walk .now) ≡ accepted tt = sym (c .before .before .before .ask .ensures (a .walk .now) refl) ∙ ap said (c .before .enum-told .given .1) in
     (accepted-within g (a .walk .now) e, omega (arith, room g (a .walk .now) e, states-are (a .plan)))
 
--- src/lib.rt:182:25
 enum-known-asked : tie.Need-enum-known-asked
 enum-known-asked c = search needs
 
--- src/lib.rt:176:1
 same-length : tie.Need-same-length
 same-length c = search needs
 
--- src/lib.rt:176:1
 returns : tie.Need-returns
 returns c =
     let a = c .before .before .before .before .before .before .before .before .args in
     let g = view (a .plan) in
     acceptance (GreatestDelay g) g (a .walk .now) _ (c .before .before .greatest .result) (sym (c .before .before .before .before .before .before .ask .ensures (a .walk .now) refl) ∙ ap said (c .before .before .before .before .enum-told .given .1)) (c .before .before .greatest .ensures)
 
--- src/lib.rt:176:1
 returns-2 : tie.Need-returns-2
 returns-2 c =
     let a = c .before .before .before .before .before .args in

@@ -16,54 +16,44 @@ use Rattle.figures.proofs.least_count.Reads as least-count-reads
 use Rattle.figures.proofs.least_delay.Reads as least-delay-reads
 use Rattle.search.proofs.chain.chains.Reads as chains-reads
 
--- src/lib.rt:63:5
 chains-requires : tie.Need-chains-requires
 chains-requires c κs =
     let b = ends (c .before .before .before .before .before .before .before .before .args .plan) (c .before .before .before .before .before .before .before .before .pre .0) in
     ((b .count, λ t l. omega (arith, b .arrives t l, b .states)), ((λ s l. getD-replicate 512 s 2048 0 l), le-refl 512, le-refl 2048))
 
--- src/lib.rt:64:5
 chains-requires-2 : tie.Need-chains-requires-2
 chains-requires-2 c κs =
     let b = ends (c .before .before .before .before .before .before .before .before .before .before .before .before .args .plan) (c .before .before .before .before .before .before .before .before .before .before .before .before .pre .0) in
     ((b .count, λ t l. omega (arith, b .leaves t l, b .states)), ((λ s l. getD-replicate 512 s 2048 0 l), le-refl 512, le-refl 2048))
 
--- src/lib.rt:69:13
 enum-told : tie.Need-enum-told
 enum-told c = search needs
 
--- src/lib.rt:66:24
 least-delay-requires : tie.Need-least-delay-requires
 least-delay-requires c κs =
     let s = c .before .before .before .before .before .before .before .before .before .before .before .before .before .before .before .before .before .before .before .before .before .before .before .before .pre in
     ((lows (c .before .before .before .before .before .before .before .before .before .before .before .before .before .before .before .before .before .before .before .before .before .before .before .before .args .plan) (s .0), s .1), (c .before .before .before .before .before .before .before .before .before .before .before .before .before .before .before .chains .ensures, c .before .before .before .before .before .before .before .before .before .before .before .chains2 .ensures))
 
--- src/lib.rt:82:13
 enum-told-2 : tie.Need-enum-told-2
 enum-told-2 c = search needs
 
--- src/lib.rt:79:24
 least-count-requires : tie.Need-least-count-requires
 least-count-requires c κs =
     let s = c .before .before .before .before .before .before .before .before .before .before .before .before .before .before .before .before .before .before .before .before .before .before .before .pre in
     ((ends (c .before .before .before .before .before .before .before .before .before .before .before .before .before .before .before .before .before .before .before .before .before .before .before .args .plan) (s .0), s .1), (c .before .before .before .before .before .before .before .before .before .before .before .before .before .before .chains .ensures, c .before .before .before .before .before .before .before .before .before .before .chains2 .ensures))
 
--- src/lib.rt:49:1
 same-length : tie.Need-same-length
 same-length c = search needs
 
--- src/lib.rt:49:1
 returns : tie.Need-returns
 unfolding view
 returns c =
     let p = c .before .before .before .before .before .before .before .before .before .before .before .before .before .before .before .before .before .before .before .before .before .before .before .before .before .before .before .args .plan in
     rw (c .before .before .before .before .before .before .before .before .before .before .before .before .enum-told .given .1) (c .before .before .least-delay .ensures (p .high))
 
--- src/lib.rt:49:1
 same-length-2 : tie.Need-same-length-2
 same-length-2 c = search needs
 
--- src/lib.rt:49:1
 returns-2 : tie.Need-returns-2
 unfolding view
 returns-2 c =

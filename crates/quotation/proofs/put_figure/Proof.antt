@@ -21,19 +21,15 @@ use Rattle.field.proofs.put.Reads as put-reads
 use Rattle.rules.proofs.kind.Reads as kind-reads
 use Rattle.rules.proofs.value.Reads as value-reads
 
--- src/lib.rt:245:9
 kind-requires : tie.Need-kind-requires
 kind-requires c κs = search needs
 
--- src/lib.rt:246:9
 value-requires : tie.Need-value-requires
 value-requires c κs = search needs
 
--- src/lib.rt:247:31
 cast-put : tie.Need-cast-put
 cast-put c = search needs
 
--- src/lib.rt:247:5
 put-requires : tie.Need-put-requires
 put-requires c κs =
     let p = c .before .before .before .before .pre .0 in (
@@ -41,11 +37,9 @@ put-requires c κs =
       omega (arith, c .before .before .kind .ensures, kind-below (meant (c .before .before .before .before .args .quote .figure))),
     )
 
--- src/lib.rt:248:24
 add-put : tie.Need-add-put
 add-put c = search needs
 
--- src/lib.rt:248:5
 put-requires-2 : tie.Need-put-requires-2
 put-requires-2 c κs =
     let p = c .before .before .before .before .before .before .before .before .pre .0 in (
@@ -53,11 +47,9 @@ put-requires-2 c κs =
       omega (arith, c .before .before .before .before .before .value .ensures, c .before .before .before .before .before .before .before .before .pre .1),
     )
 
--- src/lib.rt:240:1
 same-length : tie.Need-same-length
 same-length c = search needs
 
--- src/lib.rt:240:1
 returns : tie.Need-returns
 unfolding putAll
 returns c =

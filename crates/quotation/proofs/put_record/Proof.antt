@@ -19,27 +19,21 @@ use Rattle.quotation.proofs.put_record.Reads as reads
 use Rattle.quotation.proofs.put_record.Lts as lts
 use Rattle.quotation.proofs.put_figure.Reads as put-figure-reads
 
--- src/lib.rt:264:5
 put-figure-requires : tie.Need-put-figure-requires
 put-figure-requires c κs = search needs
 
--- src/lib.rt:265:5
 put-figure-requires-2 : tie.Need-put-figure-requires-2
 put-figure-requires-2 c κs = search needs
 
--- src/lib.rt:266:5
 put-figure-requires-3 : tie.Need-put-figure-requires-3
 put-figure-requires-3 c κs = search needs
 
--- src/lib.rt:267:5
 put-figure-requires-4 : tie.Need-put-figure-requires-4
 put-figure-requires-4 c κs = search needs
 
--- src/lib.rt:252:1
 same-length : tie.Need-same-length
 same-length c = search needs
 
--- src/lib.rt:252:1
 returns : tie.Need-returns
 unfolding quotesFields
 returns c =

@@ -23,51 +23,41 @@ use Rattle.plan.proofs.within.Reads as within-reads
 use Rattle.quotation.proofs.all.Reads as all-reads
 use Rattle.quotation.proofs.put_record.Reads as put-record-reads
 
--- src/lib.rt:274:9
 within-requires : tie.Need-within-requires
 within-requires c κs = search needs
 
--- src/lib.rt:275:9
 returns : tie.Need-returns
 returns c =
     let a = c .before .before .before .args in
     record-refusal (view (a .plan)) (a .buffer .now) PlanLimits (record-0 (view (a .plan)) (a .buffer .now) (sym (c .before .within .ensures) ∙ not-true _ (c .if1 .taken)))
 
--- src/lib.rt:278:9
 returns-2 : tie.Need-returns-2
 returns-2 c =
     let a = c .before .before .before .before .args in
     let g = view (a .plan) in
     record-refusal g (a .buffer .now) BufferLength (record-11 g (a .buffer .now) (sym (c .before .before .within .ensures) ∙ not-false _ (c .before .if1 .left)) (lt-ltb (length (a .buffer .now)) 11 (c .if2 .taken)))
 
--- src/lib.rt:281:32
 slice-aggregate-all : tie.Need-slice-aggregate-all
 slice-aggregate-all c = search needs
 
--- src/lib.rt:281:9
 all-requires : tie.Need-all-requires
 all-requires c κs = search needs
 
--- src/lib.rt:283:28
 enum-known-quotations : tie.Need-enum-known-quotations
 enum-known-quotations c = search needs
 
--- src/lib.rt:284:13
 put-record-requires : tie.Need-put-record-requires
 put-record-requires c κs =
     let g = view (c .before .before .before .before .before .before .before .before .before .before .before .args .plan) in
     let w : within g ≡ true = sym (c .before .before .before .before .before .before .before .before .before .within .ensures) ∙ not-false _ (c .before .before .before .before .before .before .before .before .if1 .left) in
     (omega (arith, c .before .before .before .before .before .before .before .if2 .left), quotes-small g _ _ _ (c .before .before .before .before .before .all .ensures .quoted _ (c .before .before .quotations .given .1)) w)
 
--- src/lib.rt:287:29
 enum-known-quotations-2 : tie.Need-enum-known-quotations-2
 enum-known-quotations-2 c = search needs
 
--- src/lib.rt:271:1
 same-length : tie.Need-same-length
 same-length c = search needs
 
--- src/lib.rt:271:1
 returns-3 : tie.Need-returns-3
 returns-3 c =
     let a = c .before .before .before .before .before .before .before .before .before .before .before .before .before .before .args in
@@ -77,7 +67,6 @@ returns-3 c =
     record-acceptance g (a .buffer .now) _ d (c .before .before .put-record .ensures
     ∙ put-record g _ _ _ (c .before .before .before .before .before .before .before .before .all .ensures .quoted _ (c .before .before .before .before .before .quotations .given .1)) (a .buffer .now) (λ i. c .before .before .before .before .before .before .before .before .before .before .before .before .before .slice-known .given i .fits) (c .before .before .before .before .before .before .before .before .before .before .if2 .left))
 
--- src/lib.rt:271:1
 returns-4 : tie.Need-returns-4
 returns-4 c =
     let g = view (c .before .before .before .before .before .before .before .before .before .before .args .plan) in

@@ -3,7 +3,6 @@ use Prim.Native.Nat.{_-_}
 use mathlib.Core.Path.{sym, _∙_}
 use borrow.Author.Needs.{needs}
 use borrow.Author.Tests.{not-true, not-false}
-use borrow.Author.Needs.{needs}
 use Rattle.replay.proofs.Promises.{told, callable, applied}
 use Rattle.replay.proofs.apply.Statement.{statement}
 use Rattle.replay.proofs.apply.Tie as tie
@@ -13,39 +12,31 @@ use Rattle.plan.proofs.fresh.Reads as fresh-reads
 use Rattle.replay.proofs.are_calls.Reads as are-calls-reads
 use Rattle.replay.proofs.in_turn.Reads as in-turn-reads
 
--- src/lib.rt:133:9
 are-calls-requires : tie.Need-are-calls-requires
 are-calls-requires c κs = search needs
 
--- src/lib.rt:134:20
 fresh-requires : tie.Need-fresh-requires
 fresh-requires c κs = search needs
 
--- src/lib.rt:135:9
 same-length : tie.Need-same-length
 same-length c = search needs
 
--- src/lib.rt:135:9
 returns : tie.Need-returns
 returns c =
     let a = c .before .before .before .before .before .before .before .before .before .args in
     told (a .n) (a .kinds .now) (a .arguments .now) (a .octets .now) (a .answers .now) (c .before .fresh .result) (sym (c .before .before .before .are-calls .ensures) ∙ not-true _ (c .before .before .if1 .taken)) (c .before .fresh .ensures)
 
--- src/lib.rt:140:17
 fresh-requires-2 : tie.Need-fresh-requires-2
 fresh-requires-2 c κs = search needs
 
--- src/lib.rt:141:9
 in-turn-requires : tie.Need-in-turn-requires
 in-turn-requires c κs =
     let a = c .before .before .before .before .before .before .before .before .before .before .args in
     callable (a .n) (a .kinds .now) (a .arguments .now) (a .octets .now) (a .answers .now) (sym (c .before .before .before .before .are-calls .ensures) ∙ not-false _ (c .before .before .before .if1 .left))
 
--- src/lib.rt:129:1
 same-length-2 : tie.Need-same-length-2
 same-length-2 c = search needs
 
--- src/lib.rt:129:1
 returns-2 : tie.Need-returns-2
 returns-2 c =
     let a = c .before .before .before .before .before .before .before .before .before .before .before .before .before .args in

@@ -3,7 +3,6 @@ use Prim.Native.Nat.{_-_}
 use mathlib.Core.Path.{sym, _∙_}
 use borrow.Author.Needs.{needs}
 use borrow.Author.Tests.{le-leb, lt-leb, not-true, not-false}
-use borrow.Author.Needs.{needs}
 use Rattle.replay.specs.Slices.{areCalls}
 use Rattle.replay.proofs.are_calls.Statement.{statement}
 use Rattle.replay.proofs.are_calls.Tie as tie
@@ -12,30 +11,24 @@ use Rattle.replay.proofs.are_calls.Lts as lts
 use Rattle.arrays.proofs.limits.state_count_ok.Reads as state-count-ok-reads
 use Rattle.replay.proofs.each_call.Reads as each-call-reads
 
--- src/lib.rt:80:9
 state-count-ok-requires : tie.Need-state-count-ok-requires
 state-count-ok-requires c κs = search needs
 
--- src/lib.rt:81:9
 returns : tie.Need-returns
 unfolding areCalls
 returns c = rw (sym (c .before .state-count-ok .ensures) ∙ not-true _ (c .if1 .taken))
 
--- src/lib.rt:84:9
 returns-2 : tie.Need-returns-2
 unfolding areCalls
 returns-2 c = rw (sym (c .before .before .state-count-ok .ensures) ∙ not-false _ (c .before .if1 .left), lt-leb _ _ (c .if2 .taken))
 
--- src/lib.rt:87:9
 returns-3 : tie.Need-returns-3
 unfolding areCalls
 returns-3 c = rw (sym (c .before .before .before .state-count-ok .ensures) ∙ not-false _ (c .before .before .if1 .left), le-leb _ _ (c .before .if2 .left), lt-leb _ _ (c .if3 .taken))
 
--- src/lib.rt:89:5
 each-call-requires : tie.Need-each-call-requires
 each-call-requires c κs = c .before .if2 .left
 
--- src/lib.rt:77:1
 returns-4 : tie.Need-returns-4
 unfolding areCalls
 returns-4 c = rw (sym (c .before .before .before .before .state-count-ok .ensures) ∙ not-false _ (c .before .before .before .if1 .left), le-leb _ _ (c .before .before .if2 .left), le-leb _ _ (c .before .if3 .left)) (c .each-call .ensures)

@@ -21,62 +21,48 @@ Inv-loop kinds arguments long i₀ i = (i ≤ length kinds) × ((k : ℕ) → k 
 abbrev μ-loop : tie.MeasureT-loop
 μ-loop kinds arguments long i₀ i = length kinds - i
 
--- src/lib.rt:66:5
 loop-holds : tie.Need-loop-holds Inv-loop μ-loop
 loop-holds c = (search needs, below-none _)
 
--- src/lib.rt:67:18
 mul-at : tie.Need-mul-at Inv-loop μ-loop
 mul-at c = omega (arith, c .before .before .before .before .pre)
 
--- src/lib.rt:68:21
 shared-slice-read-is-call : tie.Need-shared-slice-read-is-call Inv-loop μ-loop
 shared-slice-read-is-call c = search needs
 
--- src/lib.rt:68:31
 mul-is-call : tie.Need-mul-is-call Inv-loop μ-loop
 mul-is-call c = search needs
 
--- src/lib.rt:68:31
 shared-slice-read-is-call-2 : tie.Need-shared-slice-read-is-call-2 Inv-loop μ-loop
 shared-slice-read-is-call-2 c = omega (arith, c .before .before .before .before .before .before .pre)
 
--- src/lib.rt:68:56
 add-is-call : tie.Need-add-is-call Inv-loop μ-loop
 add-is-call c = omega (arith, c .before .before .before .before .before .before .pre)
 
--- src/lib.rt:68:46
 mul-is-call-2 : tie.Need-mul-is-call-2 Inv-loop μ-loop
 mul-is-call-2 c = search needs
 
--- src/lib.rt:68:46
 shared-slice-read-is-call-3 : tie.Need-shared-slice-read-is-call-3 Inv-loop μ-loop
 shared-slice-read-is-call-3 c = omega (arith, c .before .before .before .before .before .before .before .pre)
 
--- src/lib.rt:68:13
 is-call-requires : tie.Need-is-call-requires Inv-loop μ-loop
 is-call-requires c κs = search needs
 
--- src/lib.rt:69:13
 returns : tie.Need-returns Inv-loop μ-loop
 returns c =
     let a = c .before .before .before .before .before .before .before .before .before .args in
     sym (not-all-tabulate (isCall (a .long)) (length (a .kinds .now)) (itemAt (a .kinds .now) (a .arguments .now)) (c .before .before .before .before .before .before .loop .i) (omega arith)
     (sym (c .before .is-call .ensures) ∙ not-true _ (c .if1 .taken)))
 
--- src/lib.rt:71:9
 add-i : tie.Need-add-i Inv-loop μ-loop
 add-i c = search needs
 
--- src/lib.rt:66:5
 loop-less : tie.Need-loop-less Inv-loop μ-loop
 loop-less c = search needs
 
--- src/lib.rt:66:5
 loop-again : tie.Need-loop-again Inv-loop μ-loop
 loop-again c = (omega arith, below-more _ _ (c .before .before .before .before .before .before .loop .inv .1) (sym (c .before .is-call .ensures) ∙ not-false _ (c .if1 .left)))
 
--- src/lib.rt:61:1
 returns-2 : tie.Need-returns-2 Inv-loop μ-loop
 returns-2 c =
     let a = c .before .before .before .before .args in

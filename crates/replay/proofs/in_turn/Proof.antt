@@ -25,87 +25,66 @@ Inv-loop kinds arguments octets answers₀ plan₀ i₀ answers plan i = (i ≤ 
 abbrev μ-loop : tie.MeasureT-loop
 μ-loop kinds arguments octets answers₀ plan₀ i₀ answers plan i = length kinds - i
 
--- src/lib.rt:113:5
 loop-holds : tie.Need-loop-holds Inv-loop μ-loop
 loop-holds c = (search needs, refl, after-none _ _ _)
 
--- src/lib.rt:114:18
 mul-at : tie.Need-mul-at Inv-loop μ-loop
 mul-at c = omega (arith, c .before .before .before .before .before .before .pre .four)
 
--- src/lib.rt:115:17
 mul-a : tie.Need-mul-a Inv-loop μ-loop
 mul-a c = omega (arith, c .before .before .before .before .before .before .pre .four)
 
--- src/lib.rt:115:17
 shared-slice-read-a : tie.Need-shared-slice-read-a Inv-loop μ-loop
 shared-slice-read-a c = omega (arith, c .before .before .before .before .before .before .before .pre .four)
 
--- src/lib.rt:116:27
 add-b : tie.Need-add-b Inv-loop μ-loop
 add-b c = omega (arith, c .before .before .before .before .before .before .before .pre .four)
 
--- src/lib.rt:116:17
 mul-b : tie.Need-mul-b Inv-loop μ-loop
 mul-b c = omega (arith, c .before .before .before .before .before .before .before .pre .four)
 
--- src/lib.rt:116:17
 shared-slice-read-b : tie.Need-shared-slice-read-b Inv-loop μ-loop
 shared-slice-read-b c = omega (arith, c .before .before .before .before .before .before .before .before .pre .four)
 
--- src/lib.rt:117:27
 add-c : tie.Need-add-c Inv-loop μ-loop
 add-c c = omega (arith, c .before .before .before .before .before .before .before .before .pre .four)
 
--- src/lib.rt:117:17
 mul-c : tie.Need-mul-c Inv-loop μ-loop
 mul-c c = omega (arith, c .before .before .before .before .before .before .before .before .pre .four)
 
--- src/lib.rt:117:17
 shared-slice-read-c : tie.Need-shared-slice-read-c Inv-loop μ-loop
 shared-slice-read-c c = omega (arith, c .before .before .before .before .before .before .before .before .before .pre .four)
 
--- src/lib.rt:118:27
 add-d : tie.Need-add-d Inv-loop μ-loop
 add-d c = omega (arith, c .before .before .before .before .before .before .before .before .before .pre .four)
 
--- src/lib.rt:118:17
 mul-d : tie.Need-mul-d Inv-loop μ-loop
 mul-d c = omega (arith, c .before .before .before .before .before .before .before .before .before .pre .four)
 
--- src/lib.rt:118:17
 shared-slice-read-d : tie.Need-shared-slice-read-d Inv-loop μ-loop
 shared-slice-read-d c = omega (arith, c .before .before .before .before .before .before .before .before .before .before .pre .four)
 
--- src/lib.rt:119:36
 shared-slice-read-perform : tie.Need-shared-slice-read-perform Inv-loop μ-loop
 shared-slice-read-perform c = search needs
 
--- src/lib.rt:119:13
 perform-requires : tie.Need-perform-requires Inv-loop μ-loop
 perform-requires c κs = c .before .before .before .before .before .before .before .before .before .before .before .pre .each (c .before .before .before .before .before .before .loop .turn) (omega arith)
 
--- src/lib.rt:121:22
 code-requires : tie.Need-code-requires Inv-loop μ-loop
 code-requires c κs = search needs
 
--- src/lib.rt:121:9
 mul-answers : tie.Need-mul-answers Inv-loop μ-loop
 mul-answers c = search needs
 
--- src/lib.rt:121:9
 slice-write-answers : tie.Need-slice-write-answers Inv-loop μ-loop
 slice-write-answers c = omega (arith, c .before .before .before .before .before .before .before .before .before .before .before .before .before .pre .room)
 
--- src/lib.rt:123:9
 add-turn : tie.Need-add-turn Inv-loop μ-loop
 add-turn c = search needs
 
--- src/lib.rt:113:5
 loop-less : tie.Need-loop-less Inv-loop μ-loop
 loop-less c = search needs
 
--- src/lib.rt:113:5
 loop-again : tie.Need-loop-again Inv-loop μ-loop
 loop-again c =
     let a = c .before .before .before .before .before .before .before .before .before .before .before .before .before .before .args in
@@ -117,11 +96,9 @@ loop-again c =
           (omega (arith, c .before .before .before .before .before .before .before .before .before .before .before .before .before .before .pre .room)) (l .inv .2) (c .before .before .perform .ensures)),
     )
 
--- src/lib.rt:106:1
 same-length : tie.Need-same-length Inv-loop μ-loop
 same-length c = c .before .loop .inv .1
 
--- src/lib.rt:106:1
 returns : tie.Need-returns Inv-loop μ-loop
 unfolding callsIn
 returns c =

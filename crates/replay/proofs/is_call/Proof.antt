@@ -2,26 +2,21 @@
 use Prim.Native.Nat.{_-_}
 use borrow.Author.Needs.{needs}
 use borrow.Author.Tests.{lt-ltb, le-ltb, eq-eqb, ne-eqb}
-use borrow.Author.Needs.{needs}
 use Rattle.replay.proofs.is_call.Statement.{statement}
 use Rattle.replay.proofs.is_call.Tie as tie
 use Rattle.replay.proofs.is_call.Reads as reads
 use Rattle.replay.proofs.is_call.Lts as lts
 use Rattle.replay.proofs.part_ok.Reads as part-ok-reads
 
--- src/lib.rt:55:9
 returns : tie.Need-returns
 returns c = rw (lt-ltb _ _ (c .if1 .taken))
 
--- src/lib.rt:57:20
 part-ok-requires : tie.Need-part-ok-requires
 part-ok-requires c κs = search needs
 
--- src/lib.rt:51:1
 returns-2 : tie.Need-returns-2
 returns-2 c = rw (le-ltb _ _ (c .before .before .if1 .left), eq-eqb _ _ (c .before .if2 .taken)) (c .part-ok .ensures)
 
--- src/lib.rt:51:1
 returns-3 : tie.Need-returns-3
 returns-3 c = rw (le-ltb _ _ (c .before .if1 .left), ne-eqb _ _ (c .if2 .left))
 

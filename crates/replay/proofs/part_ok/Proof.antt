@@ -6,11 +6,9 @@ use Rattle.replay.proofs.part_ok.Tie as tie
 use Rattle.replay.proofs.part_ok.Reads as reads
 use Rattle.replay.proofs.part_ok.Lts as lts
 
--- src/lib.rt:44:1
 returns : tie.Need-returns
 returns c = rw (le-leb _ _ (c .if1 .taken))
 
--- src/lib.rt:44:1
 returns-2 : tie.Need-returns-2
 returns-2 c = rw (lt-leb _ _ (c .if1 .left))
 

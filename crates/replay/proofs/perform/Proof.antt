@@ -2,7 +2,6 @@
 use Prim.Native.Nat.{_-_}
 use borrow.Author.Needs.{needs}
 use lib.ListN.{length}
-use borrow.Author.Needs.{needs}
 use Rattle.replay.proofs.ReadCalls.{a-read}
 use Rattle.replay.proofs.perform.Statement.{statement}
 use Rattle.replay.proofs.perform.Tie as tie
@@ -13,47 +12,36 @@ use Rattle.plan.proofs.mark.Reads as mark-reads
 use Rattle.plan.proofs.read.Reads as read-reads
 use Rattle.plan.proofs.unjoin.Reads as unjoin-reads
 
--- src/lib.rt:97:14
 mark-requires : tie.Need-mark-requires
 mark-requires c κs = search needs
 
--- src/lib.rt:98:14
 join-requires : tie.Need-join-requires
 join-requires c κs = search needs
 
--- src/lib.rt:99:14
 unjoin-requires : tie.Need-unjoin-requires
 unjoin-requires c κs = search needs
 
--- src/lib.rt:100:31
 sub-read : tie.Need-sub-read
 sub-read c = let a = c .before .before .args in a-read (a .kind) (a .a) (a .b) (length (a .octets .now)) (c .before .before .pre) (c .match .rest .0 .0 .1) (c .match .rest .0 .1) (c .match .rest .1) .start
 
--- src/lib.rt:100:31
 part-read-start : tie.Need-part-read-start
 part-read-start c = let a = c .before .before .args in a-read (a .kind) (a .a) (a .b) (length (a .octets .now)) (c .before .before .pre) (c .match .rest .0 .0 .1) (c .match .rest .0 .1) (c .match .rest .1) .start
 
--- src/lib.rt:100:31
 part-read-end : tie.Need-part-read-end
 part-read-end c = let a = c .before .before .args in a-read (a .kind) (a .a) (a .b) (length (a .octets .now)) (c .before .before .pre) (c .match .rest .0 .0 .1) (c .match .rest .0 .1) (c .match .rest .1) .end
 
--- src/lib.rt:100:14
 read-requires : tie.Need-read-requires
 read-requires c κs = search needs
 
--- src/lib.rt:92:1
 returns : tie.Need-returns
 returns c = rw (c .before .match .keys1) (c .mark .ensures)
 
--- src/lib.rt:92:1
 returns-2 : tie.Need-returns-2
 returns-2 c = rw (c .before .match .keys2) (c .join .ensures)
 
--- src/lib.rt:92:1
 returns-3 : tie.Need-returns-3
 returns-3 c = rw (c .before .match .keys3) (c .unjoin .ensures)
 
--- src/lib.rt:92:1
 returns-4 : tie.Need-returns-4
 returns-4 c = let a = c .before .before .before .before .args in rw (a-read (a .kind) (a .a) (a .b) (length (a .octets .now)) (c .before .before .before .before .pre) (c .before .before .match .rest .0 .0 .1) (c .before .before .match .rest .0 .1) (c .before .before .match .rest .1) .read) (c .read .ensures)
 

@@ -1,7 +1,6 @@
 -- `replay::replay` meets its contract. Assumes nothing.
 use Prim.Native.Nat.{_-_}
 use borrow.Author.Needs.{needs}
-use borrow.Author.Needs.{needs}
 use Rattle.replay.proofs.Promises.{replayed}
 use Rattle.replay.proofs.replay.Statement.{statement}
 use Rattle.replay.proofs.replay.Tie as tie
@@ -13,47 +12,36 @@ use Rattle.quotation.proofs.least_count.Reads as least-count-reads
 use Rattle.quotation.proofs.least_delay.Reads as least-delay-reads
 use Rattle.replay.proofs.apply.Reads as apply-reads
 
--- src/lib.rt:197:9
 apply-requires : tie.Need-apply-requires
 apply-requires c κs = search needs
 
--- src/lib.rt:199:9
 least-delay-requires : tie.Need-least-delay-requires
 least-delay-requires c κs = search needs
 
--- src/lib.rt:200:9
 greatest-delay-requires : tie.Need-greatest-delay-requires
 greatest-delay-requires c κs = search needs
 
--- src/lib.rt:201:9
 least-count-requires : tie.Need-least-count-requires
 least-count-requires c κs = search needs
 
--- src/lib.rt:202:9
 greatest-count-requires : tie.Need-greatest-count-requires
 greatest-count-requires c κs = search needs
 
--- src/lib.rt:181:1
 same-length : tie.Need-same-length
 same-length c = search needs
 
--- src/lib.rt:181:1
 same-length-2 : tie.Need-same-length-2
 same-length-2 c = search needs
 
--- src/lib.rt:181:1
 same-length-3 : tie.Need-same-length-3
 same-length-3 c = search needs
 
--- src/lib.rt:181:1
 same-length-4 : tie.Need-same-length-4
 same-length-4 c = search needs
 
--- src/lib.rt:181:1
 same-length-5 : tie.Need-same-length-5
 same-length-5 c = search needs
 
--- src/lib.rt:181:1
 returns : tie.Need-returns
 returns c =
     let a = c .before .before .before .before .before .before .before .before .before .before .before .before .before .before .before .before .before .before .before .before .before .before .before .before .before .before .before .before .before .args in

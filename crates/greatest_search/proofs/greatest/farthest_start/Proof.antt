@@ -1,4 +1,4 @@
--- `search::greatest::farthest_start` meets its contract. The invariant: the best is a start whose value is the greatest of those passed.
+-- `greatest_search::greatest::farthest_start` meets its contract. The invariant: the best is a start whose value is the greatest of those passed.
 -- Assumes nothing.
 use Prim.Native.Nat.{ℕ, zero, suc, _+_, _-_, _*_, _≤_, _<_}
 use mathlib.Core.Bool.{Bool, true, false, not}
@@ -28,43 +28,33 @@ Inv-loop n marks value best₀ most₀ s₀ best most s = (s ≤ n) × Looking n
 abbrev μ-loop : tie.MeasureT-loop
 μ-loop n marks value best₀ most₀ s₀ best most s = n - s
 
--- src/greatest.rt:87:5
 loop-holds : tie.Need-loop-holds Inv-loop μ-loop
 loop-holds c = (omega arith, record { found = λ b. absurd (omega arith); none = λ b. refl; greatest = λ x b q. absurd (omega arith) })
 
--- src/greatest.rt:88:21
 element-copy-out-is-start : tie.Need-element-copy-out-is-start Inv-loop μ-loop
 element-copy-out-is-start c = omega (arith, c .before .before .pre)
 
--- src/greatest.rt:88:12
 is-start-requires : tie.Need-is-start-requires Inv-loop μ-loop
 is-start-requires c κs = search needs
 
--- src/greatest.rt:89:24
 mul-if2 : tie.Need-mul-if2 Inv-loop μ-loop
 mul-if2 c = omega (arith, c .before .before .before .before .before .pre)
 
--- src/greatest.rt:89:24
 element-copy-out-if2 : tie.Need-element-copy-out-if2 Inv-loop μ-loop
 element-copy-out-if2 c = omega (arith, c .before .before .before .before .before .pre)
 
--- src/greatest.rt:91:24
 mul-most : tie.Need-mul-most Inv-loop μ-loop
 mul-most c = omega (arith, c .before .before .before .before .before .before .before .pre)
 
--- src/greatest.rt:91:24
 element-copy-out-most : tie.Need-element-copy-out-most Inv-loop μ-loop
 element-copy-out-most c = omega (arith, c .before .before .before .before .before .before .before .pre)
 
--- src/greatest.rt:94:9
 add-s : tie.Need-add-s Inv-loop μ-loop
 add-s c = search needs
 
--- src/greatest.rt:87:5
 loop-less : tie.Need-loop-less Inv-loop μ-loop
 loop-less c = search needs
 
--- src/greatest.rt:87:5
 loop-again : tie.Need-loop-again Inv-loop μ-loop
 loop-again c =
     let a = c .before .before .before .before .before .args in
@@ -80,7 +70,6 @@ loop-again c =
           (c .if1 .came)),
     )
 
--- src/greatest.rt:80:1
 returns : tie.Need-returns Inv-loop μ-loop
 returns c =
     let a = c .before .before .args in

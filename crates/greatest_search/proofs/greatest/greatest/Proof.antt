@@ -1,4 +1,4 @@
--- `search::greatest::greatest` meets its contract, kind by kind: what each of the searches' answers gives (GreatestFigure). Assumes nothing.
+-- `greatest_search::greatest::greatest` meets its contract, kind by kind: what each of the searches' answers gives (GreatestFigure). Assumes nothing.
 use Prim.Native.Nat.{ℕ, zero, suc, _+_, _-_, _*_, _≤_, _<_}
 use mathlib.Core.Bool.{Bool, true, false, not}
 use mathlib.Core.List.{List, [], _∷_, _++_}
@@ -11,7 +11,6 @@ use borrow.Author.Tests.{lt-ltb, le-ltb, le-leb, lt-leb, eq-eqb, ne-eqb, not-tru
 use lib.Dec.{ltb, leb, eqb}
 use lib.ListN.{length, getD, set, take, drop, length-set}
 use lib.Seq.{getD-set-same, getD-set-other}
-use borrow.Author.Needs.{needs}
 use Rattle.greatest_search.proofs.GreatestFigure.{loop-shown, rising, falling, dead-end-shown}
 use Rattle.search.proofs.Held.{begins-in}
 use Rattle.reach.specs.Explored.{table}
@@ -26,15 +25,12 @@ use Rattle.greatest_search.proofs.greatest.number.Reads as number-reads
 use Rattle.reach.proofs.tree.along_stack.Reads as along-stack-reads
 use Rattle.reach.proofs.tree.climb.Reads as climb-reads
 
--- src/greatest.rt:191:43
 enum-told : tie.Need-enum-told
 enum-told c = search needs
 
--- src/greatest.rt:192:23
 enum-known-found : tie.Need-enum-known-found
 enum-known-found c = search needs
 
--- src/greatest.rt:193:13
 along-stack-requires : tie.Need-along-stack-requires
 along-stack-requires c κs =
     let a = c .before .before .before .before .before .args in
@@ -43,11 +39,9 @@ along-stack-requires c κs =
     let q = rw (c .before .before .found .given .1) at (p .1) in
     (omega (arith, q .depth, p .0 .0 .states), omega (arith, q .depth, p .0 .2), (λ i h. omega (arith, q .stacked i h .0, p .0 .0 .states)))
 
--- src/greatest.rt:196:24
 enum-known-found-2 : tie.Need-enum-known-found-2
 enum-known-found-2 c = search needs
 
--- src/greatest.rt:197:17
 climb-requires : tie.Need-climb-requires
 climb-requires c κs =
     let a = c .before .before .before .before .before .args in
@@ -56,11 +50,9 @@ climb-requires c κs =
     let q = rw (c .before .before .found2 .given .1) at (p .1) in
     (q .1 .0, p .0 .0 .states, p .0 .0 .count, p .0 .2, q .1 .1, rising (a .n) (a .m) (a .marks .now) (a .from .now) (a .to .now) (p .0 .0) t (q .0 .0) (q .0 .1))
 
--- src/greatest.rt:200:21
 enum-known-found-3 : tie.Need-enum-known-found-3
 enum-known-found-3 c = search needs
 
--- src/greatest.rt:200:30
 number-requires : tie.Need-number-requires
 number-requires c κs =
     let a = c .before .before .before .before .before .args in
@@ -69,7 +61,6 @@ number-requires c κs =
     let q = rw (c .before .before .found3 .given .1) at (p .1) in
     (p .0, ((a .cursor .now, a .stack .now, a .via .now, q .0), (q .1, q .2)))
 
--- src/greatest.rt:165:1
 returns : tie.Need-returns
 returns c =
     let a = c .before .before .before .args in
@@ -83,11 +74,9 @@ returns c =
       later = refl;
     }
 
--- src/greatest.rt:165:1
 same-length : tie.Need-same-length
 same-length c = search needs
 
--- src/greatest.rt:165:1
 returns-2 : tie.Need-returns-2
 returns-2 c =
     let a = c .before .before .before .before .before .before .before .before .args in
@@ -107,11 +96,9 @@ returns-2 c =
       later = w .1;
     }
 
--- src/greatest.rt:165:1
 same-length-2 : tie.Need-same-length-2
 same-length-2 c = search needs
 
--- src/greatest.rt:165:1
 returns-3 : tie.Need-returns-3
 returns-3 c =
     let a = c .before .before .before .before .before .before .before .before .args in
@@ -132,11 +119,9 @@ returns-3 c =
       later = w .1 .later;
     }
 
--- src/greatest.rt:165:1
 same-length-3 : tie.Need-same-length-3
 same-length-3 c = search needs
 
--- src/greatest.rt:165:1
 returns-4 : tie.Need-returns-4
 returns-4 c = c .before .before .number .ensures
 

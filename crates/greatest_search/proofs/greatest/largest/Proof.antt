@@ -1,4 +1,4 @@
--- `search::greatest::largest` meets its contract. The invariant: the best is the greatest over the transitions of the chain that were passed.
+-- `greatest_search::greatest::largest` meets its contract. The invariant: the best is the greatest over the transitions of the chain that were passed.
 -- Assumes nothing.
 use Prim.Native.Nat.{ℕ, zero, suc, _+_, _-_, _*_, _≤_, _<_}
 use mathlib.Core.Bool.{Bool, true, false, not}
@@ -28,46 +28,36 @@ Inv-loop s m from to head link weight value best₀ t₀ best t = (t ≤ 2048) �
 abbrev μ-loop : tie.MeasureT-loop
 μ-loop s m from to head link weight value best₀ t₀ best t = 2048 - t
 
--- src/greatest.rt:39:22
 mul-wide : tie.Need-mul-wide Inv-loop μ-loop
 mul-wide c = search needs
 
--- src/greatest.rt:39:22
 element-copy-out-wide : tie.Need-element-copy-out-wide Inv-loop μ-loop
 element-copy-out-wide c = search needs
 
--- src/greatest.rt:39:9
 wide-requires : tie.Need-wide-requires Inv-loop μ-loop
 wide-requires c κs = search needs
 
--- src/greatest.rt:40:5
 loop-holds : tie.Need-loop-holds Inv-loop μ-loop
 loop-holds c =
     let a = c .before .before .args in
     let f = rw (← c .wide .ensures) at (c .before .before .pre .2 .heads (a .s) (c .before .before .pre .0)) in
     (f .most, first-leaves (a .from .now) (a .m) f, raised-none (a .m) (a .from .now) (a .to .now) (a .weight .now) (a .value .now) (a .s) f)
 
--- src/greatest.rt:41:17
 mul-x : tie.Need-mul-x Inv-loop μ-loop
 mul-x c = search needs
 
--- src/greatest.rt:41:17
 element-copy-out-x : tie.Need-element-copy-out-x Inv-loop μ-loop
 element-copy-out-x c = search needs
 
--- src/greatest.rt:41:40
 mul-wide-2 : tie.Need-mul-wide-2 Inv-loop μ-loop
 mul-wide-2 c = search needs
 
--- src/greatest.rt:41:40
 element-copy-out-wide-2 : tie.Need-element-copy-out-wide-2 Inv-loop μ-loop
 element-copy-out-wide-2 c = search needs
 
--- src/greatest.rt:41:35
 wide-requires-2 : tie.Need-wide-requires-2 Inv-loop μ-loop
 wide-requires-2 c κs = search needs
 
--- src/greatest.rt:41:29
 mul-x-2 : tie.Need-mul-x-2 Inv-loop μ-loop
 mul-x-2 c =
     let a = c .before .before .before .before .before .before .before .args in
@@ -76,7 +66,6 @@ mul-x-2 c =
     let e : c .wide2 .result ≡ at (a .to .now) (l .t) = c .wide2 .ensures in
     omega (arith, c .before .before .before .before .before .before .before .pre .3 (l .t) (q .0) .0)
 
--- src/greatest.rt:41:29
 element-copy-out-x-2 : tie.Need-element-copy-out-x-2 Inv-loop μ-loop
 element-copy-out-x-2 c =
     let a = c .before .before .before .before .before .before .before .args in
@@ -85,7 +74,6 @@ element-copy-out-x-2 c =
     let e : c .wide2 .result ≡ at (a .to .now) (l .t) = c .wide2 .ensures in
     omega (arith, c .before .before .before .before .before .before .before .pre .3 (l .t) (q .0) .0)
 
--- src/greatest.rt:41:17
 add-x : tie.Need-add-x Inv-loop μ-loop
 add-x c =
     let a = c .before .before .before .before .before .before .before .before .args in
@@ -93,19 +81,15 @@ add-x c =
     let q = l .inv .1 (c .before .before .before .before .loop-test .taken) in
     omega (arith, c .before .before .before .before .before .before .before .before .pre .3 (l .t) (q .0) .1, c .before .before .before .before .before .before .before .before .pre .4 (c .before .wide2 .result))
 
--- src/greatest.rt:45:18
 mul-wide-3 : tie.Need-mul-wide-3 Inv-loop μ-loop
 mul-wide-3 c = search needs
 
--- src/greatest.rt:45:18
 element-copy-out-wide-3 : tie.Need-element-copy-out-wide-3 Inv-loop μ-loop
 element-copy-out-wide-3 c = search needs
 
--- src/greatest.rt:45:9
 wide-requires-3 : tie.Need-wide-requires-3 Inv-loop μ-loop
 wide-requires-3 c κs = search needs
 
--- src/greatest.rt:40:5
 loop-less : tie.Need-loop-less Inv-loop μ-loop
 loop-less c =
     let a = c .before .before .before .before .before .before .before .before .before .before .before .args in
@@ -115,7 +99,6 @@ loop-less c =
     let e : c .wide3 .result ≡ at (a .link .now) (l .t) = c .wide3 .ensures in
     omega (arith, chain-rises (a .from .now) (a .m) f (c .before .before .before .before .before .before .before .loop-test .taken))
 
--- src/greatest.rt:40:5
 loop-again : tie.Need-loop-again Inv-loop μ-loop
 loop-again c =
     let a = c .before .before .before .before .before .before .before .before .before .before .before .args in
@@ -130,7 +113,6 @@ loop-again c =
           (⊎-elim (λ w. inl (rw e at (w .0 .taken), w .1 ∙ e)) (λ w. inr (rw e at (w .0 .left), w .1)) (c .before .before .if1 .came)),
     )
 
--- src/greatest.rt:24:1
 returns : tie.Need-returns Inv-loop μ-loop
 returns c =
     let a = c .before .before .before .before .args in

@@ -1,4 +1,4 @@
--- `search::greatest::number` meets its contract: what the values give (GreatestFigure). Assumes nothing.
+-- `greatest_search::greatest::number` meets its contract: what the values give (GreatestFigure). Assumes nothing.
 use Prim.Native.Nat.{ℕ, zero, suc, _+_, _-_, _*_, _≤_, _<_}
 use mathlib.Core.Bool.{Bool, true, false, not}
 use mathlib.Core.List.{List, [], _∷_, _++_}
@@ -11,7 +11,6 @@ use borrow.Author.Tests.{lt-ltb, le-ltb, le-leb, lt-leb, eq-eqb, ne-eqb, not-tru
 use lib.Dec.{ltb, leb, eqb}
 use lib.ListN.{length, getD, set, take, drop, length-set}
 use lib.Seq.{getD-set-same, getD-set-other}
-use borrow.Author.Needs.{needs}
 use Rattle.greatest_search.proofs.GreatestFigure.{ordered, leading, start-inside, number-shown}
 use Rattle.search.specs.Sizes.{far, heaviest}
 use Rattle.reach.specs.Explored.{table}
@@ -24,7 +23,6 @@ use Rattle.greatest_search.proofs.greatest.farthest_start.Reads as fart
 use Rattle.greatest_search.proofs.greatest.values.Reads as values-reads
 use Rattle.search.proofs.route.trace.Reads as trace-reads
 
--- src/greatest.rt:158:5
 values-requires : tie.Need-values-requires
 values-requires c κs =
     let a = c .before .before .before .args in
@@ -45,11 +43,9 @@ values-requires c κs =
       ),
     )
 
--- src/greatest.rt:159:9
 farthest-start-requires : tie.Need-farthest-start-requires
 farthest-start-requires c κs = c .before .before .before .before .before .pre .0 .0 .states
 
--- src/greatest.rt:160:9
 trace-requires : tie.Need-trace-requires
 trace-requires c κs =
     let a = c .before .before .before .before .before .before .before .before .args in
@@ -75,7 +71,6 @@ trace-requires c κs =
       ),
     )
 
--- src/greatest.rt:161:36
 mul-t24 : tie.Need-mul-t24
 mul-t24 c =
     let a = c .before .before .before .before .before .before .before .before .before .before .before .args in
@@ -86,7 +81,6 @@ mul-t24 c =
     let (s, h, d) = p .1 .1 .0 in
     omega (arith, c .before .before .before .before .before .farthest-start .ensures .greatest s h d .0, p .0 .0 .states)
 
--- src/greatest.rt:161:36
 array-read-t27 : tie.Need-array-read-t27
 array-read-t27 c =
     let a = c .before .before .before .before .before .before .before .before .before .before .before .args in
@@ -97,11 +91,9 @@ array-read-t27 c =
     let (s, h, d) = p .1 .1 .0 in
     omega (arith, c .before .before .before .before .before .farthest-start .ensures .greatest s h d .0, p .0 .0 .states)
 
--- src/greatest.rt:133:1
 same-length : tie.Need-same-length
 same-length c = search needs
 
--- src/greatest.rt:133:1
 returns : tie.Need-returns
 returns c =
     let a = c .before .before .before .before .before .before .before .before .before .before .before .args in

@@ -1,4 +1,4 @@
--- `search::greatest::values` meets its contract. The invariant: the states before place i of the order have their values.
+-- `greatest_search::greatest::values` meets its contract. The invariant: the states before place i of the order have their values.
 -- Assumes nothing.
 use Prim.Native.Nat.{ℕ, zero, suc, _+_, _-_, _*_, _≤_, _<_}
 use mathlib.Core.Bool.{Bool, true, false, not}
@@ -30,23 +30,18 @@ Inv-loop n m done marks from to head link order weight value₀ i₀ value i = (
 abbrev μ-loop : tie.MeasureT-loop
 μ-loop n m done marks from to head link order weight value₀ i₀ value i = done - i
 
--- src/greatest.rt:72:5
 loop-holds : tie.Need-loop-holds Inv-loop μ-loop
 loop-holds c = (omega arith, c .pre .1 .1)
 
--- src/greatest.rt:73:22
 mul-wide : tie.Need-mul-wide Inv-loop μ-loop
 mul-wide c = omega (arith, c .before .before .pre .0 .0)
 
--- src/greatest.rt:73:22
 element-copy-out-wide : tie.Need-element-copy-out-wide Inv-loop μ-loop
 element-copy-out-wide c = omega (arith, c .before .before .pre .0 .0)
 
--- src/greatest.rt:73:13
 wide-requires : tie.Need-wide-requires Inv-loop μ-loop
 wide-requires c κs = search needs
 
--- src/greatest.rt:74:20
 largest-requires : tie.Need-largest-requires Inv-loop μ-loop
 largest-requires c κs =
     let a = c .before .before .before .before .before .args in
@@ -60,7 +55,6 @@ largest-requires c κs =
       (λ x. omega (arith, l .inv .1 .most x, c .before .before .before .before .before .pre .0 .0)),
     )
 
--- src/greatest.rt:74:9
 mul-value : tie.Need-mul-value Inv-loop μ-loop
 mul-value c =
     let a = c .before .before .before .before .before .before .args in
@@ -68,7 +62,6 @@ mul-value c =
     let e : c .before .before .wide .result ≡ at (a .order .now) (l .i) = c .before .before .wide .ensures in
     omega (arith, c .before .before .before .before .before .before .pre .1 .0 .below (l .i) (c .before .before .before .before .loop-test .taken), c .before .before .before .before .before .before .pre .0 .1 .states)
 
--- src/greatest.rt:74:9
 element-write-value : tie.Need-element-write-value Inv-loop μ-loop
 element-write-value c =
     let a = c .before .before .before .before .before .before .args in
@@ -76,15 +69,12 @@ element-write-value c =
     let e : c .before .before .wide .result ≡ at (a .order .now) (l .i) = c .before .before .wide .ensures in
     omega (arith, c .before .before .before .before .before .before .pre .1 .0 .below (l .i) (c .before .before .before .before .loop-test .taken), c .before .before .before .before .before .before .pre .0 .1 .states)
 
--- src/greatest.rt:75:9
 add-i : tie.Need-add-i Inv-loop μ-loop
 add-i c = search needs
 
--- src/greatest.rt:72:5
 loop-less : tie.Need-loop-less Inv-loop μ-loop
 loop-less c = search needs
 
--- src/greatest.rt:72:5
 loop-again : tie.Need-loop-again Inv-loop μ-loop
 loop-again c =
     let a = c .before .before .before .before .before .before .args in
@@ -95,7 +85,6 @@ loop-again c =
     (c .before .before .before .before .loop-test .taken) (c .before .before .before .before .before .before .pre .1 .0) (c .before .before .before .before .before .before .pre .0 .1 .states) (c .before .before .before .before .before .before .pre .0 .3) (l .value) (l .inv .1) (c .largest .result) g in
     (omega arith, rw (e, add-one) v)
 
--- src/greatest.rt:51:1
 returns : tie.Need-returns Inv-loop μ-loop
 returns c =
     let l = c .before .loop in

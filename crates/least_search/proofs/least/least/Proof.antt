@@ -1,4 +1,4 @@
--- `search::least::least` meets its contract: what settled keys give (LeastFigure). Assumes nothing.
+-- `least_search::least::least` meets its contract: what settled keys give (LeastFigure). Assumes nothing.
 use Prim.Native.Nat.{ℕ, zero, suc, _+_, _-_, _*_, _≤_, _<_}
 use mathlib.Core.Bool.{Bool, true, false, not}
 use mathlib.Core.List.{List, [], _∷_, _++_}
@@ -11,7 +11,6 @@ use borrow.Author.Tests.{lt-ltb, le-ltb, le-leb, lt-leb, eq-eqb, ne-eqb, not-tru
 use lib.Dec.{ltb, leb, eqb}
 use lib.ListN.{length, getD, set, take, drop, length-set}
 use lib.Seq.{getD-set-same, getD-set-other}
-use borrow.Author.Needs.{needs}
 use native.Mathlib.Nat.{le-refl}
 use lib.ListN.{getD-replicate}
 use Rattle.least_search.proofs.LeastFigure.{leading, least-shown, no-route}
@@ -24,17 +23,14 @@ use Rattle.least_search.proofs.least.settle.Reads as settle-reads
 use Rattle.least_search.proofs.least.spread.Reads as spread-reads
 use Rattle.search.proofs.route.trace.Reads as trace-reads
 
--- src/least.rt:311:5
 spread-requires : tie.Need-spread-requires
 spread-requires c κs =
     let p = c .before .before .pre in
     (p .0 .0, p .0 .1, p .1 .0, le-refl 512, λ s h. getD-replicate 512 s 4000000000 0 h)
 
--- src/least.rt:312:9
 settle-requires : tie.Need-settle-requires
 settle-requires c κs = (c .before .before .before .before .pre .0 .0, c .before .before .before .before .pre .0 .1, c .before .spread .ensures)
 
--- src/least.rt:314:9
 returns : tie.Need-returns
 returns c =
     let a = c .before .before .before .before .before .before .args in
@@ -47,7 +43,6 @@ returns c =
       later = refl;
     }
 
--- src/least.rt:316:9
 trace-requires : tie.Need-trace-requires
 trace-requires c κs =
     let a = c .before .before .before .before .before .before .before .before .args in
@@ -64,19 +59,15 @@ trace-requires c κs =
       ),
     )
 
--- src/least.rt:317:36
 mul-t24 : tie.Need-mul-t24
 mul-t24 c = omega (arith, c .before .before .before .before .before .before .before .before .before .before .before .pre .0 .0 .states)
 
--- src/least.rt:317:36
 array-read-t27 : tie.Need-array-read-t27
 array-read-t27 c = omega (arith, c .before .before .before .before .before .before .before .before .before .before .before .pre .0 .0 .states)
 
--- src/least.rt:290:1
 same-length : tie.Need-same-length
 same-length c = search needs
 
--- src/least.rt:290:1
 returns-2 : tie.Need-returns-2
 returns-2 c =
     let a = c .before .before .before .before .before .before .before .before .before .before .before .args in

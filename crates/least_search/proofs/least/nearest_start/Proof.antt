@@ -1,4 +1,4 @@
--- `search::least::nearest_start` meets its contract. The loop's invariant is `Nearing` of Lowered. The measure is what is left of the states. Assumes nothing.
+-- `least_search::least::nearest_start` meets its contract. The loop's invariant is `Nearing` of Lowered. The measure is what is left of the states. Assumes nothing.
 use Prim.Native.Nat.{_-_, _≤_}
 use mathlib.Core.Logic.{⊎-elim}
 use mathlib.Core.Path.{_≡_, sym, _∙_}

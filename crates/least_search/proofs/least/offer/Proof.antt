@@ -1,4 +1,4 @@
--- `search::least::offer` meets its contract: the key is lowered only past the tests that the state is unfinished and the key lower. Assumes nothing.
+-- `least_search::least::offer` meets its contract: the key is lowered only past the tests that the state is unfinished and the key lower. Assumes nothing.
 use mathlib.Core.Logic.{inl, inr}
 use mathlib.Core.Path.{refl, sym, _∙_}
 use native.Mathlib.Omega.{arith}

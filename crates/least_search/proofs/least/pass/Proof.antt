@@ -1,4 +1,4 @@
--- `search::least::pass` meets its contract. The loop's invariant is `Passing` of Lowered. The measure is what is left of the transitions. Assumes nothing.
+-- `least_search::least::pass` meets its contract. The loop's invariant is `Passing` of Lowered. The measure is what is left of the transitions. Assumes nothing.
 use Prim.Native.Nat.{_-_, _≤_, _<_}
 use mathlib.Core.Logic.{inl, inr, ⊎-elim}
 use mathlib.Core.Path.{_≡_}

@@ -1,4 +1,4 @@
--- `search::least::relax` meets its contract: the key is lowered only past the three tests. Assumes nothing.
+-- `least_search::least::relax` meets its contract: the key is lowered only past the three tests. Assumes nothing.
 use mathlib.Core.Logic.{inl, inr}
 use mathlib.Core.Path.{refl, sym, _∙_}
 use native.Mathlib.Omega.{arith}

@@ -1,4 +1,4 @@
--- `search::least::relax_into` meets its contract. The loop's invariant: the keys are kept, and t ends the chain or leads to s. A chain rises, so the measure
+-- `least_search::least::relax_into` meets its contract. The loop's invariant: the keys are kept, and t ends the chain or leads to s. A chain rises, so the measure
 -- is what is left of the transitions. Assumes nothing.
 use Prim.Native.Nat.{_-_, _≤_, _<_}
 use mathlib.Core.Path.{_≡_, refl, _∙_}

@@ -1,4 +1,4 @@
--- `search::least::seed` meets its contract. The loop's invariant: the final states passed have their closes for keys, no other state has a key, and no more
+-- `least_search::least::seed` meets its contract. The loop's invariant: the final states passed have their closes for keys, no other state has a key, and no more
 -- states are pending than are passed. The measure is what is left of the states. Assumes nothing.
 use Prim.Native.Nat.{_-_, _≤_}
 use mathlib.Core.Logic.{⊎-elim}

@@ -1,4 +1,4 @@
--- `search::least::settle` meets its contract. The invariant: the keys are kept. A pass that lowers a key lowers their sum, which is the measure; the
+-- `least_search::least::settle` meets its contract. The invariant: the keys are kept. A pass that lowers a key lowers their sum, which is the measure; the
 -- last pass leaves the keys as they were. Assumes nothing.
 use Prim.Native.Nat.{ℕ, zero, suc, _+_, _-_, _*_, _≤_, _<_}
 use mathlib.Core.Bool.{Bool, true, false, not}
@@ -28,27 +28,21 @@ Inv-loop n m marks from to weight close key₀ key = Keys n m marks from to weig
 abbrev μ-loop : tie.MeasureT-loop
 μ-loop n m marks from to weight close key₀ key = sumTo n (at key)
 
--- src/least.rt:279:5
 loop-holds : tie.Need-loop-holds Inv-loop μ-loop
 loop-holds c = c .pre .2
 
--- src/least.rt:280:13
 nearest-start-requires : tie.Need-nearest-start-requires Inv-loop μ-loop
 nearest-start-requires c κs = c .before .before .pre .0 .states
 
--- src/least.rt:281:35
 mul-bound : tie.Need-mul-bound Inv-loop μ-loop
 mul-bound c = omega (arith, c .before .before .before .before .pre .0 .states)
 
--- src/least.rt:281:35
 element-copy-out-bound : tie.Need-element-copy-out-bound Inv-loop μ-loop
 element-copy-out-bound c = omega (arith, c .before .before .before .before .pre .0 .states)
 
--- src/least.rt:282:13
 pass-requires : tie.Need-pass-requires Inv-loop μ-loop
 pass-requires c κs = (c .before .before .before .before .before .pre .0, c .before .before .before .before .before .pre .1, c .before .before .before .before .loop .inv)
 
--- src/least.rt:283:13
 returns : tie.Need-returns Inv-loop μ-loop
 returns c =
     let (same, settled) = c .before .pass .ensures .2 (not-true _ (c .if2 .taken)) in (
@@ -62,11 +56,9 @@ returns c =
       },
     )
 
--- src/least.rt:279:5
 loop-less : tie.Need-loop-less Inv-loop μ-loop
 loop-less c = c .before .pass .ensures .1 (not-false _ (c .if2 .left))
 
--- src/least.rt:279:5
 loop-again : tie.Need-loop-again Inv-loop μ-loop
 loop-again c = c .before .pass .ensures .0
 

@@ -1,4 +1,4 @@
--- `search::least::spread` meets its contract. The loop's invariant: the keys are kept, and the pending states are states. Each turn takes one of n.
+-- `least_search::least::spread` meets its contract. The loop's invariant: the keys are kept, and the pending states are states. Each turn takes one of n.
 -- Assumes nothing.
 use Prim.Native.Nat.{_-_, _≤_}
 use native.Mathlib.Omega.{arith}

@@ -1,4 +1,4 @@
--- `search::nearest::nearest_of` meets its contract. The loop's invariant: the best place so far is one of the heap, at or after the first. The measure is
+-- `least_search::nearest::nearest_of` meets its contract. The loop's invariant: the best place so far is one of the heap, at or after the first. The measure is
 -- what is left of the four. Assumes nothing.
 use Prim.Native.Nat.{_+_, _-_, _≤_, _<_}
 use mathlib.Core.Logic.{⊎-elim}

@@ -1,4 +1,4 @@
--- `search::nearest::rise` meets its contract. The loop's invariant: the hole is a place of the heap, all places and entries are below 512, and the heap's
+-- `least_search::nearest::rise` meets its contract. The loop's invariant: the hole is a place of the heap, all places and entries are below 512, and the heap's
 -- entries stay below any bound that they and the state were below. The measure is the hole. Assumes nothing.
 use Prim.Native.Nat.{ℕ, _-_, _/_, _<_}
 use native.Mathlib.Omega.{arith}

@@ -1,4 +1,4 @@
--- `search::descend` meets its contract. The loop's invariant: the search goes on, and what was entered before the loop stays so. The measure is the
+-- `reach::explore::descend` meets its contract. The loop's invariant: the search goes on, and what was entered before the loop stays so. The measure is the
 -- work that is left. Assumes nothing.
 use Prim.Native.Nat.{_-_}
 use mathlib.Core.Path.{_≡_}

@@ -1,4 +1,4 @@
--- `search::explore` meets its contract. The loop's invariant: the search from the starts below s is over (`Exploring`). The measure is how many
+-- `reach::explore::explore` meets its contract. The loop's invariant: the search from the starts below s is over (`Exploring`). The measure is how many
 -- states are left to look at. Assumes nothing.
 use Prim.Native.Nat.{ℕ, _-_}
 use mathlib.Core.Bool.{true≢false, false≢true}

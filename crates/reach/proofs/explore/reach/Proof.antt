@@ -11,7 +11,6 @@ use borrow.Author.Tests.{lt-ltb, le-ltb, le-leb, lt-leb, eq-eqb, ne-eqb, not-tru
 use lib.Dec.{ltb, leb, eqb}
 use lib.ListN.{length, getD, set, take, drop, length-set}
 use lib.Seq.{getD-set-same, getD-set-other}
-use borrow.Author.Needs.{needs}
 use Rattle.reach.proofs.Hunting.{onward-lower, reached-early}
 use Rattle.reach.specs.declared.Reach.the-variants.{Ends as Over}
 use Rattle.reach.specs.Explored.{table}
@@ -22,15 +21,12 @@ use Rattle.reach.proofs.explore.reach.Lts as lts
 use Rattle.reach.proofs.explore.explore.Reads as explore-reads
 use Rattle.reach.proofs.hunt.hunt.Reads as hunt-reads
 
--- src/greatest.rt:121:9
 explore-requires : tie.Need-explore-requires
 explore-requires c κs = (c .before .before .before .before .before .pre .0, c .before .before .before .before .before .pre .1)
 
--- src/greatest.rt:122:21
 enum-known-found : tie.Need-enum-known-found
 enum-known-found c = search needs
 
--- src/greatest.rt:123:9
 returns : tie.Need-returns
 returns c =
     let a = c .before .before .before .before .before .before .before .args in
@@ -39,7 +35,6 @@ returns c =
     not-over : (k : ℕ) → c .before .explore .result ≡ Over k → ⊥
     not-over k e = ⊎-elim (λ w. omega arith) (λ w. ⊎-elim (λ v. omega arith) (λ v. omega arith) w) (rw e at (c .match .keys2))
 
--- src/greatest.rt:125:9
 hunt-requires : tie.Need-hunt-requires
 hunt-requires c κs =
     let a = c .before .before .before .before .before .before .before .before .before .before .before .args in
@@ -54,7 +49,6 @@ hunt-requires c κs =
       ),
     )
 
--- src/greatest.rt:127:9
 returns-2 : tie.Need-returns-2
 returns-2 c =
     let a = c .before .before .before .before .before .before .before .before .before .before .before .before .before .args in
@@ -64,7 +58,6 @@ returns-2 c =
     let (r, started) = rw (c .before .before .before .before .before .found .given .1) at (c .before .before .before .before .before .before .before .explore .ensures) in
     ((_, r), ⊎-elim (λ w. w) (λ w. absurd (omega (arith, c .if1 .taken, w .0))) (c .before .hunt .ensures))
 
--- src/greatest.rt:102:1
 returns-3 : tie.Need-returns-3
 returns-3 c =
     let a = c .before .before .before .before .before .before .before .before .before .before .before .before .before .args in

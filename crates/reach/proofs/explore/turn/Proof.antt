@@ -1,4 +1,4 @@
--- `search::turn` meets its contract: each way through it is a turn of the search, as Searched.antt has them. Assumes nothing.
+-- `reach::explore::turn` meets its contract: each way through it is a turn of the search, as Searched.antt has them. Assumes nothing.
 use Prim.Native.Nat.{ℕ, _-_, _<_}
 use mathlib.Core.Logic.{_⊎_, inl, inr, ⊎-elim}
 use mathlib.Core.Path.{_≡_, sym, _∙_}

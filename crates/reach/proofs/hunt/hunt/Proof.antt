@@ -1,4 +1,4 @@
--- `search::hunt::hunt` meets its contract. The invariant of the state loop: no dead end is known, and every state passed was looked at; of the
+-- `reach::hunt::hunt` meets its contract. The invariant of the state loop: no dead end is known, and every state passed was looked at; of the
 -- transition loop: every transition of the state that was passed leads to a final state, or to one that has a transition.
 -- Assumes nothing.
 use Prim.Native.Nat.{ℕ, zero, suc, _+_, _-_, _*_, _≤_, _<_}
@@ -17,7 +17,6 @@ use mathlib.Core.Bool.{true≢false}
 use Rattle.search.proofs.Chained.{Passed, passed-none, first-passed, first-leaves, chain-rises, all-passed, head-below}
 use Rattle.search.specs.Arrays.{finalMark}
 use Rattle.reach.proofs.Hunting.{Onward, Looked, none-leaves, hunted-none}
-use Rattle.search.proofs.Chained.{Passed, passed-none, first-passed, first-leaves, chain-rises, all-passed, head-below}
 use Rattle.search.specs.Arrays.{at, UnfinishedIn}
 use Rattle.reach.proofs.hunt.hunt.Statement.{statement}
 use Rattle.reach.proofs.hunt.hunt.Tie as tie
@@ -38,49 +37,39 @@ Inv-states n m marks from to head link rank via dead₀ s₀ dead s = (s ≤ n) 
 abbrev μ-states : tie.MeasureT-states
 μ-states n m marks from to head link rank via dead₀ s₀ dead s = n - s
 
--- src/hunt.rt:31:5
 states-holds : tie.Need-states-holds Inv-transitions μ-transitions Inv-states μ-states
 states-holds c = (omega arith, refl, below-none _)
 
--- src/hunt.rt:32:16
 mul-if1 : tie.Need-mul-if1 Inv-transitions μ-transitions Inv-states μ-states
 mul-if1 c = omega (arith, c .before .before .pre .0 .0 .states)
 
--- src/hunt.rt:32:16
 element-copy-out-if1 :
     tie.Need-element-copy-out-if1 Inv-transitions μ-transitions Inv-states μ-states
 element-copy-out-if1 c = omega (arith, c .before .before .pre .0 .0 .states)
 
--- src/hunt.rt:33:30
 mul-wide : tie.Need-mul-wide Inv-transitions μ-transitions Inv-states μ-states
 mul-wide c = omega (arith, c .before .before .before .before .pre .0 .0 .states)
 
--- src/hunt.rt:33:30
 element-copy-out-wide :
     tie.Need-element-copy-out-wide Inv-transitions μ-transitions Inv-states μ-states
 element-copy-out-wide c = omega (arith, c .before .before .before .before .pre .0 .0 .states)
 
--- src/hunt.rt:33:17
 wide-requires : tie.Need-wide-requires Inv-transitions μ-transitions Inv-states μ-states
 wide-requires c κs = search needs
 
--- src/hunt.rt:35:20
 mul-if3 : tie.Need-mul-if3 Inv-transitions μ-transitions Inv-states μ-states
 mul-if3 c = omega (arith, c .before .before .before .before .before .before .before .pre .0 .0 .states)
 
--- src/hunt.rt:35:20
 element-copy-out-if3 :
     tie.Need-element-copy-out-if3 Inv-transitions μ-transitions Inv-states μ-states
 element-copy-out-if3 c = omega (arith, c .before .before .before .before .before .before .before .pre .0 .0 .states)
 
--- src/hunt.rt:40:13
 transitions-holds : tie.Need-transitions-holds Inv-transitions μ-transitions Inv-states μ-states
 transitions-holds c =
     let a = c .before .before .before .before .before .before .before .args in
     let f = rw (← c .before .wide .ensures) at (c .before .before .before .before .before .before .before .pre .0 .1 .heads (c .before .before .before .before .before .before .states .s) (omega (arith, c .before .before .before .before .before .before .before .pre .0 .0 .states))) in
     (c .before .before .before .before .before .before .states .inv .1, f .most, first-leaves (a .from .now) (a .m) f, passed-none (a .from .now) (a .m) _ f)
 
--- src/hunt.rt:41:30
 mul-wide-2 : tie.Need-mul-wide-2 Inv-transitions μ-transitions Inv-states μ-states
 mul-wide-2 c =
     let a = c .before .before .before .before .before .before .before .before .before .args in
@@ -88,7 +77,6 @@ mul-wide-2 c =
     let q = l .inv .2 (c .transitions-test .taken) in
     omega arith
 
--- src/hunt.rt:41:30
 element-copy-out-wide-2 :
     tie.Need-element-copy-out-wide-2 Inv-transitions μ-transitions Inv-states μ-states
 element-copy-out-wide-2 c =
@@ -97,11 +85,9 @@ element-copy-out-wide-2 c =
     let q = l .inv .2 (c .transitions-test .taken) in
     omega arith
 
--- src/hunt.rt:41:21
 wide-requires-2 : tie.Need-wide-requires-2 Inv-transitions μ-transitions Inv-states μ-states
 wide-requires-2 c κs = search needs
 
--- src/hunt.rt:42:20
 mul-if4 : tie.Need-mul-if4 Inv-transitions μ-transitions Inv-states μ-states
 mul-if4 c =
     let a = c .before .before .before .before .before .before .before .before .before .before .before .args in
@@ -110,7 +96,6 @@ mul-if4 c =
     let e : c .wide2 .result ≡ at (a .to .now) (l .t) = c .wide2 .ensures in
     omega (arith, c .before .before .before .before .before .before .before .before .before .before .before .pre .0 .0 .arrives (l .t) (q .0), c .before .before .before .before .before .before .before .before .before .before .before .pre .0 .0 .states)
 
--- src/hunt.rt:42:20
 element-copy-out-if4 :
     tie.Need-element-copy-out-if4 Inv-transitions μ-transitions Inv-states μ-states
 element-copy-out-if4 c =
@@ -120,7 +105,6 @@ element-copy-out-if4 c =
     let e : c .wide2 .result ≡ at (a .to .now) (l .t) = c .wide2 .ensures in
     omega (arith, c .before .before .before .before .before .before .before .before .before .before .before .pre .0 .0 .arrives (l .t) (q .0), c .before .before .before .before .before .before .before .before .before .before .before .pre .0 .0 .states)
 
--- src/hunt.rt:43:34
 element-copy-out-is-final :
     tie.Need-element-copy-out-is-final Inv-transitions μ-transitions Inv-states μ-states
 element-copy-out-is-final c =
@@ -130,11 +114,9 @@ element-copy-out-is-final c =
     let e : c .before .before .wide2 .result ≡ at (a .to .now) (l .t) = c .before .before .wide2 .ensures in
     omega (arith, c .before .before .before .before .before .before .before .before .before .before .before .before .before .pre .0 .0 .arrives (l .t) (q .0), c .before .before .before .before .before .before .before .before .before .before .before .before .before .pre .0 .0 .states)
 
--- src/hunt.rt:43:25
 is-final-requires : tie.Need-is-final-requires Inv-transitions μ-transitions Inv-states μ-states
 is-final-requires c κs = search needs
 
--- src/hunt.rt:48:26
 mul-wide-3 : tie.Need-mul-wide-3 Inv-transitions μ-transitions Inv-states μ-states
 mul-wide-3 c =
     let a = c .before .before .before .before .before .before .before .before .before .before .before .before .before .args in
@@ -142,7 +124,6 @@ mul-wide-3 c =
     let q = l .inv .2 (c .before .before .before .before .transitions-test .taken) in
     omega arith
 
--- src/hunt.rt:48:26
 element-copy-out-wide-3 :
     tie.Need-element-copy-out-wide-3 Inv-transitions μ-transitions Inv-states μ-states
 element-copy-out-wide-3 c =
@@ -151,11 +132,9 @@ element-copy-out-wide-3 c =
     let q = l .inv .2 (c .before .before .before .before .transitions-test .taken) in
     omega arith
 
--- src/hunt.rt:48:17
 wide-requires-3 : tie.Need-wide-requires-3 Inv-transitions μ-transitions Inv-states μ-states
 wide-requires-3 c κs = search needs
 
--- src/hunt.rt:40:13
 transitions-less : tie.Need-transitions-less Inv-transitions μ-transitions Inv-states μ-states
 transitions-less c =
     let a = c .before .before .before .before .before .before .before .before .before .before .before .before .before .before .before .args in
@@ -165,7 +144,6 @@ transitions-less c =
     let e : c .wide3 .result ≡ at (a .link .now) (l .t) = c .wide3 .ensures in
     omega (arith, chain-rises (a .from .now) (a .m) f (c .before .before .before .before .before .before .transitions-test .taken))
 
--- src/hunt.rt:40:13
 transitions-again : tie.Need-transitions-again Inv-transitions μ-transitions Inv-states μ-states
 transitions-again c =
     let a = c .before .before .before .before .before .before .before .before .before .before .before .before .before .before .before .args in
@@ -180,15 +158,12 @@ transitions-again c =
           (λ w v. rw (← c .before .before .before .before .wide2 .ensures) (head-below (a .from .now) (a .m) (c .before .before .before .before .before .before .before .before .before .before .before .before .before .before .before .pre .0 .1 .heads (c .before .before .before .before .wide2 .result) (omega (arith, c .before .before .before .before .before .before .before .before .before .before .before .before .before .before .before .pre .0 .0 .states, c .before .before .before .before .before .before .before .before .before .before .before .before .before .before .before .pre .0 .0 .arrives (l .t) (q .0), c .before .before .before .before .wide2 .ensures))) (w .left))) (c .before .before .if4 .came)),
     )
 
--- src/hunt.rt:51:9
 add-s : tie.Need-add-s Inv-transitions μ-transitions Inv-states μ-states
 add-s c = search needs
 
--- src/hunt.rt:31:5
 states-less : tie.Need-states-less Inv-transitions μ-transitions Inv-states μ-states
 states-less c = omega arith
 
--- src/hunt.rt:31:5
 states-again : tie.Need-states-again Inv-transitions μ-transitions Inv-states μ-states
 states-again c =
     let a = c .before .before .before .before .args in
@@ -207,7 +182,6 @@ states-again c =
     (λ w. (omega (arith, c .before .before .states-test .taken), w .1 ∙ i .1, below-more _ s (i .2) (λ r. absurd (omega (arith, w .0 .left)))))
     (c .if1 .came)
 
--- src/hunt.rt:12:1
 returns : tie.Need-returns Inv-transitions μ-transitions Inv-states μ-states
 returns c =
     let a = c .before .before .args in
@@ -218,7 +192,6 @@ returns c =
           (c .before .before .pre .0 .0) (c .before .before .pre .0 .1) (c .before .before .pre .1 .0) (λ x h r. l .inv .2 x (omega arith) r),
     )
 
--- src/hunt.rt:12:1
 returns-2 : tie.Need-returns-2 Inv-transitions μ-transitions Inv-states μ-states
 returns-2 c =
     let a = c .before .before .before .before .before .before .before .before .before .args in
@@ -230,7 +203,6 @@ returns-2 c =
       none-leaves (a .from .now) (a .m) s (at (a .head .now) s) f (c .before .before .before .before .before .before .before .before .before .pre .0 .0 .count) (sym (c .before .before .before .wide .ensures) ∙ c .before .before .if2 .taken),
     )
 
--- src/hunt.rt:12:1
 returns-3 : tie.Need-returns-3 Inv-transitions μ-transitions Inv-states μ-states
 returns-3 c =
     let a = c .before .before .before .before .before .before .before .before .before .before .before .before .before .before .before .before .args in

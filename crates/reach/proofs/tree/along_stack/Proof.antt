@@ -1,4 +1,4 @@
--- `search::tree::along_stack` meets its contract. The invariant: the places before i hold the cursors of the states there, and those past d stay.
+-- `reach::tree::along_stack` meets its contract. The invariant: the places before i hold the cursors of the states there, and those past d stay.
 -- Assumes nothing.
 use Prim.Native.Nat.{ℕ, zero, suc, _+_, _-_, _*_, _≤_, _<_}
 use mathlib.Core.Bool.{Bool, true, false, not}
@@ -26,23 +26,18 @@ Inv-loop d stack cursor walk₀ i₀ walk i = (i ≤ d) × (length walk ≡ leng
 abbrev μ-loop : tie.MeasureT-loop
 μ-loop d stack cursor walk₀ i₀ walk i = d - i
 
--- src/tree.rt:16:5
 loop-holds : tie.Need-loop-holds Inv-loop μ-loop
 loop-holds c = (omega arith, search needs, below-none _, refl)
 
--- src/tree.rt:17:31
 mul-wide : tie.Need-mul-wide Inv-loop μ-loop
 mul-wide c = search needs
 
--- src/tree.rt:17:31
 element-copy-out-wide : tie.Need-element-copy-out-wide Inv-loop μ-loop
 element-copy-out-wide c = search needs
 
--- src/tree.rt:17:26
 wide-requires : tie.Need-wide-requires Inv-loop μ-loop
 wide-requires c κs = search needs
 
--- src/tree.rt:17:19
 mul-walk : tie.Need-mul-walk Inv-loop μ-loop
 mul-walk c =
     let a = c .before .before .before .before .before .args in
@@ -51,7 +46,6 @@ mul-walk c =
     let b = c .before .before .before .before .before .pre .2 (l .i) (c .before .before .loop-test .taken) in
     omega arith
 
--- src/tree.rt:17:19
 element-copy-out-walk : tie.Need-element-copy-out-walk Inv-loop μ-loop
 element-copy-out-walk c =
     let a = c .before .before .before .before .before .args in
@@ -60,23 +54,18 @@ element-copy-out-walk c =
     let b = c .before .before .before .before .before .pre .2 (l .i) (c .before .before .loop-test .taken) in
     omega arith
 
--- src/tree.rt:17:9
 mul-walk-2 : tie.Need-mul-walk-2 Inv-loop μ-loop
 mul-walk-2 c = search needs
 
--- src/tree.rt:17:9
 slice-write-walk : tie.Need-slice-write-walk Inv-loop μ-loop
 slice-write-walk c = omega arith
 
--- src/tree.rt:18:9
 add-i : tie.Need-add-i Inv-loop μ-loop
 add-i c = search needs
 
--- src/tree.rt:16:5
 loop-less : tie.Need-loop-less Inv-loop μ-loop
 loop-less c = search needs
 
--- src/tree.rt:16:5
 loop-again : tie.Need-loop-again Inv-loop μ-loop
 loop-again c =
     let a = c .before .before .before .before .before .before .args in
@@ -89,11 +78,9 @@ loop-again c =
       drop-set-lt (a .d) (l .walk) (l .i) v (c .before .before .before .loop-test .taken) ∙ l .inv .3,
     )
 
--- src/tree.rt:10:1
 same-length : tie.Need-same-length Inv-loop μ-loop
 same-length c = c .before .loop .inv .1
 
--- src/tree.rt:10:1
 returns : tie.Need-returns Inv-loop μ-loop
 returns c = (λ i h. c .before .loop .inv .2 i (omega arith), c .before .loop .inv .3)
 

@@ -1,4 +1,4 @@
--- `search::tree::climb` meets its contract. The invariant: x is k - i transitions up from s, and the places from i on hold those transitions.
+-- `reach::tree::climb` meets its contract. The invariant: x is k - i transitions up from s, and the places from i on hold those transitions.
 -- Assumes nothing.
 use Prim.Native.Nat.{ℕ, zero, suc, _+_, _-_, _*_, _≤_, _<_}
 use mathlib.Core.Bool.{Bool, true, false, not}
@@ -29,22 +29,18 @@ Inv-loop s n m from rank via walk₀ k x₀ i₀ walk x i = (i ≤ k) × (length
 abbrev μ-loop : tie.MeasureT-loop
 μ-loop s n m from rank via walk₀ k x₀ i₀ walk x i = i
 
--- src/tree.rt:42:9
 height-requires : tie.Need-height-requires Inv-loop μ-loop
 height-requires c κs = (c .before .pre .0, c .before .pre .1, c .before .pre .2, c .before .pre .4, c .before .pre .5)
 
--- src/tree.rt:45:5
 loop-holds : tie.Need-loop-holds Inv-loop μ-loop
 loop-holds c =
     let k : ℕ = c .height .result in
     let e : k - k ≡ 0 = omega arith in
     (omega arith, search needs, rw e refl, (λ j v l q. absurd (omega arith)), refl)
 
--- src/tree.rt:46:9
 sub-i : tie.Need-sub-i Inv-loop μ-loop
 sub-i c = search needs
 
--- src/tree.rt:47:19
 mul-walk : tie.Need-mul-walk Inv-loop μ-loop
 mul-walk c =
     let a = c .before .before .before .before .args in
@@ -54,7 +50,6 @@ mul-walk c =
     let e : l .x ≡ up (a .from .now) (a .via .now) (a .s) u = l .inv .2 in
     omega (arith, h .below u (omega arith) .0)
 
--- src/tree.rt:47:19
 element-copy-out-walk : tie.Need-element-copy-out-walk Inv-loop μ-loop
 element-copy-out-walk c =
     let a = c .before .before .before .before .args in
@@ -64,15 +59,12 @@ element-copy-out-walk c =
     let e : l .x ≡ up (a .from .now) (a .via .now) (a .s) u = l .inv .2 in
     omega (arith, h .below u (omega arith) .0)
 
--- src/tree.rt:47:9
 mul-walk-2 : tie.Need-mul-walk-2 Inv-loop μ-loop
 mul-walk-2 c = omega (arith, c .before .before .before .height .ensures .fits)
 
--- src/tree.rt:47:9
 slice-write-walk : tie.Need-slice-write-walk Inv-loop μ-loop
 slice-write-walk c = omega (arith, c .before .before .before .height .ensures .fits)
 
--- src/tree.rt:48:28
 mul-wide : tie.Need-mul-wide Inv-loop μ-loop
 mul-wide c =
     let a = c .before .before .before .before .before .args in
@@ -82,7 +74,6 @@ mul-wide c =
     let e : l .x ≡ up (a .from .now) (a .via .now) (a .s) u = l .inv .2 in
     omega (arith, h .below u (omega arith) .0)
 
--- src/tree.rt:48:28
 element-copy-out-wide : tie.Need-element-copy-out-wide Inv-loop μ-loop
 element-copy-out-wide c =
     let a = c .before .before .before .before .before .args in
@@ -92,11 +83,9 @@ element-copy-out-wide c =
     let e : l .x ≡ up (a .from .now) (a .via .now) (a .s) u = l .inv .2 in
     omega (arith, h .below u (omega arith) .0)
 
--- src/tree.rt:48:23
 wide-requires : tie.Need-wide-requires Inv-loop μ-loop
 wide-requires c κs = search needs
 
--- src/tree.rt:48:18
 mul-wide-2 : tie.Need-mul-wide-2 Inv-loop μ-loop
 mul-wide-2 c =
     let a = c .before .before .before .before .before .before .before .args in
@@ -107,7 +96,6 @@ mul-wide-2 c =
     let v : c .wide .result ≡ at (a .via .now) (up (a .from .now) (a .via .now) (a .s) u) = c .wide .ensures ∙ ap (at (a .via .now)) e in
     omega (arith, h .listed u (omega arith) .0)
 
--- src/tree.rt:48:18
 element-copy-out-wide-2 : tie.Need-element-copy-out-wide-2 Inv-loop μ-loop
 element-copy-out-wide-2 c =
     let a = c .before .before .before .before .before .before .before .args in
@@ -118,15 +106,12 @@ element-copy-out-wide-2 c =
     let v : c .wide .result ≡ at (a .via .now) (up (a .from .now) (a .via .now) (a .s) u) = c .wide .ensures ∙ ap (at (a .via .now)) e in
     omega (arith, h .listed u (omega arith) .0)
 
--- src/tree.rt:48:9
 wide-requires-2 : tie.Need-wide-requires-2 Inv-loop μ-loop
 wide-requires-2 c κs = search needs
 
--- src/tree.rt:45:5
 loop-less : tie.Need-loop-less Inv-loop μ-loop
 loop-less c = search needs
 
--- src/tree.rt:45:5
 loop-again : tie.Need-loop-again Inv-loop μ-loop
 loop-again c =
     let a = c .before .before .before .before .before .before .before .before .before .args in
@@ -146,11 +131,9 @@ loop-again c =
       drop-set-lt k (l .walk) (l .i - 1) _ (omega arith) ∙ l .inv .4,
     )
 
--- src/tree.rt:37:1
 same-length : tie.Need-same-length Inv-loop μ-loop
 same-length c = c .before .loop .inv .1
 
--- src/tree.rt:37:1
 returns : tie.Need-returns Inv-loop μ-loop
 returns c =
     let l = c .before .loop in

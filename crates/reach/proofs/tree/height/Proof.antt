@@ -1,4 +1,4 @@
--- `search::tree::height` meets its contract. The invariant: x is k transitions up from s, and the rank has risen at each.
+-- `reach::tree::height` meets its contract. The invariant: x is k transitions up from s, and the rank has risen at each.
 -- Assumes nothing.
 use Prim.Native.Nat.{ℕ, zero, suc, _+_, _-_, _*_, _≤_, _<_}
 use mathlib.Core.Bool.{Bool, true, false, not}
@@ -29,13 +29,11 @@ Inv-loop s n m from rank via x₀ k₀ x k = (x ≡ up from via s k) × Climbing
 abbrev μ-loop : tie.MeasureT-loop
 μ-loop s n m from rank via x₀ k₀ x k = n - k
 
--- src/tree.rt:29:5
 loop-holds : tie.Need-loop-holds Inv-loop μ-loop
 loop-holds c =
     let a = c .args in
     (refl, climbing-first (a .n) (a .m) (a .from .now) (a .rank .now) (a .via .now) (a .s) (c .pre .0) (c .pre .3))
 
--- src/tree.rt:29:11
 mul-if1 : tie.Need-mul-if1 Inv-loop μ-loop
 mul-if1 c =
     let a = c .before .args in
@@ -43,7 +41,6 @@ mul-if1 c =
     let e : c .loop .x ≡ up (a .from .now) (a .via .now) (a .s) (c .loop .k) = c .loop .inv .0 in
     omega arith
 
--- src/tree.rt:29:11
 element-copy-out-if1 : tie.Need-element-copy-out-if1 Inv-loop μ-loop
 element-copy-out-if1 c =
     let a = c .before .args in
@@ -51,7 +48,6 @@ element-copy-out-if1 c =
     let e : c .loop .x ≡ up (a .from .now) (a .via .now) (a .s) (c .loop .k) = c .loop .inv .0 in
     omega arith
 
--- src/tree.rt:30:28
 mul-wide : tie.Need-mul-wide Inv-loop μ-loop
 mul-wide c =
     let a = c .before .before .before .args in
@@ -60,7 +56,6 @@ mul-wide c =
     let e : l .x ≡ up (a .from .now) (a .via .now) (a .s) (l .k) = l .inv .0 in
     omega arith
 
--- src/tree.rt:30:28
 element-copy-out-wide : tie.Need-element-copy-out-wide Inv-loop μ-loop
 element-copy-out-wide c =
     let a = c .before .before .before .args in
@@ -69,11 +64,9 @@ element-copy-out-wide c =
     let e : l .x ≡ up (a .from .now) (a .via .now) (a .s) (l .k) = l .inv .0 in
     omega arith
 
--- src/tree.rt:30:23
 wide-requires : tie.Need-wide-requires Inv-loop μ-loop
 wide-requires c κs = search needs
 
--- src/tree.rt:30:18
 mul-wide-2 : tie.Need-mul-wide-2 Inv-loop μ-loop
 mul-wide-2 c =
     let a = c .before .before .before .before .before .args in
@@ -82,7 +75,6 @@ mul-wide-2 c =
     let e : c .wide .result ≡ at (a .via .now) (up (a .from .now) (a .via .now) (a .s) (l .k)) = c .wide .ensures ∙ ap (at (a .via .now)) (l .inv .0) in
     omega (arith, v .0)
 
--- src/tree.rt:30:18
 element-copy-out-wide-2 : tie.Need-element-copy-out-wide-2 Inv-loop μ-loop
 element-copy-out-wide-2 c =
     let a = c .before .before .before .before .before .args in
@@ -91,25 +83,21 @@ element-copy-out-wide-2 c =
     let e : c .wide .result ≡ at (a .via .now) (up (a .from .now) (a .via .now) (a .s) (l .k)) = c .wide .ensures ∙ ap (at (a .via .now)) (l .inv .0) in
     omega (arith, v .0)
 
--- src/tree.rt:30:9
 wide-requires-2 : tie.Need-wide-requires-2 Inv-loop μ-loop
 wide-requires-2 c κs = search needs
 
--- src/tree.rt:31:9
 add-k : tie.Need-add-k Inv-loop μ-loop
 add-k c =
     let a = c .before .before .before .before .before .before .before .args in
     let l = c .before .before .before .before .before .before .loop in
     omega (arith, climbing-fits (a .n) (a .m) (a .from .now) (a .rank .now) (a .via .now) (a .s) (c .before .before .before .before .before .before .before .pre .4) (c .before .before .before .before .before .before .before .pre .3) (l .k) (l .inv .1))
 
--- src/tree.rt:29:5
 loop-less : tie.Need-loop-less Inv-loop μ-loop
 loop-less c =
     let a = c .before .before .before .before .before .before .before .args in
     let l = c .before .before .before .before .before .before .loop in
     omega (arith, climbing-fits (a .n) (a .m) (a .from .now) (a .rank .now) (a .via .now) (a .s) (c .before .before .before .before .before .before .before .pre .4) (c .before .before .before .before .before .before .before .pre .3) (l .k) (l .inv .1))
 
--- src/tree.rt:29:5
 loop-again : tie.Need-loop-again Inv-loop μ-loop
 loop-again c =
     let a = c .before .before .before .before .before .before .before .args in
@@ -118,7 +106,6 @@ loop-again c =
     let n = climbing-turn (a .n) (a .m) (a .from .now) (a .rank .now) (a .via .now) (a .s) (c .before .before .before .before .before .before .before .pre .4) (c .before .before .before .before .before .before .before .pre .3) (l .k) (l .inv .1) (rw (l .inv .0) at (c .before .before .before .before .if1 .taken)) in
     rw add-one (c .wide2 .ensures ∙ ap (at (a .from .now)) e, n)
 
--- src/tree.rt:23:1
 returns : tie.Need-returns Inv-loop μ-loop
 returns c =
     let a = c .before .before .before .args in

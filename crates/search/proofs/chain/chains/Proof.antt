@@ -1,4 +1,4 @@
--- `search::chains` meets its contract. Assumes nothing.
+-- `search::chain::chains` meets its contract. Assumes nothing.
 use Prim.Native.Nat.{ℕ, zero, suc, _+_, _-_, _*_, _≤_, _<_}
 use mathlib.Core.Bool.{Bool, true, false, not}
 use mathlib.Core.List.{List, [], _∷_, _++_}
@@ -25,27 +25,21 @@ Inv-loop keys m head₀ link₀ i₀ head link i = (i ≤ m) × (length head ≡
 abbrev μ-loop : tie.MeasureT-loop
 μ-loop keys m head₀ link₀ i₀ head link i = i
 
--- src/chain.rt:20:5
 loop-holds : tie.Need-loop-holds Inv-loop μ-loop
 loop-holds c = (search needs, search needs, search needs, chaining-none _ _ (c .pre .0 .0) _ _ (c .pre .1 .0))
 
--- src/chain.rt:21:9
 sub-i : tie.Need-sub-i Inv-loop μ-loop
 sub-i c = search needs
 
--- src/chain.rt:22:22
 mul-wide : tie.Need-mul-wide Inv-loop μ-loop
 mul-wide c = search needs
 
--- src/chain.rt:22:22
 element-copy-out-wide : tie.Need-element-copy-out-wide Inv-loop μ-loop
 element-copy-out-wide c = search needs
 
--- src/chain.rt:22:13
 wide-requires : tie.Need-wide-requires Inv-loop μ-loop
 wide-requires c κs = search needs
 
--- src/chain.rt:23:19
 mul-link : tie.Need-mul-link Inv-loop μ-loop
 mul-link c =
     let a = c .before .before .before .before .args in
@@ -54,7 +48,6 @@ mul-link c =
     let b = c .before .before .before .before .pre .0 .1 (l .i - 1) (omega arith) in
     omega arith
 
--- src/chain.rt:23:19
 element-copy-out-link : tie.Need-element-copy-out-link Inv-loop μ-loop
 element-copy-out-link c =
     let a = c .before .before .before .before .args in
@@ -63,19 +56,15 @@ element-copy-out-link c =
     let b = c .before .before .before .before .pre .0 .1 (l .i - 1) (omega arith) in
     omega arith
 
--- src/chain.rt:23:9
 mul-link-2 : tie.Need-mul-link-2 Inv-loop μ-loop
 mul-link-2 c = search needs
 
--- src/chain.rt:23:9
 element-write-link : tie.Need-element-write-link Inv-loop μ-loop
 element-write-link c = search needs
 
--- src/chain.rt:24:19
 cast-head : tie.Need-cast-head Inv-loop μ-loop
 cast-head c = search needs
 
--- src/chain.rt:24:9
 mul-head : tie.Need-mul-head Inv-loop μ-loop
 mul-head c =
     let a = c .before .before .before .before .before .args in
@@ -84,7 +73,6 @@ mul-head c =
     let b = c .before .before .before .before .before .pre .0 .1 (l .i - 1) (omega arith) in
     omega arith
 
--- src/chain.rt:24:9
 element-write-head : tie.Need-element-write-head Inv-loop μ-loop
 element-write-head c =
     let a = c .before .before .before .before .before .args in
@@ -93,11 +81,9 @@ element-write-head c =
     let b = c .before .before .before .before .before .pre .0 .1 (l .i - 1) (omega arith) in
     omega arith
 
--- src/chain.rt:20:5
 loop-less : tie.Need-loop-less Inv-loop μ-loop
 loop-less c = search needs
 
--- src/chain.rt:20:5
 loop-again : tie.Need-loop-again Inv-loop μ-loop
 loop-again c =
     let a = c .before .before .before .before .before .args in
@@ -109,7 +95,6 @@ loop-again c =
     let q = chain-turn (a .keys .now) (a .m) (omega arith) i (l .head) (l .link) (omega arith) b (omega arith) (omega arith) (rw p (l .inv .3)) in
     (omega arith, length-set (l .head) _ _ ∙ l .inv .1, length-set (l .link) _ _ ∙ l .inv .2, rw k q)
 
--- src/chain.rt:9:1
 returns : tie.Need-returns Inv-loop μ-loop
 returns c =
     let a = c .before .before .args in

@@ -1,4 +1,4 @@
--- `search::accounting` meets its contract. Assumes nothing.
+-- `search::route::accounting` meets its contract. Assumes nothing.
 use Prim.Native.Nat.{ℕ, zero, suc, _+_, _-_, _*_, _≤_, _<_}
 use mathlib.Core.Bool.{Bool, true, false, not}
 use mathlib.Core.List.{List, [], _∷_, _++_}
@@ -29,54 +29,42 @@ Inv-loop s m from to head link weight value t₀ t = (t ≤ 2048) × (t < 2048 �
 abbrev μ-loop : tie.MeasureT-loop
 μ-loop s m from to head link weight value t₀ t = 2048 - t
 
--- src/route.rt:30:22
 mul-wide : tie.Need-mul-wide Inv-loop μ-loop
 mul-wide c = search needs
 
--- src/route.rt:30:22
 element-copy-out-wide : tie.Need-element-copy-out-wide Inv-loop μ-loop
 element-copy-out-wide c = search needs
 
--- src/route.rt:30:9
 wide-requires : tie.Need-wide-requires Inv-loop μ-loop
 wide-requires c κs = search needs
 
--- src/route.rt:31:5
 loop-holds : tie.Need-loop-holds Inv-loop μ-loop
 loop-holds c =
     let a = c .before .before .args in
     let f = rw (← c .wide .ensures) at (c .before .before .pre .0 .2 .heads (a .s) (omega arith)) in
     (f .most, first-leaves (a .from .now) (a .m) f, passed-none (a .from .now) (a .m) _ f)
 
--- src/route.rt:32:12
 mul-if1 : tie.Need-mul-if1 Inv-loop μ-loop
 mul-if1 c = search needs
 
--- src/route.rt:32:12
 element-copy-out-if1 : tie.Need-element-copy-out-if1 Inv-loop μ-loop
 element-copy-out-if1 c = search needs
 
--- src/route.rt:32:24
 mul-if1-2 : tie.Need-mul-if1-2 Inv-loop μ-loop
 mul-if1-2 c = search needs
 
--- src/route.rt:32:24
 element-copy-out-if1-2 : tie.Need-element-copy-out-if1-2 Inv-loop μ-loop
 element-copy-out-if1-2 c = search needs
 
--- src/route.rt:32:47
 mul-wide-2 : tie.Need-mul-wide-2 Inv-loop μ-loop
 mul-wide-2 c = search needs
 
--- src/route.rt:32:47
 element-copy-out-wide-2 : tie.Need-element-copy-out-wide-2 Inv-loop μ-loop
 element-copy-out-wide-2 c = search needs
 
--- src/route.rt:32:42
 wide-requires-2 : tie.Need-wide-requires-2 Inv-loop μ-loop
 wide-requires-2 c κs = search needs
 
--- src/route.rt:32:36
 mul-if1-3 : tie.Need-mul-if1-3 Inv-loop μ-loop
 mul-if1-3 c =
     let a = c .before .before .before .before .before .before .before .before .args in
@@ -86,7 +74,6 @@ mul-if1-3 c =
     let e : c .wide2 .result ≡ at (a .to .now) t = c .wide2 .ensures in
     omega arith
 
--- src/route.rt:32:36
 element-copy-out-if1-3 : tie.Need-element-copy-out-if1-3 Inv-loop μ-loop
 element-copy-out-if1-3 c =
     let a = c .before .before .before .before .before .before .before .before .args in
@@ -96,7 +83,6 @@ element-copy-out-if1-3 c =
     let e : c .wide2 .result ≡ at (a .to .now) t = c .wide2 .ensures in
     omega arith
 
--- src/route.rt:32:24
 add-if1 : tie.Need-add-if1 Inv-loop μ-loop
 add-if1 c =
     let t = c .before .before .before .before .before .before .loop .t in
@@ -105,19 +91,15 @@ add-if1 c =
     let v = ap (at (c .before .before .before .before .before .before .before .before .before .args .value .now)) (c .before .wide2 .ensures) in
     omega (arith, b .1, b .2)
 
--- src/route.rt:35:18
 mul-wide-3 : tie.Need-mul-wide-3 Inv-loop μ-loop
 mul-wide-3 c = search needs
 
--- src/route.rt:35:18
 element-copy-out-wide-3 : tie.Need-element-copy-out-wide-3 Inv-loop μ-loop
 element-copy-out-wide-3 c = search needs
 
--- src/route.rt:35:9
 wide-requires-3 : tie.Need-wide-requires-3 Inv-loop μ-loop
 wide-requires-3 c κs = search needs
 
--- src/route.rt:31:5
 loop-less : tie.Need-loop-less Inv-loop μ-loop
 loop-less c =
     let a = c .before .before .before .before .before .before .before .before .before .before .before .before .args in
@@ -128,7 +110,6 @@ loop-less c =
     let r = chain-rises (a .from .now) (a .m) f (c .before .before .before .before .before .before .before .before .loop-test .taken) in
     omega arith
 
--- src/route.rt:31:5
 loop-again : tie.Need-loop-again Inv-loop μ-loop
 loop-again c =
     let a = c .before .before .before .before .before .before .before .before .before .before .before .before .args in
@@ -137,14 +118,12 @@ loop-again c =
     let f = rw (l .1, ← c .wide3 .ensures) at (c .before .before .before .before .before .before .before .before .before .before .before .before .pre .0 .2 .links t (l .0)) in
     (f .most, first-leaves (a .from .now) (a .m) f, first-passed (a .from .now) (a .m) _ f (c .before .before .before .before .before .before .before .before .before .loop .inv .2) (λ q. c .before .before .if1 .left (rw (c .before .before .before .before .wide2 .ensures) q)))
 
--- src/route.rt:14:1
 returns : tie.Need-returns Inv-loop μ-loop
 returns c =
     let a = c .before .before .before .before .args in
     let q = c .before .before .before .before .pre .1 .1 in
     absurd (c .before .loop .inv .2 (q .0) (omega (arith, q .1 .listed)) (q .1 .listed) (q .1 .source) (q .2))
 
--- src/route.rt:14:1
 returns-2 : tie.Need-returns-2 Inv-loop μ-loop
 returns-2 c =
     let l = c .before .before .before .before .before .before .before .loop .inv .1 (c .before .before .before .before .before .before .loop-test .taken) in

@@ -30,14 +30,12 @@ Inv-loop s n m marks from to head link weight close value walk₀ x₀ k₀ walk
 abbrev μ-loop : tie.MeasureT-loop
 μ-loop s n m marks from to head link weight close value walk₀ x₀ k₀ walk x k = n - k
 
--- src/route.rt:64:5
 loop-holds : tie.Need-loop-holds Inv-loop μ-loop
 loop-holds c =
     let a = c .before .args in
     let p = c .before .pre .1 .1 in
     (search needs, traced-first (a .n) (a .m) (a .marks .now) (a .from .now) (a .to .now) (a .weight .now) (a .close .now) (a .value .now) (p .0) (p .1) (a .s) (a .walk .now) (c .before .pre .0 .0) (p .2) (p .3))
 
--- src/route.rt:64:21
 element-copy-out-is-final : tie.Need-element-copy-out-is-final Inv-loop μ-loop
 element-copy-out-is-final c =
     let a = c .before .before .args in
@@ -45,11 +43,9 @@ element-copy-out-is-final c =
     let h = traced-below _ _ _ _ _ _ _ _ (a .s) (l .x) (l .k) (a .walk .now) (l .walk) (l .inv .1) in
     omega (arith, c .before .before .pre .0 .2 .states)
 
--- src/route.rt:64:12
 is-final-requires : tie.Need-is-final-requires Inv-loop μ-loop
 is-final-requires c κs = search needs
 
--- src/route.rt:65:13
 accounting-requires : tie.Need-accounting-requires Inv-loop μ-loop
 accounting-requires c κs =
     let a = c .before .before .before .before .before .args in
@@ -66,11 +62,9 @@ accounting-requires c κs =
       ),
     )
 
--- src/route.rt:66:19
 cast-walk : tie.Need-cast-walk Inv-loop μ-loop
 cast-walk c = omega (arith, c .accounting .ensures .0 .listed, c .before .before .before .before .before .before .pre .0 .2 .count)
 
--- src/route.rt:66:9
 mul-walk : tie.Need-mul-walk Inv-loop μ-loop
 mul-walk c =
     let a = c .before .before .before .before .before .before .args in
@@ -78,7 +72,6 @@ mul-walk c =
     let h = traced-fits _ _ _ _ _ _ _ _ (a .s) (l .x) (l .k) (a .walk .now) (l .walk) (l .inv .1) in
     omega (arith, c .before .before .before .before .before .before .pre .0 .2 .states)
 
--- src/route.rt:66:9
 slice-write-walk : tie.Need-slice-write-walk Inv-loop μ-loop
 slice-write-walk c =
     let a = c .before .before .before .before .before .before .args in
@@ -86,7 +79,6 @@ slice-write-walk c =
     let h = traced-fits _ _ _ _ _ _ _ _ (a .s) (l .x) (l .k) (a .walk .now) (l .walk) (l .inv .1) in
     omega (arith, l .inv .0, c .before .before .before .before .before .before .pre .0 .1)
 
--- src/route.rt:67:9
 add-k : tie.Need-add-k Inv-loop μ-loop
 add-k c =
     let a = c .before .before .before .before .before .before .args in
@@ -94,19 +86,15 @@ add-k c =
     let h = traced-fits _ _ _ _ _ _ _ _ (a .s) (l .x) (l .k) (a .walk .now) (l .walk) (l .inv .1) in
     omega (arith, c .before .before .before .before .before .before .pre .0 .2 .states)
 
--- src/route.rt:68:18
 mul-wide : tie.Need-mul-wide Inv-loop μ-loop
 mul-wide c = omega (arith, c .accounting .ensures .0 .listed, c .before .before .before .before .before .before .pre .0 .2 .count)
 
--- src/route.rt:68:18
 element-copy-out-wide : tie.Need-element-copy-out-wide Inv-loop μ-loop
 element-copy-out-wide c = omega (arith, c .accounting .ensures .0 .listed, c .before .before .before .before .before .before .pre .0 .2 .count)
 
--- src/route.rt:68:9
 wide-requires : tie.Need-wide-requires Inv-loop μ-loop
 wide-requires c κs = search needs
 
--- src/route.rt:64:5
 loop-less : tie.Need-loop-less Inv-loop μ-loop
 loop-less c =
     let a = c .before .before .before .before .before .before .before .before .args in
@@ -114,7 +102,6 @@ loop-less c =
     let h = traced-fits _ _ _ _ _ _ _ _ (a .s) (l .x) (l .k) (a .walk .now) (l .walk) (l .inv .1) in
     omega arith
 
--- src/route.rt:64:5
 loop-again : tie.Need-loop-again Inv-loop μ-loop
 loop-again c =
     let a = c .before .before .before .before .before .before .before .before .args in
@@ -128,11 +115,9 @@ loop-again c =
     let r = traced-turn _ _ _ _ _ _ _ _ (a .s) (l .x) (l .k) (a .walk .now) (l .walk) i t (omega (arith, l .inv .0, c .before .before .before .before .before .before .before .before .pre .0 .1)) u (q .0) b (q .1) in
     (length-set (l .walk) _ _ ∙ l .inv .0, rw (c .wide .ensures, add-one) r)
 
--- src/route.rt:40:1
 same-length : tie.Need-same-length Inv-loop μ-loop
 same-length c = c .before .before .before .loop .inv .0
 
--- src/route.rt:40:1
 returns : tie.Need-returns Inv-loop μ-loop
 returns c =
     let a = c .before .before .before .before .before .args in
