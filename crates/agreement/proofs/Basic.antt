@@ -9,7 +9,7 @@ use native.Mathlib.Omega.{arith}
 use lib.Dec.{lit<}
 use Rattle.graph.specs.Graph.{Graph, marksOf, start, final, counted, transition, from, to, low, high}
 use Rattle.graph.specs.Walk.{Begins}
-use Rattle.graph.specs.Compute.{any, leastDelay, greatestDelay, leastCount, greatestCount}
+use Rattle.graph.specs.Compute.{any, figureFor}
 use Rattle.graph.specs.Known.{plan, P1, P3}
 use Rattle.report.specs.Procedure.{ends, turns, Returns}
 use Rattle.report.specs.Sets.{empty, same, N, T, T⁻¹}
@@ -24,7 +24,7 @@ abbrev pub steps : Graph
 steps = plan (4 ∷ 1 ∷ 1 ∷ 2 ∷ []) (step 0 1 ∷ step 1 2 ∷ step 1 3 ∷ step 2 3 ∷ [])
 
 pub steps-agree : ReportFigures steps
-unfolding leastDelay greatestDelay leastCount greatestCount any empty same N T T⁻¹ those Nₐ Tₐ updated marksOf start final counted transition from to low high
+unfolding figureFor any empty same N T T⁻¹ those Nₐ Tₐ updated marksOf start final counted transition from to low high
 steps-agree = record {
   least-delay = (finite 2, (_, turns refl (turns refl (ends refl)), refl), refl);
   greatest-delay = (finite 3, (_, turns refl (turns refl (turns refl (ends refl))), refl), refl);
@@ -41,7 +41,7 @@ unfolding any empty same N T T⁻¹ marksOf start final transition from to
 round-upper = (_, ends refl, refl)
 
 pub round-agrees : ReportFigures round
-unfolding leastDelay greatestDelay any empty same N T T⁻¹ marksOf start final counted transition from to low high
+unfolding figureFor any empty same N T T⁻¹ marksOf start final counted transition from to low high
 round-agrees = record {
   least-delay = (∞, (_, turns refl (ends refl), refl), refl);
   greatest-delay = (∞, round-upper, refl);

@@ -8,9 +8,10 @@ use mathlib.Core.Bool.{true}
 use mathlib.Core.List.{List, [], _∷_}
 use mathlib.Core.Path.{_≡_, refl}
 use Prim.Native.Nat.{ℕ}
+use Rattle.graph.specs.declared.Which.the-variants.{LeastDelay, GreatestDelay, LeastCount, GreatestCount}
 use Rattle.graph.specs.Graph.{Graph, marksOf, start, final, counted, transition, from, to, low, high}
-use Rattle.graph.specs.Figure.{number, leastDelayCost, greatestDelayCost, countCost}
-use Rattle.graph.specs.Compute.{leastDelay, greatestDelay, leastCount, greatestCount}
+use Rattle.graph.specs.Figure.{number, costFor}
+use Rattle.graph.specs.Compute.{figureFor}
 use Rattle.report.specs.Agreement.{TotalPlan, ReportPlan, Agreement, leastFigure, greatestFigure}
 use Rattle.report.proofs.Basic.{step}
 use Rattle.report.proofs.Figures.{agreement}
@@ -29,20 +30,20 @@ module _ (g : Graph) (w : within g ≡ true) (p : Premises g) where
       agreement g (record { total = total; lows-one = p .lows-one; highs-one = p .highs-one })
 
   pub report-figures : ReportFigures g
-  unfolding leastDelay greatestDelay leastCount greatestCount
+  unfolding figureFor
   report-figures = record {
     least-delay =
         let (b, r) = agrees .lower-returns in
-        (b, r, least-one g w (leastDelayCost g) (leastFigure b) (agrees .lower-least b .0 r));
+        (b, r, least-one g w (costFor LeastDelay g) (leastFigure b) (agrees .lower-least b .0 r));
     greatest-delay =
         let (b, r) = agrees .upper-returns in
-        (b, r, greatest-one g w (greatestDelayCost g) (greatestFigure b) (agrees .upper-greatest b .0 r));
+        (b, r, greatest-one g w (costFor GreatestDelay g) (greatestFigure b) (agrees .upper-greatest b .0 r));
     least-count = λ i u.
         let (k, r) = agrees .counts-agree .mincount-returns i u (counted g) in
-        (k, r, least-one g w (countCost g) (number k) (agrees .counts-agree .mincount-least i u (counted g) k .0 r));
+        (k, r, least-one g w (costFor LeastCount g) (number k) (agrees .counts-agree .mincount-least i u (counted g) k .0 r));
     greatest-count = λ i u.
         let (k, r) = agrees .counts-agree .maxcount-returns i u (counted g) in
-        (k, r, greatest-one g w (countCost g) (number k) (agrees .counts-agree .maxcount-greatest i u (counted g) k .0 r));
+        (k, r, greatest-one g w (costFor GreatestCount g) (number k) (agrees .counts-agree .maxcount-greatest i u (counted g) k .0 r));
   }
 
 -- of the plan after any list of calls from a fresh plan

@@ -5,10 +5,11 @@
 -- The figures are those that are quoted, by computation (graph's specs/Compute.antt). Assumes nothing.
 use Prim.Native.Nat.{ℕ, _<_}
 use mathlib.Core.Path.{_≡_}
+use Rattle.graph.specs.declared.Which.the-variants.{LeastDelay, GreatestDelay, LeastCount, GreatestCount}
 use Rattle.graph.specs.Graph.{Graph, states, count, counted, low, high, Departs, Unfinished}
 use Rattle.graph.specs.Walk.{Begins}
 use Rattle.graph.specs.Figure.{Figure, number}
-use Rattle.graph.specs.Compute.{leastDelay, greatestDelay, leastCount, greatestCount}
+use Rattle.graph.specs.Compute.{figureFor}
 use Rattle.report.specs.Procedure.{Procedure, Returns}
 use Rattle.report.specs.Bounds.{Bound, finite, lower, upper}
 use Rattle.report.specs.Counts.{mincount, maxcount}
@@ -35,8 +36,8 @@ GivesNumber q f = (k : ℕ) × Returns q (finite k) × (number k ≡ f)
 -- what it says of them
 pub record ReportFigures (g : Graph) : Type 0 where
   -- "Infinity from lower is NONE here, infinity from upper is ENDLESS."
-  pub least-delay : Gives (lower g) leastFigure (leastDelay g)
-  pub greatest-delay : Gives (upper g) greatestFigure (greatestDelay g)
+  pub least-delay : Gives (lower g) leastFigure (figureFor LeastDelay g)
+  pub greatest-delay : Gives (upper g) greatestFigure (figureFor GreatestDelay g)
   -- "wherever upper is finite"
-  pub least-count : (i : ℕ) → Returns (upper g) (finite i) → GivesNumber (mincount g (counted g)) (leastCount g)
-  pub greatest-count : (i : ℕ) → Returns (upper g) (finite i) → GivesNumber (maxcount g (counted g)) (greatestCount g)
+  pub least-count : (i : ℕ) → Returns (upper g) (finite i) → GivesNumber (mincount g (counted g)) (figureFor LeastCount g)
+  pub greatest-count : (i : ℕ) → Returns (upper g) (finite i) → GivesNumber (maxcount g (counted g)) (figureFor GreatestCount g)

@@ -1,10 +1,9 @@
 -- Facts that the definitions give at once: fields of two known octets. A wrong definition makes one of them false.
 -- Assumes nothing.
 use mathlib.Core.Bool.{true, false}
-use mathlib.Core.List.{List, [], _∷_}
+use mathlib.Core.List.{[], _∷_}
 use mathlib.Core.Path.{_≡_, refl}
-use Prim.Native.Nat.{ℕ}
-use Rattle.field.specs.Field.{number, bitsOf, bits, octetsOf, fieldAt, withField, Field, bitsOfAll, widthOfAll, pack, unpack}
+use Rattle.field.specs.Field.{number, bitsOf, bits, octetsOf, fieldAt, withField, bitsOfAll, widthOfAll, pack, unpack}
 
 -- 11 in four bits, most significant first
 eleven : bitsOf 4 11 ≡ true ∷ false ∷ true ∷ true ∷ []

@@ -3,14 +3,14 @@
 -- Assumes nothing.
 use mathlib.Core.Bool.{Bool}
 use mathlib.Core.List.{List, [], _∷_, _++_, append-assoc}
-use mathlib.Core.Path.{_≡_, refl, sym, ap, ap₂, _∙_, subst}
-use Prim.Native.Nat.{ℕ, zero, suc, _+_, _-_, _*_, _/_, _%_, _^_, _≤_, _<_}
-use native.Mathlib.Nat.{lt-of-lt-of-le, min-le-left, mul-zero, zero-add, suc-add}
+use mathlib.Core.Path.{_≡_, refl, sym, ap, ap₂, _∙_}
+use Prim.Native.Nat.{ℕ, zero, suc, _+_, _-_, _*_, _≤_, _<_}
+use native.Mathlib.Nat.{lt-of-lt-of-le, min-le-left, zero-add, suc-add}
 use native.Mathlib.Omega.{arith}
 use lib.ListN.{length, getD, take, drop, length-append, length-take, length-drop, take-append-drop}
 use lib.Pow.{pow-mono}
-use lib.Seq.{length-take-le, take-at, drop-at, drop-cons, drop-nil, take-nil, take-take}
-use Rattle.field.specs.Field.{bit, number, bitsOf, bits, octetsOf, fieldAt, Octets}
+use lib.Seq.{length-take-le, take-at, drop-at, drop-cons, take-nil, take-take}
+use Rattle.field.specs.Field.{number, bitsOf, bits, octetsOf, fieldAt, Octets}
 use Rattle.field.proofs.Number.{length-bitsOf, number-lt, number-bitsOf-lt, bitsOf-number-at}
 
 pub length-bits : (os : List ℕ) → length (bits os) ≡ 8 * length os

@@ -2,15 +2,15 @@
 -- bits of the value, and the bits after it. So the value comes back, and a field that lies before or after is the one that was there.
 -- Assumes nothing.
 use mathlib.Core.Bool.{Bool}
-use mathlib.Core.List.{List, [], _∷_, _++_, append-assoc}
-use mathlib.Core.Path.{_≡_, refl, sym, ap, ap₂, _∙_}
-use Prim.Native.Nat.{ℕ, zero, suc, _+_, _-_, _*_, _/_, _%_, _^_, _≤_, _<_}
-use native.Mathlib.Nat.{lt-of-lt-of-le, min-le-left, add-zero}
+use mathlib.Core.List.{List, _++_, append-assoc}
+use mathlib.Core.Path.{_≡_, sym, ap, ap₂, _∙_}
+use Prim.Native.Nat.{ℕ, _+_, _-_, _*_, _^_, _≤_, _<_}
+use native.Mathlib.Nat.{lt-of-lt-of-le, min-le-left}
 use native.Mathlib.Omega.{arith}
-use lib.ListN.{length, getD, take, drop, length-append, length-take, length-drop, take-append-drop}
+use lib.ListN.{length, take, drop, length-append, length-take, length-drop}
 use lib.Pow.{pow-mono}
-use lib.Seq.{length-take-le, take-at, drop-at, take-append-le, drop-append-le, take-take, drop-drop, take-add}
-use Rattle.field.specs.Field.{number, bitsOf, bits, octetsOf, fieldAt, withField, Octets}
+use lib.Seq.{length-take-le, take-at, drop-at, take-take, drop-drop}
+use Rattle.field.specs.Field.{number, bitsOf, bits, fieldAt, withField, Octets}
 use Rattle.field.proofs.Number.{length-bitsOf, number-lt, number-bitsOf-lt}
 use Rattle.field.proofs.Bits.{length-bits, bits-take, bits-drop, length-octetsOf, octetsOf-octets, bits-octetsOf, same-bits, within-front, take-octets, drop-octets}
 

@@ -7,12 +7,11 @@ use mathlib.Core.Bool.{Bool, true, false}
 use mathlib.Core.List.{List, [], _∷_, _++_}
 use mathlib.Core.Path.{_≡_, refl, sym, ap, ap₂, _∙_}
 use Prim.Native.Nat.{ℕ, zero, suc, _+_, _-_, _*_, _/_, _%_, _^_, _≤_, _<_}
-use native.Mathlib.Nat.{add-zero, zero-add, zero-mul, mod-lt, mod-eq-of-lt, pow-suc, pow-zero}
+use native.Mathlib.Nat.{zero-add, zero-mul, mod-lt, mod-eq-of-lt, pow-suc}
 use native.Mathlib.Omega.{arith}
 use lib.Dec.{eqb}
 use lib.ListN.{length, take, drop, length-append, length-drop, take-append-drop}
 use lib.Pow.{pow-pos, pow-add, high, low, mod-pow-add, field}
-use lib.Seq.{length-take-le, take-append-le, drop-append-le}
 use Rattle.field.specs.Field.{bit, number, bitsOf}
 
 pub length-bitsOf : (w v : ℕ) → length (bitsOf w v) ≡ w

@@ -4,17 +4,17 @@
 -- fields are the same list. Fields put one after another at the front of a buffer leave the packed octets there, and the rest of the buffer.
 -- Assumes nothing.
 use mathlib.Core.Bool.{Bool}
-use mathlib.Core.List.{List, [], _∷_, _++_, append-assoc, append-nil, map}
-use mathlib.Core.Path.{_≡_, refl, sym, ap, ap₂, _∙_, subst}
-use Prim.Native.Nat.{ℕ, zero, suc, _+_, _-_, _*_, _/_, _%_, _^_, _≤_, _<_}
+use mathlib.Core.List.{List, [], _∷_, _++_, append-assoc, append-nil}
+use mathlib.Core.Path.{_≡_, refl, sym, ap, ap₂, _∙_}
+use Prim.Native.Nat.{ℕ, _+_, _*_, _/_, _≤_}
 use native.Mathlib.Nat.{add-zero, zero-add, add-assoc, mul-div-cancel-left}
 use native.Mathlib.Omega.{arith}
-use lib.ListN.{length, getD, take, drop, length-append, length-take, length-drop, take-append-drop}
+use lib.ListN.{length, getD, take, drop, length-append, length-drop, take-append-drop}
 use lib.Seq.{length-take-le, take-at, drop-at, drop-drop, take-add, take-length}
-use Rattle.field.specs.Field.{Field, Fit, AllFit, number, bitsOf, bits, octetsOf, fieldAt, withField, Octets, bitsOfAll, widthOfAll, pack, unpack, putAll, widths, fieldsOf, fourAt}
+use Rattle.field.specs.Field.{Field, AllFit, number, bitsOf, bits, fieldAt, withField, Octets, bitsOfAll, widthOfAll, pack, unpack, putAll, widths, fieldsOf, fourAt}
 use Rattle.field.specs.declared.Four.{Four}
-use Rattle.field.proofs.Number.{length-bitsOf, number-lt, number-bitsOf-lt, bitsOf-number-at}
-use Rattle.field.proofs.Bits.{length-bits, bits-append, bits-take, bits-drop, length-octetsOf, octetsOf-octets, bits-octetsOf, same-bits, drop-octets, append-octets}
+use Rattle.field.proofs.Number.{length-bitsOf, number-bitsOf-lt, bitsOf-number-at}
+use Rattle.field.proofs.Bits.{length-bits, bits-append, bits-drop, length-octetsOf, octetsOf-octets, bits-octetsOf, same-bits, drop-octets, append-octets}
 use Rattle.field.proofs.Laws.{length-withField, withField-octets, put-front, put-back}
 
 -- ---- the bits of a sequence

@@ -4,14 +4,14 @@
 use mathlib.Core.Bool.{Bool}
 use mathlib.Core.List.{List, [], _∷_, _++_, append-nil, append-assoc}
 use mathlib.Core.Path.{_≡_, refl, sym, ap, ap₂, _∙_}
-use Prim.Native.Nat.{ℕ, zero, suc, _+_, _-_, _*_, _/_, _%_, _^_, _≤_, _<_}
+use Prim.Native.Nat.{ℕ, suc, _+_, _-_, _*_, _/_, _%_, _^_, _≤_, _<_}
 use native.Mathlib.Nat.{lt-of-lt-of-le, one-mul, mod-eq-of-lt, div-mul-le-self, div-le-self, le-mul-of-pos-right}
 use native.Mathlib.Numerals.{add-one}
 use native.Mathlib.Omega.{arith}
 use lib.Bits.{bitAnd, and-mask}
 use lib.ListN.{length, getD, set, take, drop, length-append, length-drop, take-append-drop}
 use lib.Pow.{pow-pos, pow-mono, pow-lt, field, mod-mod-pow, shr-shr}
-use lib.Seq.{slice, length-slice, length-take-le, take-suc, drop-append-le, slice-empty, take-all, take-add, take-take, drop-drop, paste, paste-zero, paste-suc, length-paste}
+use lib.Seq.{slice, length-slice, length-take-le, take-suc, drop-append-le, slice-empty, take-all, take-add, drop-drop, paste, paste-zero, paste-suc, length-paste}
 use Rattle.field.specs.Field.{Field, number, bitsOf, bits, octetsOf, fieldAt, fieldsOf, withField, stored, Octets, AllFit, bitsOfAll, widthOfAll, putAll}
 use Rattle.field.specs.declared.Four.{Four}
 use Rattle.field.proofs.Number.{length-bitsOf, number-lt, number-append, number-take, number-drop, number-bitsOf, number-bitsOf-lt, bitsOf-number-at, number-mid}

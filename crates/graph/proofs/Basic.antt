@@ -15,8 +15,8 @@ use Rattle.graph.specs.Graph.{Graph, Transition, count, start, final, co
 use Rattle.graph.specs.Walk.{Begins, Walk, Different, reached}
 use Rattle.graph.specs.Route.{Route, GoesOnForever, StrandedFrom, EndsUnanswered, Cost, total}
 use Rattle.graph.specs.Figure.{Figure, number, NONE, STRANDED, ENDLESS, NoStart, IsLeast, IsGreatest, Shown}
-use Rattle.graph.specs.Figure.{leastDelayCost}
-use Rattle.graph.specs.Figure.{greatestDelayCost, countCost}
+use Rattle.graph.specs.Figure.{costFor}
+use Rattle.graph.specs.declared.Which.the-variants.{LeastDelay, GreatestDelay, LeastCount}
 use Rattle.graph.specs.Known.{join, P1, P3, P4, P6, P7, P8, P9, unreached-dead-end, reached-dead-end}
 use Rattle.graph.specs.Known.{plan, counted-ends}
 
@@ -46,12 +46,12 @@ not-departing (b, w) = omega (arith, w .2 .1 .source)
 -- ---- costs
 
 -- "first and last included": both states of the route are counted
-pub both-ends : total (counted-ends .plan) (countCost (counted-ends .plan)) 0 (0 ∷ []) ≡ 2
+pub both-ends : total (counted-ends .plan) (costFor LeastCount (counted-ends .plan)) 0 (0 ∷ []) ≡ 2
 unfolding counted from to
 both-ends = refl
 
 -- "of its highs for a greatest one": 0→1 1..9
-pub of-highs : total (P6 .plan) (greatestDelayCost (P6 .plan)) 0 (0 ∷ []) ≡ 9
+pub of-highs : total (P6 .plan) (costFor GreatestDelay (P6 .plan)) 0 (0 ∷ []) ≡ 9
 unfolding low high to
 of-highs = refl
 
@@ -169,7 +169,7 @@ unfolding start final
 start-shown c = (0, (refl, record { unfinished = refl; none-departs = λ t d. not-suc-le-zero (d .listed) }), one-place, refl)
 
 -- "visits no state twice": 0→0, 0→1 is a route of 1 second
-pub not-twice : Shown (P4 .plan) (leastDelayCost (P4 .plan)) (number 1) (0 ∷ 1 ∷ []) 0 → ⊥
+pub not-twice : Shown (P4 .plan) (costFor LeastDelay (P4 .plan)) (number 1) (0 ∷ 1 ∷ []) 0 → ⊥
 unfolding from to
 not-twice (s, r, q, d, z) = d 0 1 (lit< tt) (lit< tt) (sym (r .1 .1 .source))
 

@@ -2,7 +2,7 @@
 -- that turns it into the rules.
 --
 -- The test computes the four figures of a row's plan and compares them with the row's, and looks that each transition
--- leads to a state. What is computed meets the rules for every such plan (`least-is`, `greatest-is`), so a figure equal
+-- leads to a state. What is computed meets the rules for every such plan (`figure-is`), so a figure equal
 -- to it does (`holds`). Assumes nothing.
 use Prim.Native.Nat.{ℕ, zero, suc, _<_}
 use mathlib.Core.Path.{_≡_, refl, sym, _∙_, ap₂, subst}
@@ -12,17 +12,19 @@ use native.Mathlib.Nat.{not-suc-le-zero, le-of-suc-le-suc}
 use lib.Dec.{T, eqb, ltb, lit<}
 use lib.ListN.{length, getD}
 use borrow.Author.Tests.{eqb-true}
-use Rattle.graph.specs.Graph.{Graph, count, start, final, counted, from, to, low, high, Departs, Closed}
+use Rattle.graph.specs.Graph.{count, start, final, counted, from, to, low, high, Departs}
 use Rattle.graph.specs.Walk.{visits, Different}
-use Rattle.graph.specs.Route.{Route, Cost}
-use Rattle.graph.specs.Figure.{Figure, number, NONE, STRANDED, ENDLESS, IsLeast, IsGreatest, Shown, kind, value}
-use Rattle.graph.specs.Figure.{leastDelayCost, greatestDelayCost, countCost}
-use Rattle.graph.specs.Compute.{closed, least, greatest, leastDelay, greatestDelay, leastCount, greatestCount}
+use Rattle.graph.specs.Route.{Route}
+use Rattle.graph.specs.declared.Which.{Which}
+use Rattle.graph.specs.declared.Which.the-variants.{LeastDelay, GreatestDelay, LeastCount, GreatestCount}
+use Rattle.graph.specs.Which.{every}
+use Rattle.graph.specs.Figure.{Figure, number, NONE, STRANDED, ENDLESS, IsFigure, Shown, kind, value, costFor}
+use Rattle.graph.specs.Compute.{closed, figureFor}
 use Rattle.graph.specs.Known.{Row, Holds, known, misleading, P1, P4, P7, P8, unreached-dead-end, reached-dead-end}
 use Rattle.graph.specs.Known.{counted-ends}
 use Rattle.graph.proofs.Listed.{of-closed}
-use Rattle.graph.proofs.Least.{least-is}
-use Rattle.graph.proofs.Greatest.{greatest-is, route-simple}
+use Rattle.graph.proofs.Figures.{figure-is}
+use Rattle.graph.proofs.Greatest.{route-simple}
 
 -- ---- the test
 
@@ -33,12 +35,12 @@ figure-of (suc zero) v = NONE
 figure-of (suc (suc zero)) v = STRANDED
 figure-of (suc (suc (suc k))) v = ENDLESS
 
-pub figure-is : (f : Figure) → figure-of (kind f) (value f) ≡ f
+pub figure-same : (f : Figure) → figure-of (kind f) (value f) ≡ f
 unfolding figure-of
-figure-is (number k) = refl
-figure-is NONE = refl
-figure-is STRANDED = refl
-figure-is ENDLESS = refl
+figure-same (number k) = refl
+figure-same NONE = refl
+figure-same STRANDED = refl
+figure-same ENDLESS = refl
 
 same : Figure → Figure → Bool
 same f h = eqb (kind f) (kind h) && eqb (value f) (value h)
@@ -47,43 +49,30 @@ of-same : (f h : Figure) → same f h ≡ true → f ≡ h
 unfolding same
 of-same f h e =
     let (k, v) = and-eq-true-iff (eqb (kind f) (kind h)) (eqb (value f) (value h)) .0 e in
-    sym (figure-is f) ∙ ap₂ figure-of (eqb-true (kind f) (kind h) k) (eqb-true (value f) (value h) v) ∙ figure-is h
+    sym (figure-same f) ∙ ap₂ figure-of (eqb-true (kind f) (kind h) k) (eqb-true (value f) (value h) v) ∙ figure-same h
 
 right : Row → Bool
-unfolding closed same leastDelay greatestDelay leastCount greatestCount
-right r =
-    closed (r .plan)
-    && (same (leastDelay (r .plan)) (r .least-delay)
-    && (same (greatestDelay (r .plan)) (r .greatest-delay)
-    && (same (leastCount (r .plan)) (r .least-count)
-    && same (greatestCount (r .plan)) (r .greatest-count))))
+unfolding closed same figureFor
+right r = closed (r .plan) && every (λ which. same (figureFor which (r .plan)) (r .figures which))
 
 -- ---- from the test to the rules
 
 both : (a b : Bool) → a && b ≡ true → (a ≡ true) × (b ≡ true)
 both a b e = and-eq-true-iff a b .0 e
 
-least-as : (g : Graph) (c : Cost) (f : Figure) → Closed g → same (least g c) f ≡ true → IsLeast g c f
-least-as g c f ok e = subst (IsLeast g c) (of-same (least g c) f e) (least-is g c ok)
-
-greatest-as : (g : Graph) (c : Cost) (f : Figure) → Closed g → same (greatest g c) f ≡ true → IsGreatest g c f
-greatest-as g c f ok e = subst (IsGreatest g c) (of-same (greatest g c) f e) (greatest-is g c ok)
+every-one : (p : Which → Bool) → every p ≡ true → (which : Which) → p which ≡ true
+every-one p e LeastDelay = both (p LeastDelay) _ e .0
+every-one p e GreatestDelay = both (p GreatestDelay) _ (both (p LeastDelay) _ e .1) .0
+every-one p e LeastCount = both (p LeastCount) _ (both (p GreatestDelay) _ (both (p LeastDelay) _ e .1) .1) .0
+every-one p e GreatestCount = both (p LeastCount) _ (both (p GreatestDelay) _ (both (p LeastDelay) _ e .1) .1) .1
 
 holds : (r : Row) → right r ≡ true → Holds r
 unfolding right
-holds r e =
-    let g = r .plan in
-    let (c, e₁) = both (closed g) _ e in
-    let ok : Closed g = of-closed g c in
-    let (ld, e₂) = both (same (leastDelay g) (r .least-delay)) _ e₁ in
-    let (gd, e₃) = both (same (greatestDelay g) (r .greatest-delay)) _ e₂ in
-    let (lc, gc) = both (same (leastCount g) (r .least-count)) _ e₃ in
-    record {
-      least-delay = least-as g (leastDelayCost g) (r .least-delay) ok ld;
-      greatest-delay = greatest-as g (greatestDelayCost g) (r .greatest-delay) ok gd;
-      least-count = least-as g (countCost g) (r .least-count) ok lc;
-      greatest-count = greatest-as g (countCost g) (r .greatest-count) ok gc;
-    }
+holds r e which =
+    let (c, rest) = both (closed (r .plan)) _ e in
+    subst (IsFigure which (r .plan))
+    (of-same (figureFor which (r .plan)) (r .figures which) (every-one (λ which. same (figureFor which (r .plan)) (r .figures which)) rest which))
+    (figure-is which (r .plan) (of-closed (r .plan) c))
 
 -- ---- the tables
 
@@ -108,7 +97,7 @@ known-hold = all-hold (known ++ misleading) refl
 
 -- no walk of P1 is endless, so each of its routes visits no state twice
 P1-different : (s : ℕ) (ts : List ℕ) → Route (P1 .plan) s ts → Different (visits (P1 .plan) s ts)
-P1-different s ts r = route-simple (P1 .plan) (known-hold 0 (lit< tt) .greatest-delay .1) s ts r
+P1-different s ts r = route-simple (P1 .plan) (known-hold 0 (lit< tt) GreatestDelay .1) s ts r
 
 takes : (s t : ℕ) → T (ltb t (count (P1 .plan))) → from (P1 .plan) t ≡ s → Departs (P1 .plan) s t
 takes s t l e = record { listed = lit< l; source = e }
@@ -124,47 +113,47 @@ unfolding start final from to
 P1-long = (refl, (refl, takes 0 0 tt refl, (refl, takes 1 1 tt refl, (refl, takes 2 3 tt refl, refl))))
 
 -- "least delay 7: 0 2"
-pub P1-least-delay : Shown (P1 .plan) (leastDelayCost (P1 .plan)) (number 7) (0 ∷ 2 ∷ []) 0
+pub P1-least-delay : Shown (P1 .plan) (costFor LeastDelay (P1 .plan)) (number 7) (0 ∷ 2 ∷ []) 0
 unfolding low
 P1-least-delay = (0, P1-short, refl, P1-different 0 (0 ∷ 2 ∷ []) P1-short, refl)
 
 -- "greatest delay 60: 0 1 3"
-pub P1-greatest-delay : Shown (P1 .plan) (greatestDelayCost (P1 .plan)) (number 60) (0 ∷ 1 ∷ 3 ∷ []) 0
+pub P1-greatest-delay : Shown (P1 .plan) (costFor GreatestDelay (P1 .plan)) (number 60) (0 ∷ 1 ∷ 3 ∷ []) 0
 unfolding high
 P1-greatest-delay = (0, P1-long, refl, P1-different 0 (0 ∷ 1 ∷ 3 ∷ []) P1-long, refl)
 
 -- "least count 1: 0 2"
-pub P1-least-count : Shown (P1 .plan) (countCost (P1 .plan)) (number 1) (0 ∷ 2 ∷ []) 0
+pub P1-least-count : Shown (P1 .plan) (costFor LeastCount (P1 .plan)) (number 1) (0 ∷ 2 ∷ []) 0
 unfolding counted from to
 P1-least-count = (0, P1-short, refl, P1-different 0 (0 ∷ 2 ∷ []) P1-short, refl)
 
 -- "greatest count 2: 0 1 3"
-pub P1-greatest-count : Shown (P1 .plan) (countCost (P1 .plan)) (number 2) (0 ∷ 1 ∷ 3 ∷ []) 0
+pub P1-greatest-count : Shown (P1 .plan) (costFor GreatestCount (P1 .plan)) (number 2) (0 ∷ 1 ∷ 3 ∷ []) 0
 unfolding counted from to
 P1-greatest-count = (0, P1-long, refl, P1-different 0 (0 ∷ 1 ∷ 3 ∷ []) P1-long, refl)
 
 -- ---- "What misleads people here"
 
 -- "Walking on through a final state (P8)": whoever walks on meets the loop 1→1, and says ENDLESS
-pub final-ends : IsGreatest (P8 .plan) (greatestDelayCost (P8 .plan)) (number 2)
-final-ends = known-hold 7 (lit< tt) .greatest-delay
+pub final-ends : IsFigure GreatestDelay (P8 .plan) (number 2)
+final-ends = known-hold 7 (lit< tt) GreatestDelay
 
 -- "Letting a loop or dead end that no start reaches turn the greatest figure (P7)": ENDLESS, and STRANDED in the row
 -- without the loop
-pub unreached-loop : IsGreatest (P7 .plan) (greatestDelayCost (P7 .plan)) (number 3)
-unreached-loop = known-hold 6 (lit< tt) .greatest-delay
+pub unreached-loop : IsFigure GreatestDelay (P7 .plan) (number 3)
+unreached-loop = known-hold 6 (lit< tt) GreatestDelay
 
-pub unreached-end : IsGreatest (unreached-dead-end .plan) (greatestDelayCost (unreached-dead-end .plan)) (number 3)
-unreached-end = known-hold 9 (lit< tt) .greatest-delay
+pub unreached-end : IsFigure GreatestDelay (unreached-dead-end .plan) (number 3)
+unreached-end = known-hold 9 (lit< tt) GreatestDelay
 
 -- "Taking a zero-duration loop for no loop (P4)": 1
-pub zero-loop : IsGreatest (P4 .plan) (greatestDelayCost (P4 .plan)) ENDLESS
-zero-loop = known-hold 3 (lit< tt) .greatest-delay
+pub zero-loop : IsFigure GreatestDelay (P4 .plan) ENDLESS
+zero-loop = known-hold 3 (lit< tt) GreatestDelay
 
 -- "Reading upper's result at a dead end as a delay: its walk has no answer": 9
-pub no-answer : IsGreatest (reached-dead-end .plan) (greatestDelayCost (reached-dead-end .plan)) STRANDED
-no-answer = known-hold 10 (lit< tt) .greatest-delay
+pub no-answer : IsFigure GreatestDelay (reached-dead-end .plan) STRANDED
+no-answer = known-hold 10 (lit< tt) GreatestDelay
 
 -- "Counting neither the first nor the last state": 0, or 1 with one of the two
-pub both-ends-count : IsLeast (counted-ends .plan) (countCost (counted-ends .plan)) (number 2)
-both-ends-count = known-hold 11 (lit< tt) .least-count
+pub both-ends-count : IsFigure LeastCount (counted-ends .plan) (number 2)
+both-ends-count = known-hold 11 (lit< tt) LeastCount

@@ -16,6 +16,7 @@ pub mod Listed
 pub mod Extreme
 pub mod Least
 pub mod Greatest
+pub mod Figures
 pub mod Bound
 -- For a search: what it must leave behind, and that for P1.
 pub mod Certificate

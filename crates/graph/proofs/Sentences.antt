@@ -9,22 +9,15 @@ use mathlib.Core.Path.{_≡_, sym, _∙_}
 use mathlib.Core.Logic.{_↔_}
 use mathlib.Core.Bool.{Bool}
 use mathlib.Core.List.{List, []}
-use native.Mathlib.Omega.{arith}
-use lib.Dec.{lit<}
 use lib.ListN.{length}
 use Rattle.graph.specs.Graph.{Graph, low, high, Final, Unfinished, DeadEnd}
 use Rattle.graph.specs.Walk.{Begins, WalkTo, FromStart, Walk, UnfinishedWalk, EndlessWalk, visits, arrival}
 use Rattle.graph.specs.Route.{Route, StrandedWalk, Cost, lows, highs, counts, delay, number-on}
-use Rattle.graph.specs.Figure.{Figure, number, NONE, STRANDED, ENDLESS, IsLeast, IsGreatest, Shown}
-use Rattle.graph.specs.Figure.{leastDelayCost, greatestDelayCost, countCost}
-use Rattle.graph.specs.Known.{P1, P2, P3, P6}
+use Rattle.graph.specs.Figure.{number, STRANDED, Shown}
 use Rattle.graph.proofs.Repeat.{nth}
 use Rattle.graph.proofs.Walks.{passed, stopped, plain, walk-of}
 use Rattle.graph.proofs.Endless.{run, run-walk, endless-of}
 use Rattle.graph.proofs.Cost.{delay-is, count-is}
-use Rattle.graph.proofs.Least.{least-unique}
-use Rattle.graph.proofs.Greatest.{greatest-unique}
-use Rattle.graph.proofs.Known.{known-hold}
 
 module _ (g : Graph) where
   -- "A start that is final is a route of no transitions."
@@ -84,53 +77,3 @@ module _ (g : Graph) where
   pub shown-count : (p : ℕ → Bool) (k : ℕ) (ts : List ℕ) (j : ℕ) → Shown g (counts g p) (number k) ts j
       → (s : ℕ) × Begins g s × (number-on g p s ts ≡ k)
   shown-count p k ts j (s, r, q, d, z) = (s, r .0, sym (count-is g p (Unfinished g) (Final g) s ts (r .1)) ∙ q)
-
--- "a calculator that says NONE, STRANDED or ENDLESS before looking", and "one that quotes a fixed figure": no figure is
--- right for both P2 and P3, whatever the cost
-pub least-not-fixed : (c c′ : Cost) (f : Figure) → IsLeast (P2 .plan) c f → IsLeast (P3 .plan) c′ f → ⊥
-least-not-fixed c c′ (number k) h₂ h₃ = let (s, ts, r, q) = h₃ .attained in known-hold 2 (lit< tt) .least-delay s ts r
-least-not-fixed c c′ NONE h₂ h₃ = let (s, ts, r, q) = known-hold 1 (lit< tt) .least-delay .attained in h₂ s ts r
-least-not-fixed c c′ STRANDED h₂ h₃ = h₂
-least-not-fixed c c′ ENDLESS h₂ h₃ = h₂
-
-pub greatest-not-fixed : (c c′ : Cost) (f : Figure) → IsGreatest (P2 .plan) c f → IsGreatest (P3 .plan) c′ f → ⊥
-greatest-not-fixed c c′ (number k) h₂ h₃ = h₃ .2 (known-hold 2 (lit< tt) .greatest-delay .2)
-greatest-not-fixed c c′ NONE h₂ h₃ = known-hold 1 (lit< tt) .greatest-delay .0 h₂
-greatest-not-fixed c c′ STRANDED h₂ h₃ = known-hold 1 (lit< tt) .greatest-delay .2 (h₂ .2)
-greatest-not-fixed c c′ ENDLESS h₂ h₃ = known-hold 1 (lit< tt) .greatest-delay .1 (h₂ .1)
-
--- and no one number is right for two plans with routes: P1 and P2, and for the least count, 1 in both, P1 and P6
-least-differ : (g : Graph) (c : Cost) (k l : ℕ) → IsLeast g c (number k) → IsLeast g c (number l) → k ≡ l
-least-differ g c k l u v = let e = least-unique g c (number k) (number l) u v in cc
-
-greatest-differ : (g : Graph) (c : Cost) (k l : ℕ) → IsGreatest g c (number k) → IsGreatest g c (number l) → k ≡ l
-greatest-differ g c k l u v = let e = greatest-unique g c (number k) (number l) u v in cc
-
-module _ (k : ℕ) where
-  pub least-delay-not-fixed : IsLeast (P1 .plan) (leastDelayCost (P1 .plan)) (number k)
-      → IsLeast (P2 .plan) (leastDelayCost (P2 .plan)) (number k) → ⊥
-  least-delay-not-fixed u v =
-      let seven = least-differ (P1 .plan) (leastDelayCost (P1 .plan)) k 7 u (known-hold 0 (lit< tt) .least-delay) in
-      let zero = least-differ (P2 .plan) (leastDelayCost (P2 .plan)) k 0 v (known-hold 1 (lit< tt) .least-delay) in
-      omega arith
-
-  pub greatest-delay-not-fixed : IsGreatest (P1 .plan) (greatestDelayCost (P1 .plan)) (number k)
-      → IsGreatest (P2 .plan) (greatestDelayCost (P2 .plan)) (number k) → ⊥
-  greatest-delay-not-fixed u v =
-      let sixty = greatest-differ (P1 .plan) (greatestDelayCost (P1 .plan)) k 60 u (known-hold 0 (lit< tt) .greatest-delay) in
-      let zero = greatest-differ (P2 .plan) (greatestDelayCost (P2 .plan)) k 0 v (known-hold 1 (lit< tt) .greatest-delay) in
-      omega arith
-
-  pub least-count-not-fixed : IsLeast (P1 .plan) (countCost (P1 .plan)) (number k)
-      → IsLeast (P6 .plan) (countCost (P6 .plan)) (number k) → ⊥
-  least-count-not-fixed u v =
-      let one = least-differ (P1 .plan) (countCost (P1 .plan)) k 1 u (known-hold 0 (lit< tt) .least-count) in
-      let zero = least-differ (P6 .plan) (countCost (P6 .plan)) k 0 v (known-hold 5 (lit< tt) .least-count) in
-      omega arith
-
-  pub greatest-count-not-fixed : IsGreatest (P1 .plan) (countCost (P1 .plan)) (number k)
-      → IsGreatest (P2 .plan) (countCost (P2 .plan)) (number k) → ⊥
-  greatest-count-not-fixed u v =
-      let two = greatest-differ (P1 .plan) (countCost (P1 .plan)) k 2 u (known-hold 0 (lit< tt) .greatest-count) in
-      let one = greatest-differ (P2 .plan) (countCost (P2 .plan)) k 1 v (known-hold 1 (lit< tt) .greatest-count) in
-      omega arith

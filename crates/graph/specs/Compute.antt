@@ -10,8 +10,9 @@ use mathlib.Core.List.{List, [], _∷_, _++_, map}
 use lib.Dec.{eqb, ltb}
 use Rattle.graph.specs.Graph.{Graph, states, count, start, final, from, to}
 use Rattle.graph.specs.Route.{Cost, total}
-use Rattle.graph.specs.Figure.{Figure, number, NONE, STRANDED, ENDLESS, leastDelayCost, greatestDelayCost}
-use Rattle.graph.specs.Figure.{countCost}
+use Rattle.graph.specs.declared.Which.{Which}
+use Rattle.graph.specs.declared.Which.the-variants.{LeastDelay, GreatestDelay, LeastCount, GreatestCount}
+use Rattle.graph.specs.Figure.{Figure, number, NONE, STRANDED, ENDLESS, costFor}
 
 module _ {A : Type 0} where
   -- the list where the test says yes, and none of it where it says no
@@ -102,19 +103,10 @@ unfoldable pub greatest : Graph → Cost → Figure
 unfolding anyStart anyEndless anyStranded costs
 greatest g c = cond (not (anyStart g)) NONE (cond (anyEndless g) ENDLESS (cond (anyStranded g) STRANDED (extreme max (costs g c))))
 
--- the four figures, "least delay, greatest delay, least count, greatest count in turn"
-unfoldable pub leastDelay : Graph → Figure
-unfolding least
-leastDelay g = least g (leastDelayCost g)
-
-unfoldable pub greatestDelay : Graph → Figure
-unfolding greatest
-greatestDelay g = greatest g (greatestDelayCost g)
-
-unfoldable pub leastCount : Graph → Figure
-unfolding least
-leastCount g = least g (countCost g)
-
-unfoldable pub greatestCount : Graph → Figure
-unfolding greatest
-greatestCount g = greatest g (countCost g)
+-- each of the four figures
+unfoldable pub figureFor : Which → Graph → Figure
+unfolding least greatest
+figureFor LeastDelay g = least g (costFor LeastDelay g)
+figureFor GreatestDelay g = greatest g (costFor GreatestDelay g)
+figureFor LeastCount g = least g (costFor LeastCount g)
+figureFor GreatestCount g = greatest g (costFor GreatestCount g)

@@ -5,6 +5,8 @@ use mathlib.Core.Path.{_≡_}
 use mathlib.Core.Bool.{true}
 use mathlib.Core.List.{List}
 use lib.ListN.{length, take}
+use Rattle.graph.specs.declared.Which.{Which}
+use Rattle.graph.specs.declared.Which.the-variants.{LeastDelay, GreatestDelay, LeastCount, GreatestCount}
 use Rattle.graph.specs.Graph.{Graph, start, counted}
 use Rattle.graph.specs.Walk.{visits, arrival, UnfinishedWalk, Different}
 use Rattle.graph.specs.Route.{Route, StrandedWalk, GoesOnForever, EndsUnanswered, Cost, total, lows, highs}
@@ -65,15 +67,21 @@ IsGreatest g c ENDLESS = (NoStart g → ⊥) × GoesOnForever g
 IsGreatest g c STRANDED = (NoStart g → ⊥) × (GoesOnForever g → ⊥) × EndsUnanswered g
 IsGreatest g c (number k) = (NoStart g → ⊥) × (GoesOnForever g → ⊥) × (EndsUnanswered g → ⊥) × Largest g c k
 
--- the four figures, and the cost of each
-abbrev pub leastDelayCost : Graph → Cost
-leastDelayCost g = lows g
+-- ---- the four figures: least delay, greatest delay, least count, greatest count
 
-abbrev pub greatestDelayCost : Graph → Cost
-greatestDelayCost g = highs g
+-- what each sums: "the sum of its lows for a least figure, and of its highs for a greatest one", and "the number of counted states"
+abbrev pub costFor : Which → Graph → Cost
+costFor LeastDelay g = lows g
+costFor GreatestDelay g = highs g
+costFor LeastCount g = counts g (counted g)
+costFor GreatestCount g = counts g (counted g)
 
-abbrev pub countCost : Graph → Cost
-countCost g = counts g (counted g)
+-- f is that figure of the plan
+abbrev pub IsFigure : Which → Graph → Figure → Type 0
+IsFigure LeastDelay g = IsLeast g (costFor LeastDelay g)
+IsFigure GreatestDelay g = IsGreatest g (costFor GreatestDelay g)
+IsFigure LeastCount g = IsLeast g (costFor LeastCount g)
+IsFigure GreatestCount g = IsGreatest g (costFor GreatestCount g)
 
 -- ---- what is shown
 

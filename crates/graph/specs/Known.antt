@@ -3,8 +3,9 @@
 use Prim.Native.Nat.{ℕ}
 use mathlib.Core.List.{List, [], _∷_, map}
 use Rattle.graph.specs.Graph.{Graph, Transition, marked}
-use Rattle.graph.specs.Figure.{Figure, number, NONE, STRANDED, ENDLESS, IsLeast, IsGreatest, leastDelayCost}
-use Rattle.graph.specs.Figure.{greatestDelayCost, countCost}
+use Rattle.graph.specs.declared.Which.{Which}
+use Rattle.graph.specs.Which.{four}
+use Rattle.graph.specs.Figure.{Figure, number, NONE, STRANDED, ENDLESS, IsFigure}
 
 -- "a→b 1..9 is a transition with its durations"
 abbrev pub join : ℕ → ℕ → ℕ → ℕ → Transition
@@ -17,26 +18,14 @@ plan ms ts = record { stateList = map marked ms; transitions = ts }
 -- a plan, and its "figures in record order"
 pub record Row : Type 0 where
   pub plan : Graph
-  pub least-delay : Figure
-  pub greatest-delay : Figure
-  pub least-count : Figure
-  pub greatest-count : Figure
+  pub figures : Which → Figure
 
 abbrev pub row : List ℕ → List Transition → Figure → Figure → Figure → Figure → Row
-row ms ts ld gd lc gc = record {
-  plan = plan ms ts;
-  least-delay = ld;
-  greatest-delay = gd;
-  least-count = lc;
-  greatest-count = gc;
-}
+row ms ts ld gd lc gc = record { plan = plan ms ts; figures = four ld gd lc gc }
 
 -- the row's figures are the plan's, by the rules of Figure.antt
-pub record Holds (r : Row) : Type 0 where
-  pub least-delay : IsLeast (r .plan) (leastDelayCost (r .plan)) (r .least-delay)
-  pub greatest-delay : IsGreatest (r .plan) (greatestDelayCost (r .plan)) (r .greatest-delay)
-  pub least-count : IsLeast (r .plan) (countCost (r .plan)) (r .least-count)
-  pub greatest-count : IsGreatest (r .plan) (countCost (r .plan)) (r .greatest-count)
+abbrev pub Holds : Row → Type 0
+Holds r = (which : Which) → IsFigure which (r .plan) (r .figures which)
 
 -- the 28 octets of "Plans with known figures": four states, the first a start, two counted ones, and the last final
 abbrev pub P1-transitions : List Transition

@@ -1,6 +1,7 @@
 pub mod Graph
 pub mod Walk
 pub mod Route
+pub mod Which
 pub mod Figure
 pub mod Compute
 pub mod Known

@@ -12,9 +12,10 @@ use mathlib.Core.List.{[], _∷_}
 use native.Mathlib.Nat.{not-suc-le-zero, le-of-suc-le-suc}
 use native.Mathlib.Omega.{arith}
 use lib.Dec.{lit<}
+use Rattle.graph.specs.declared.Which.the-variants.{LeastDelay, GreatestDelay}
 use Rattle.graph.specs.Graph.{Graph, Transition, marksOf, start, final, counted, transition, from, to, Departs, DeadEnd}
 use Rattle.graph.specs.Compute.{any, nonempty}
-use Rattle.graph.specs.Figure.{number, NONE, STRANDED, IsLeast, IsGreatest, leastDelayCost, greatestDelayCost}
+use Rattle.graph.specs.Figure.{number, NONE, STRANDED, IsLeast, IsGreatest, costFor}
 use Rattle.graph.specs.Known.{plan, join, P1, P2, P3, P5, reached-dead-end}
 use Rattle.graph.proofs.Walks.{start-below}
 use Rattle.graph.proofs.Known.{known-hold}
@@ -123,19 +124,19 @@ dead-end-out q = let (t, d) = q .leaves 2 (lit< tt) refl in none t d
 -- ---- where lower and upper part from document 01
 
 -- Other durations: P1. Lower returns 2, the number of transitions, and the least delay is 7.
-pub durations : Returns (lower (P1 .plan)) (finite 2) × IsLeast (P1 .plan) (leastDelayCost (P1 .plan)) (number 7)
-durations = (P1-bounds .shortest, known-hold 0 (lit< tt) .least-delay)
+pub durations : Returns (lower (P1 .plan)) (finite 2) × IsLeast (P1 .plan) (costFor LeastDelay (P1 .plan)) (number 7)
+durations = (P1-bounds .shortest, known-hold 0 (lit< tt) LeastDelay)
 
 -- "Reading upper's result at a dead end as a delay: its walk has no answer." P3, whose start is a dead end: upper
 -- returns 1, and the figure is STRANDED.
-pub dead-end : Returns (upper (P3 .plan)) (finite 1) × IsGreatest (P3 .plan) (greatestDelayCost (P3 .plan)) STRANDED
+pub dead-end : Returns (upper (P3 .plan)) (finite 1) × IsGreatest (P3 .plan) (costFor GreatestDelay (P3 .plan)) STRANDED
 unfolding any empty same N T T⁻¹ marksOf start final from to transition
-dead-end = ((_, turns refl (ends refl), refl), known-hold 2 (lit< tt) .greatest-delay)
+dead-end = ((_, turns refl (ends refl), refl), known-hold 2 (lit< tt) GreatestDelay)
 
 -- No start: P5. Upper returns 0, and the figure is NONE.
-pub no-start : Returns (upper (P5 .plan)) (finite 0) × IsGreatest (P5 .plan) (greatestDelayCost (P5 .plan)) NONE
+pub no-start : Returns (upper (P5 .plan)) (finite 0) × IsGreatest (P5 .plan) (costFor GreatestDelay (P5 .plan)) NONE
 unfolding any empty same N T T⁻¹ marksOf start final from to transition
-no-start = ((_, ends refl, refl), known-hold 4 (lit< tt) .greatest-delay)
+no-start = ((_, ends refl, refl), known-hold 4 (lit< tt) GreatestDelay)
 
 -- Neither a start nor a final state. The report says below figure 4 that the two parts of the loop's test are never
 -- false together; its reason looks one turn back, and before the first test there is none. Both are false here: upper
@@ -143,7 +144,7 @@ no-start = ((_, ends refl, refl), known-hold 4 (lit< tt) .greatest-delay)
 abbrev bare : Graph
 bare = plan (0 ∷ []) []
 
-pub both-false : Returns (upper bare) ∞ × IsGreatest bare (greatestDelayCost bare) NONE
+pub both-false : Returns (upper bare) ∞ × IsGreatest bare (costFor GreatestDelay bare) NONE
 unfolding any empty same N T T⁻¹ marksOf start final from to transition
 both-false = ((_, ends refl, refl), λ s b. absurd (false≢true (unmarked s (start-below bare s b) b)))
   where
@@ -155,7 +156,7 @@ both-false = ((_, ends refl, refl), λ s b. absurd (false≢true (unmarked s (st
 abbrev alone : Graph
 alone = plan (4 ∷ []) []
 
-pub no-final : Returns (upper alone) ∞ × IsGreatest alone (greatestDelayCost alone) STRANDED
+pub no-final : Returns (upper alone) ∞ × IsGreatest alone (costFor GreatestDelay alone) STRANDED
 unfolding any empty same N T T⁻¹ marksOf start final from to transition
 no-final = (
   (_, ends refl, refl),

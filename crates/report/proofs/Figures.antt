@@ -7,10 +7,11 @@ use Prim.Native.Nat.{ℕ}
 use mathlib.Core.Path.{_≡_, refl, sym}
 use mathlib.Core.Logic.{_↔_}
 use native.Mathlib.Omega.{arith}
+use Rattle.graph.specs.declared.Which.the-variants.{LeastDelay, GreatestDelay, LeastCount, GreatestCount}
 use Rattle.graph.specs.Graph.{Graph, counted}
 use Rattle.graph.specs.Route.{Cost, counts}
-use Rattle.graph.specs.Figure.{Figure, number, NONE, ENDLESS, IsLeast, IsGreatest, leastDelayCost, greatestDelayCost}
-use Rattle.graph.specs.Figure.{countCost}
+use Rattle.graph.specs.Figure.{Figure, number, NONE, ENDLESS, IsLeast, IsGreatest, costFor}
+use Rattle.graph.specs.Figure.{costFor}
 use Rattle.graph.proofs.Least.{least-unique}
 use Rattle.graph.proofs.Greatest.{greatest-unique}
 use Rattle.report.specs.Procedure.{Procedure, Returns}
@@ -66,15 +67,15 @@ pub agreement : (g : Graph) → ReportPlan g → Agreement g
 agreement g q = record {
   lower-returns = lower-returns g;
   upper-returns = upper-returns g;
-  lower-least = let (b, r) = lower-returns g in exactly-least (lower g) g (leastDelayCost g) b r (lower-says g q b r);
-  upper-greatest = let (b, r) = upper-returns g in exactly-greatest (upper g) g (greatestDelayCost g) b r (upper-greatest g q b r);
+  lower-least = let (b, r) = lower-returns g in exactly-least (lower g) g (costFor LeastDelay g) b r (lower-says g q b r);
+  upper-greatest = let (b, r) = upper-returns g in exactly-greatest (upper g) g (costFor GreatestDelay g) b r (upper-greatest g q b r);
   counts-agree = count-agreement g (q .total);
 }
 
 -- the figures' counts are those over the counted mark
 module _ (g : Graph) (q : TotalPlan g) (i : ℕ) (u : Returns (upper g) (finite i)) where
-  pub least-count : (k : ℕ) → Returns (mincount g (counted g)) (finite k) ↔ IsLeast g (countCost g) (number k)
+  pub least-count : (k : ℕ) → Returns (mincount g (counted g)) (finite k) ↔ IsLeast g (costFor LeastCount g) (number k)
   least-count = count-agreement g q .mincount-least i u (counted g)
 
-  pub greatest-count : (k : ℕ) → Returns (maxcount g (counted g)) (finite k) ↔ IsGreatest g (countCost g) (number k)
+  pub greatest-count : (k : ℕ) → Returns (maxcount g (counted g)) (finite k) ↔ IsGreatest g (costFor GreatestCount g) (number k)
   greatest-count = count-agreement g q .maxcount-greatest i u (counted g)

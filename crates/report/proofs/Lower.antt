@@ -16,9 +16,10 @@ use mathlib.Core.List.{List, [], _∷_}
 use native.Mathlib.Omega.{arith}
 use lib.ListN.{length}
 use borrow.Author.Tests.{not-false}
+use Rattle.graph.specs.declared.Which.the-variants.{LeastDelay}
 use Rattle.graph.specs.Graph.{Graph, states, final, to, Departs, Final, Unfinished}
 use Rattle.graph.specs.Route.{RouteFrom, Route, total, lows}
-use Rattle.graph.specs.Figure.{NONE, Smallest, IsLeast, leastDelayCost}
+use Rattle.graph.specs.Figure.{NONE, Smallest, IsLeast, costFor}
 use Rattle.graph.proofs.Tests.{decided, or-cases, or-left}
 use Rattle.graph.proofs.Walks.{start-below}
 use Rattle.graph.proofs.Cost.{total-length}
@@ -87,13 +88,13 @@ module _ (g : Graph) (q : ReportPlan g) where
 
   -- the end, with a final state in R
   module _ (v : Vars) (b : Reached g v) (meets : empty g (v .R ∩ final g) ≡ false) where
-    cost : (s : ℕ) (ts : List ℕ) → Route g s ts → total g (leastDelayCost g) s ts ≡ length ts
+    cost : (s : ℕ) (ts : List ℕ) → Route g s ts → total g (costFor LeastDelay g) s ts ≡ length ts
     cost s ts r = total-length g (lows g) (Unfinished g) (Final g) (q .lows-one) (λ s. refl) s ts (r .1)
 
     no-shorter : (s : ℕ) (ts : List ℕ) → Route g s ts → v .i ≤ length ts
     no-shorter s ts r = let (s′, ts′, l, m, w, h) = b .complete s ts r in omega arith
 
-    least : Smallest g (leastDelayCost g) (v .i)
+    least : Smallest g (costFor LeastDelay g) (v .i)
     least =
         let (s, l, m) = of-not-empty g (v .R ∩ final g) meets in
         let (m′, f) = and-eq-true-iff (v .R s) (final g s) .0 m in
@@ -111,12 +112,12 @@ module _ (g : Graph) (q : ReportPlan g) where
         let l′ : to g t < states g = q .total .closed t (w .1 .listed) in
         never-out (to g t) ts l′ (sym (of-same g (v .R′) (v .R) still (to g t) l′) ∙ stepped v b s t l m (w .1)) (w .2)
 
-    none : IsLeast g (leastDelayCost g) NONE
+    none : IsLeast g (costFor LeastDelay g) NONE
     none s ts r = let (s′, ts′, l, m, w, h) = b .complete s ts r in never-out s′ ts′ l m w
 
   -- what a value says of the least delay
   abbrev Says : Bound → Type 0
-  Says b = IsLeast g (leastDelayCost g) (leastFigure b)
+  Says b = IsLeast g (costFor LeastDelay g) (leastFigure b)
 
   end : (v : Vars) → Reached g v → lower g .stop v ≡ true → Says (lower g .answer v)
   end v b h = go (decided (empty g (v .R ∩ final g))) (ended (not (same g (v .R′) (v .R))) (empty g (v .R ∩ final g)) h)

@@ -9,9 +9,10 @@ use mathlib.Core.Path.{_≡_, refl}
 use mathlib.Core.Bool.{Bool, true, false, not, _&&_, and-eq-true-iff}
 use lib.Dec.{eqb}
 use borrow.Author.Tests.{eqb-true, not-true, not-false}
+use Rattle.graph.specs.declared.Which.the-variants.{LeastDelay, GreatestDelay, LeastCount, GreatestCount}
 use Rattle.graph.specs.Graph.{Graph, states, count, marksOf, start, final, transition, from, to, low, high, Departs}
 use Rattle.graph.specs.Graph.{Unfinished}
-use Rattle.graph.specs.Figure.{number, IsLeast, IsGreatest, leastDelayCost, greatestDelayCost, countCost}
+use Rattle.graph.specs.Figure.{number, IsLeast, IsGreatest, costFor}
 use Rattle.graph.specs.Compute.{any, closed, leaving, deadEnd}
 use Rattle.graph.specs.Known.{P1}
 use Rattle.graph.proofs.Tests.{any-of, none-of}
@@ -68,10 +69,10 @@ the-plan : ReportPlan on-from-answer
 unfolding report-plan marksOf start final from to low high transition
 the-plan = of-report-plan on-from-answer refl
 
-pub least-by-run : IsLeast on-from-answer (leastDelayCost on-from-answer) (number 1)
+pub least-by-run : IsLeast on-from-answer (costFor LeastDelay on-from-answer) (number 1)
 least-by-run = agreement on-from-answer the-plan .lower-least (finite 1) .0 (final-passed .shortest)
 
-pub greatest-by-run : IsGreatest on-from-answer (greatestDelayCost on-from-answer) (number 2)
+pub greatest-by-run : IsGreatest on-from-answer (costFor GreatestDelay on-from-answer) (number 2)
 greatest-by-run = agreement on-from-answer the-plan .upper-greatest (finite 2) .0 (final-passed .longest)
 
 -- P1's durations are others: its runs give its counts
@@ -79,8 +80,8 @@ P1-plan : TotalPlan (P1 .plan)
 unfolding total-plan marksOf start final from to transition
 P1-plan = of-total-plan (P1 .plan) refl
 
-pub P1-least-count : IsLeast (P1 .plan) (countCost (P1 .plan)) (number 1)
+pub P1-least-count : IsLeast (P1 .plan) (costFor LeastCount (P1 .plan)) (number 1)
 P1-least-count = least-count (P1 .plan) P1-plan 3 (P1-bounds .longest) 1 .0 (P1-counts .fewest)
 
-pub P1-greatest-count : IsGreatest (P1 .plan) (countCost (P1 .plan)) (number 2)
+pub P1-greatest-count : IsGreatest (P1 .plan) (costFor GreatestCount (P1 .plan)) (number 2)
 P1-greatest-count = greatest-count (P1 .plan) P1-plan 3 (P1-bounds .longest) 2 .0 (P1-counts .most)

@@ -21,10 +21,11 @@ use native.Mathlib.Decide.{decLe}
 use native.Mathlib.Omega.{arith}
 use lib.ListN.{length}
 use borrow.Author.Tests.{not-true, not-false}
+use Rattle.graph.specs.declared.Which.the-variants.{GreatestDelay}
 use Rattle.graph.specs.Graph.{Graph, states, start, final, to, Departs, Final, Unfinished}
 use Rattle.graph.specs.Walk.{Begins, reached, EndlessFrom}
 use Rattle.graph.specs.Route.{RouteFrom, Route, StrandedFrom, Cost, total, highs, GoesOnForever}
-use Rattle.graph.specs.Figure.{number, NoStart, Largest, IsGreatest, greatestDelayCost}
+use Rattle.graph.specs.Figure.{number, NoStart, Largest, IsGreatest, costFor}
 use Rattle.graph.proofs.Tests.{decided}
 use Rattle.graph.proofs.Walks.{start-below}
 use Rattle.graph.proofs.Cost.{total-length}
@@ -193,7 +194,7 @@ module _ (g : Graph) (q : TotalPlan g) where
   )
 
 module _ (g : Graph) (q : ReportPlan g) where
-  cost : (s : ℕ) (ts : List ℕ) → Route g s ts → total g (greatestDelayCost g) s ts ≡ length ts
+  cost : (s : ℕ) (ts : List ℕ) → Route g s ts → total g (costFor GreatestDelay g) s ts ≡ length ts
   cost s ts r = total-length g (highs g) (Unfinished g) (Final g) (q .highs-one) (λ s. refl) s ts (r .1)
 
   no-longer : (i : ℕ) → Longest g i → (s : ℕ) (ts : List ℕ) → Route g s ts → length ts ≤ i
@@ -203,14 +204,14 @@ module _ (g : Graph) (q : ReportPlan g) where
       go (yes h) = absurd (x .ends s (r .0) (route-through g (suc i) s ts (r .1) h))
       go (no h) = omega arith
 
-  greatest : (b : Bound) → Says g b → IsGreatest g (greatestDelayCost g) (greatestFigure b)
+  greatest : (b : Bound) → Says g b → IsGreatest g (costFor GreatestDelay g) (greatestFigure b)
   greatest ∞ e = (started g (q .total), e)
   greatest (finite i) x =
       let (s, ts, r, h) = x .attained in
-      largest-greatest g (q .total) i x (greatestDelayCost g) i (record {
+      largest-greatest g (q .total) i x (costFor GreatestDelay g) i (record {
         attained = (s, ts, r, cost s ts r ∙ h);
         bound = λ s ts r. omega (arith, cost s ts r, no-longer i x s ts r);
       })
 
-  pub upper-greatest : (b : Bound) → Returns (upper g) b → IsGreatest g (greatestDelayCost g) (greatestFigure b)
+  pub upper-greatest : (b : Bound) → Returns (upper g) b → IsGreatest g (costFor GreatestDelay g) (greatestFigure b)
   upper-greatest b r = greatest b (upper-says g (q .total) b r)

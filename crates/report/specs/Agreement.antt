@@ -3,10 +3,11 @@
 use Prim.Native.Nat.{ℕ, _<_}
 use mathlib.Core.Path.{_≡_}
 use mathlib.Core.Logic.{_↔_}
+use Rattle.graph.specs.declared.Which.the-variants.{LeastDelay, GreatestDelay}
 use Rattle.graph.specs.Graph.{Graph, states, count, low, high, Departs, Unfinished, Closed}
 use Rattle.graph.specs.Walk.{Begins}
 use Rattle.graph.specs.Route.{counts}
-use Rattle.graph.specs.Figure.{Figure, number, NONE, ENDLESS, IsLeast, IsGreatest, leastDelayCost, greatestDelayCost}
+use Rattle.graph.specs.Figure.{Figure, number, NONE, ENDLESS, IsLeast, IsGreatest, costFor}
 use Rattle.report.specs.Procedure.{Returns}
 use Rattle.report.specs.Sets.{States}
 use Rattle.report.specs.Bounds.{Bound, finite, ∞, lower, upper}
@@ -58,7 +59,7 @@ pub record Agreement (g : Graph) : Type 0 where
   pub lower-returns : (b : Bound) × Returns (lower g) b
   pub upper-returns : (b : Bound) × Returns (upper g) b
   -- infinity from lower is NONE, infinity from upper is ENDLESS, and otherwise they return the least and the greatest delay
-  pub lower-least : (b : Bound) → Returns (lower g) b ↔ IsLeast g (leastDelayCost g) (leastFigure b)
-  pub upper-greatest : (b : Bound) → Returns (upper g) b ↔ IsGreatest g (greatestDelayCost g) (greatestFigure b)
+  pub lower-least : (b : Bound) → Returns (lower g) b ↔ IsLeast g (costFor LeastDelay g) (leastFigure b)
+  pub upper-greatest : (b : Bound) → Returns (upper g) b ↔ IsGreatest g (costFor GreatestDelay g) (greatestFigure b)
   -- and the counts
   pub counts-agree : CountAgreement g

@@ -1,10 +1,14 @@
+-- Facts on small calls, straight from the definitions.
 pub mod Basic
+-- Results, tables of rows and lists by number.
 pub mod Results
-pub mod Order
+pub mod Tables
+pub mod Tabulated
+-- The image, both ways.
 pub mod Fields
 pub mod ReadWrite
-pub mod Kept
-pub mod Grounds
-pub mod Figures
 pub mod Vectors
+-- What every call keeps, the figures of a plan within the limits, and the record.
+pub mod Kept
+pub mod Figures
 pub mod Record

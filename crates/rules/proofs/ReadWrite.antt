@@ -5,8 +5,9 @@
 -- Assumes nothing.
 use mathlib.Core.Bool.{Bool, true, not, _&&_}
 use mathlib.Core.List.{List, [], _∷_, _++_, append-assoc, append-nil}
-use mathlib.Core.Path.{_≡_, refl, sym, ap, ap₂, _∙_}
-use Prim.Native.Nat.{ℕ, _+_, _-_, _*_, _/_, _%_, _^_, _≤_, _<_}
+use mathlib.Core.Logic.{_⊎_, inl, inr}
+use mathlib.Core.Path.{_≡_, refl, sym, ap, ap₂, _∙_, subst}
+use Prim.Native.Nat.{ℕ, _+_, _*_, _/_, _%_, _^_, _≤_, _<_}
 use native.Mathlib.Nat.{zero-add, le-antisymm, mod-lt, mod-eq-of-lt, div-add-mod', div-div-eq-div-mul}
 use native.Mathlib.Omega.{arith}
 use lib.Dec.{leb, ltb, eqb}
@@ -18,12 +19,17 @@ use Rattle.field.specs.Field.{Field, AllFit, Octets, fieldAt, bits, bitsOfAll, 
 use Rattle.field.proofs.Bits.{length-bits}
 use Rattle.field.proofs.Laws.{field-lt}
 use Rattle.field.proofs.Pack.{unpack-of-bits, bits-of-unpack, bitsOfAll-append, widthOfAll-append, length-bitsOfAll, length-pack, bits-pack, pack-octets, pack-of-bits, putAll-append, putAll-pack}
-use Rattle.rules.specs.declared.Refusal.the-variants.{ImageShort, ImageLong, Version, StateCount, TransitionCount, SpareBits, StateNumber, Duration}
-use Rattle.rules.specs.Refusal.{Result, accepted, _>>=_, _>>_, refuseIf}
+use Rattle.rules.specs.declared.Refusal.{Refusal}
+use Rattle.rules.specs.Refusal.{Result, accepted, refused}
+use Rattle.rules.specs.Table.{Row, byNumber, Holds, NoneHolds}
 use Rattle.rules.specs.Limits.{all, within, stateCountOk, transitionCountOk, stateOk, endsOk, durationsOk, transitionOk}
-use Rattle.rules.specs.Image.{field, headerFields, stateFields, transitionFields, fieldsOfEach, imageFields, image, imageLength, versionOf, stateCountOf, transitionCountOf, padOf, stateAt, transitionAt, checked, headerRule, statesIn, transitionsIn, readImage}
-use Rattle.rules.proofs.Results.{and-true, both-true, bind-accepted, then-accepted, ground-false, holds}
-use Rattle.rules.proofs.Fields.{width-each, collect-of-bits, bits-of-collect}
+use Rattle.rules.specs.Image.{field, headerFields, stateFields, transitionFields, fieldsOfEach, imageFields, image, imageLength}
+use Rattle.rules.specs.Image.{versionOf, stateCountOf, transitionCountOf, padOf, stateAt, spareAt, statePlace, transitionAt, transitionPlace}
+use Rattle.rules.specs.Image.{tabulate, graphIn, headerRows, stateRows, transitionRows, imageRows, readImage}
+use Rattle.rules.proofs.Results.{not-false, and-true, both-true, all-getD}
+use Rattle.rules.proofs.Tables.{only-grounds, accepted-where, accepted-only, none-append, append-none, each-none, none-each}
+use Rattle.rules.proofs.Tabulated.{length-tabulate, tabulate-of, all-tabulate}
+use Rattle.rules.proofs.Fields.{width-each, bits-at, bits-of-items}
 
 -- ---- the length
 
@@ -114,7 +120,8 @@ marks-bits v h =
     let m : v / 4 % 2 ≡ v / 4 = mod-eq-of-lt l in
     omega (arith, div-add-mod' v 2, div-add-mod' (v / 2) 2)
 
-state-of-bits : (os : List ℕ) (at : ℕ) (x : State) (rest : List Bool) → stateOk x ≡ true → drop at (bits os) ≡ bitsOfAll (stateFields x) ++ rest → stateAt os at ≡ accepted x
+state-of-bits : (os : List ℕ) (at : ℕ) (x : State) (rest : List Bool) → stateOk x ≡ true → drop at (bits os) ≡ bitsOfAll (stateFields x) ++ rest
+    → (stateAt os at ≡ x) × (spareAt os at ≡ 0)
 unfolding AllFit valueAt
 state-of-bits os at x rest h e =
     let v = x .marks in
@@ -124,28 +131,29 @@ state-of-bits os at x rest h e =
     let c : fieldAt os (at + 2) 1 ≡ v % 2 = ap (valueAt 2) u in
     let d : fieldAt os (at + 3) 5 ≡ 0 = ap (valueAt 3) u in
     let s : 4 * (v / 4 % 2) + 2 * (v / 2 % 2) + v % 2 ≡ v = marks-bits v (leb-true v 7 h) in
-    rw (d, a, b, c, s) refl
+    (rw (a, b, c, s) refl, d)
 
-bits-of-state : (os : List ℕ) (at : ℕ) (x : State) → at + 8 ≤ length (bits os) → stateAt os at ≡ accepted x
-    → (take 8 (drop at (bits os)) ≡ bitsOfAll (stateFields x)) × (stateOk x ≡ true)
+bits-of-state : (os : List ℕ) (at : ℕ) → at + 8 ≤ length (bits os) → spareAt os at ≡ 0
+    → (take 8 (drop at (bits os)) ≡ bitsOfAll (stateFields (stateAt os at))) × (stateOk (stateAt os at) ≡ true)
 unfolding widthOfAll
-bits-of-state os at x h e =
-    let v = x .marks in
-    let r = then-accepted (refuseIf (not (eqb (fieldAt os (at + 3) 5) 0)) SpareBits) (accepted (marked (4 * fieldAt os at 1 + 2 * fieldAt os (at + 1) 1 + fieldAt os (at + 2) 1))) x e in
-    let d : fieldAt os (at + 3) 5 ≡ 0 = eqb-true (fieldAt os (at + 3) 5) 0 (holds (eqb (fieldAt os (at + 3) 5) 0) SpareBits (r .0)) in
-    let s : 4 * fieldAt os at 1 + 2 * fieldAt os (at + 1) 1 + fieldAt os (at + 2) 1 ≡ v = cc in
+bits-of-state os at h d =
+    let v : ℕ = 4 * fieldAt os at 1 + 2 * fieldAt os (at + 1) 1 + fieldAt os (at + 2) 1 in
     let ha : fieldAt os at 1 < 2 = field-lt os at 1 in
     let hb : fieldAt os (at + 1) 1 < 2 = field-lt os (at + 1) 1 in
     let hc : fieldAt os (at + 2) 1 < 2 = field-lt os (at + 2) 1 in
     let a : fieldAt os at 1 ≡ v / 4 % 2 = omega arith in
     let b : fieldAt os (at + 1) 1 ≡ v / 2 % 2 = omega arith in
     let c : fieldAt os (at + 2) 1 ≡ v % 2 = omega arith in
-    let u : unpack os at (1 ∷ 1 ∷ 1 ∷ 5 ∷ []) ≡ stateFields x = four os at 1 1 1 5 ∙ rw (d, a, b, c) refl in
+    let u : unpack os at (1 ∷ 1 ∷ 1 ∷ 5 ∷ []) ≡ stateFields (stateAt os at) = four os at 1 1 1 5 ∙ four-fields a b c d in
     let w : widthOfAll (unpack os at (1 ∷ 1 ∷ 1 ∷ 5 ∷ [])) ≡ 8 = ap widthOfAll u in (
       ap (λ (k : ℕ). take k (drop at (bits os))) (sym w)
           ∙ sym (bits-of-unpack os (1 ∷ 1 ∷ 1 ∷ 5 ∷ []) at (rw w (omega (arith, length-bits os)))) ∙ ap bitsOfAll u,
       le-leb v 7 (omega arith),
     )
+  where
+    four-fields : {a b c d a′ b′ c′ d′ : ℕ} → a ≡ a′ → b ≡ b′ → c ≡ c′ → d ≡ d′
+        → _≡_ {A = List Field} (field 1 a ∷ field 1 b ∷ field 1 c ∷ field 5 d ∷ []) (field 1 a′ ∷ field 1 b′ ∷ field 1 c′ ∷ field 5 d′ ∷ [])
+    four-fields p q r s = λ i. field 1 (p i) ∷ field 1 (q i) ∷ field 1 (r i) ∷ field 5 (s i) ∷ []
 
 -- ---- one transition
 
@@ -168,16 +176,14 @@ bounded n t h =
       high = leb-true (t .high) 2047 (d .1);
     }
 
-pub checked-ok : (n : ℕ) (t : Transition) → transitionOk n t ≡ true → checked n t ≡ accepted t
-checked-ok n t h =
+-- and so do its rows
+pub ok-rows : (n : ℕ) (t : Transition) → transitionOk n t ≡ true → NoneHolds (transitionRows n t)
+ok-rows n t h =
     let p = and-true (endsOk n t) (durationsOk t) h in
-    rw (p .0, p .1) refl
+    (ap not (p .0), (ap not (p .1), tt))
 
-pub ok-checked : (n : ℕ) (t u : Transition) → checked n t ≡ accepted u → (t ≡ u) × (transitionOk n t ≡ true)
-ok-checked n t u e =
-    let r = then-accepted (refuseIf (not (endsOk n t)) StateNumber) (refuseIf (not (durationsOk t)) Duration >> accepted t) u e in
-    let s = then-accepted (refuseIf (not (durationsOk t)) Duration) (accepted t) u (r .1) in
-    (cc, both-true (endsOk n t) (durationsOk t) (holds (endsOk n t) StateNumber (r .0)) (holds (durationsOk t) Duration (s .0)))
+pub rows-ok : (n : ℕ) (t : Transition) → NoneHolds (transitionRows n t) → transitionOk n t ≡ true
+rows-ok n t h = both-true (endsOk n t) (durationsOk t) (not-false (endsOk n t) (h .0)) (not-false (durationsOk t) (h .1 .0))
 
 -- its fields fit their widths
 pub transition-fits : (n : ℕ) (t : Transition) → n ≤ 512 → transitionOk n t ≡ true → AllFit (transitionFields t)
@@ -191,7 +197,7 @@ transition-fits n t hn h =
     (hf, (ht, (hl, (hh, tt))))
 
 transition-of-bits : (os : List ℕ) (at n : ℕ) (t : Transition) (rest : List Bool) → n ≤ 512 → transitionOk n t ≡ true
-    → drop at (bits os) ≡ bitsOfAll (transitionFields t) ++ rest → checked n (transitionAt os at) ≡ accepted t
+    → drop at (bits os) ≡ bitsOfAll (transitionFields t) ++ rest → transitionAt os at ≡ t
 unfolding valueAt
 transition-of-bits os at n t rest hn h e =
     let u = sym (four os at 9 9 11 11) ∙ unpack-of-bits os (transitionFields t) at rest (transition-fits n t hn h) e in
@@ -199,21 +205,15 @@ transition-of-bits os at n t rest hn h e =
     let b : fieldAt os (at + 9) 9 ≡ t .to = ap (valueAt 1) u in
     let c : fieldAt os (at + 18) 11 ≡ t .low = ap (valueAt 2) u in
     let d : fieldAt os (at + 29) 11 ≡ t .high = ap (valueAt 3) u in
-    let s : transitionAt os at ≡ t = λ i. record { from = a i; to = b i; low = c i; high = d i } in
-    ap (λ (x : Transition). checked n x) s ∙ checked-ok n t h
+    λ i. record { from = a i; to = b i; low = c i; high = d i }
 
-bits-of-transition : (os : List ℕ) (at n : ℕ) (t : Transition) → at + 40 ≤ length (bits os) → checked n (transitionAt os at) ≡ accepted t
-    → (take 40 (drop at (bits os)) ≡ bitsOfAll (transitionFields t)) × (transitionOk n t ≡ true)
+bits-of-transition : (os : List ℕ) (at : ℕ) → at + 40 ≤ length (bits os) → take 40 (drop at (bits os)) ≡ bitsOfAll (transitionFields (transitionAt os at))
 unfolding widthOfAll
-bits-of-transition os at n t h e =
-    let k = ok-checked n (transitionAt os at) t e in
-    let s : transitionAt os at ≡ t = k .0 in
-    let u : unpack os at (9 ∷ 9 ∷ 11 ∷ 11 ∷ []) ≡ transitionFields t = four os at 9 9 11 11 ∙ ap transitionFields s in
-    let w : widthOfAll (unpack os at (9 ∷ 9 ∷ 11 ∷ 11 ∷ [])) ≡ 40 = ap widthOfAll u in (
-      ap (λ (m : ℕ). take m (drop at (bits os))) (sym w)
-          ∙ sym (bits-of-unpack os (9 ∷ 9 ∷ 11 ∷ 11 ∷ []) at (rw w (omega (arith, length-bits os)))) ∙ ap bitsOfAll u,
-      ap (λ (x : Transition). transitionOk n x) (sym s) ∙ k .1,
-    )
+bits-of-transition os at h =
+    let u : unpack os at (9 ∷ 9 ∷ 11 ∷ 11 ∷ []) ≡ transitionFields (transitionAt os at) = four os at 9 9 11 11 in
+    let w : widthOfAll (unpack os at (9 ∷ 9 ∷ 11 ∷ 11 ∷ [])) ≡ 40 = ap widthOfAll u in
+    ap (λ (m : ℕ). take m (drop at (bits os))) (sym w)
+    ∙ sym (bits-of-unpack os (9 ∷ 9 ∷ 11 ∷ 11 ∷ []) at (rw w (omega (arith, length-bits os)))) ∙ ap bitsOfAll u
 
 -- ---- the whole image
 
@@ -291,9 +291,9 @@ module _ (g : Graph) (l : Limited g) where
       let u = sym (four os 0 4 10 12 6) ∙ unpack-of-bits os (headerFields (states g) (count g)) 0 (S ++ T) (omega arith, (hn, (hm, (omega arith, tt)))) image-bits in
       (ap (valueAt 0) u, ap (valueAt 1) u, ap (valueAt 2) u, ap (valueAt 3) u)
 
-  header-accepted : headerRule os ≡ accepted tt
-  unfolding headerRule os n m
-  header-accepted =
+  header-clear : NoneHolds (headerRows os)
+  unfolding headerRows os n m
+  header-clear =
       let k : length (image g) ≡ imageLength (states g) (count g) = length-image g in
       rw (
         header .0,
@@ -306,27 +306,50 @@ module _ (g : Graph) (l : Limited g) where
         le-leb (count g) 2048 (l .transitions),
         le-ltb (4 + states g + 5 * count g) 4 (omega arith),
         le-ltb (4 + states g + 5 * count g) (4 + states g + 5 * count g) (omega arith),
-      ) refl
+      ) (refl, (refl, (refl, (refl, (refl, (refl, (refl, tt)))))))
 
-  states-accepted : statesIn os n ≡ accepted (g .stateList)
-  unfolding statesIn S n
-  states-accepted =
-      collect-of-bits stateFields 8 state-width (bits os) (stateAt os) stateOk 32
-      (λ p v rest h e. state-of-bits os p v rest h e)
-      (g .stateList) 0 T (l .each-state) at-states
+  -- each state and each transition at its place
+  state-there : (k : ℕ) → k < states g → (stateAt os (statePlace k) ≡ getD (g .stateList) k (marked 0)) × (spareAt os (statePlace k) ≡ 0)
+  unfolding S
+  state-there k h =
+      let (rest, e) = bits-at stateFields 8 state-width (bits os) (marked 0) (g .stateList) 32 T at-states k h in
+      state-of-bits os (statePlace k) (getD (g .stateList) k (marked 0)) rest (all-getD stateOk (g .stateList) k (marked 0) (l .each-state) h) e
 
-  transitions-accepted : transitionsIn os n m ≡ accepted (g .transitions)
-  unfolding transitionsIn T n m
-  transitions-accepted =
-      let p : 32 + 8 * states g + 40 * 0 ≡ 32 + 8 * states g = omega arith in
-      collect-of-bits transitionFields 40 transition-width (bits os) (λ (p : ℕ). checked (states g) (transitionAt os p)) (transitionOk (states g)) (32 + 8 * states g)
-      (λ p t rest h e. transition-of-bits os p (states g) t rest (l .most) h e)
-      (g .transitions) 0 [] (l .each-transition)
-      (ap (λ (k : ℕ). drop k (bits os)) p ∙ at-transitions ∙ sym (append-nil (bitsOfAll (fieldsOfEach transitionFields (g .transitions)))))
+  nothing : Transition
+  nothing = record { from = 0; to = 0; low = 0; high = 0 }
+
+  transition-there : (k : ℕ) → k < count g → transitionAt os (transitionPlace (states g) k) ≡ getD (g .transitions) k nothing
+  unfolding T n
+  transition-there k h =
+      let e : drop (32 + 8 * states g) (bits os) ≡ bitsOfAll (fieldsOfEach transitionFields (g .transitions)) ++ [] =
+      at-transitions ∙ sym (append-nil (bitsOfAll (fieldsOfEach transitionFields (g .transitions)))) in
+      let (rest, e′) = bits-at transitionFields 40 transition-width (bits os) nothing (g .transitions) (32 + 8 * states g) [] e k h in
+      transition-of-bits os (transitionPlace (states g) k) (states g) (getD (g .transitions) k nothing) rest (l .most)
+      (all-getD (transitionOk (states g)) (g .transitions) k nothing (l .each-transition) h) e′
+
+  graph-there : graphIn os ≡ g
+  unfolding graphIn n m
+  graph-there =
+      let s : tabulate (states g) (λ i. stateAt os (statePlace i)) ≡ g .stateList =
+      tabulate-of (marked 0) (g .stateList) (states g) (λ i. stateAt os (statePlace i)) refl (λ i h. sym (state-there i h .0)) in
+      let t : tabulate (count g) (λ i. transitionAt os (transitionPlace (states g) i)) ≡ g .transitions =
+      tabulate-of nothing (g .transitions) (count g) (λ i. transitionAt os (transitionPlace (states g) i)) refl (λ i h. sym (transition-there i h)) in
+      rw (header .1, header .2) (λ i. record { stateList = s i; transitions = t i })
+
+  rows-clear : NoneHolds (imageRows os)
+  unfolding imageRows n m
+  rows-clear =
+      append-none (headerRows os) _ header-clear
+      (rw (header .1, header .2)
+      (append-none (byNumber (stateRows os) 0 (states g)) _
+      (none-each (stateRows os) (states g) (λ k h. (rw (state-there k h .1) refl, tt)))
+      (none-each (λ i. transitionRows (states g) (transitionAt os (transitionPlace (states g) i))) (count g)
+      (λ k h. ok-rows (states g) (transitionAt os (transitionPlace (states g) k))
+      (ap (transitionOk (states g)) (transition-there k h) ∙ all-getD (transitionOk (states g)) (g .transitions) k nothing (l .each-transition) h)))))
 
   read-os : readImage os ≡ accepted g
   unfolding readImage
-  read-os = rw (header-accepted, header .1, header .2, states-accepted, transitions-accepted) refl
+  read-os = accepted-where (imageRows os) (graphIn os) rows-clear ∙ ap accepted graph-there
 
 -- every plan written reads back as that plan
 pub read-image : (g : Graph) → within g ≡ true → readImage (image g) ≡ accepted g
@@ -344,128 +367,140 @@ pub record Header (os : List ℕ) : Type 0 where
   pub pad : padOf os ≡ 0
   pub long : length os ≡ imageLength (stateCountOf os) (transitionCountOf os)
 
-pub accepted-header : (os : List ℕ) → headerRule os ≡ accepted tt → Header os
-unfolding headerRule
-accepted-header os e =
+pub clear-header : (os : List ℕ) → NoneHolds (headerRows os) → Header os
+unfolding headerRows
+clear-header os (short, (version, (n-ok, (m-ok, (pad, (few, (many, u))))))) =
     let n : ℕ = stateCountOf os in
     let m : ℕ = transitionCountOf os in
     let k : ℕ = imageLength n m in
-    let r7 : Result (Unit {0}) = refuseIf (ltb k (length os)) ImageLong in
-    let r6 : Result (Unit {0}) = refuseIf (ltb (length os) k) ImageShort in
-    let r5 : Result (Unit {0}) = refuseIf (not (eqb (padOf os) 0)) SpareBits in
-    let r4 : Result (Unit {0}) = refuseIf (not (transitionCountOk m)) TransitionCount in
-    let r3 : Result (Unit {0}) = refuseIf (not (stateCountOk n)) StateCount in
-    let r2 : Result (Unit {0}) = refuseIf (not (eqb (versionOf os) 1)) Version in
-    let a1 = then-accepted (refuseIf (ltb (length os) 4) ImageShort) (r2 >> (r3 >> (r4 >> (r5 >> (r6 >> r7))))) tt e in
-    let a2 = then-accepted r2 (r3 >> (r4 >> (r5 >> (r6 >> r7)))) tt (a1 .1) in
-    let a3 = then-accepted r3 (r4 >> (r5 >> (r6 >> r7))) tt (a2 .1) in
-    let a4 = then-accepted r4 (r5 >> (r6 >> r7)) tt (a3 .1) in
-    let a5 = then-accepted r5 (r6 >> r7) tt (a4 .1) in
-    let a6 = then-accepted r6 r7 tt (a5 .1) in
-    let s = and-true (leb 1 n) (leb n 512) (holds (stateCountOk n) StateCount (a3 .0)) in
-    let low : k ≤ length os = ltb-false (length os) k (ground-false (ltb (length os) k) ImageShort (a6 .0)) in
-    let high : length os ≤ k = ltb-false k (length os) (ground-false (ltb k (length os)) ImageLong (a6 .1)) in
+    let s = and-true (leb 1 n) (leb n 512) (not-false (stateCountOk n) n-ok) in
+    let low : k ≤ length os = ltb-false (length os) k few in
+    let high : length os ≤ k = ltb-false k (length os) many in
     record {
-      version = eqb-true (versionOf os) 1 (holds (eqb (versionOf os) 1) Version (a2 .0));
+      version = eqb-true (versionOf os) 1 (not-false (eqb (versionOf os) 1) version);
       least = leb-true 1 n (s .0);
       most = leb-true n 512 (s .1);
-      transitions = leb-true m 2048 (holds (transitionCountOk m) TransitionCount (a4 .0));
-      pad = eqb-true (padOf os) 0 (holds (eqb (padOf os) 0) SpareBits (a5 .0));
+      transitions = leb-true m 2048 (not-false (transitionCountOk m) m-ok);
+      pad = eqb-true (padOf os) 0 (not-false (eqb (padOf os) 0) pad);
       long = le-antisymm high low;
     }
 
--- what accepted octets are: the plan is within the limits, and the octets' bits are its fields'
-module _ (os : List ℕ) (g : Graph) (e : readImage os ≡ accepted g) where
-  record Read : Type 0 where
-    head : Header os
-    states-read : statesIn os (stateCountOf os) ≡ accepted (g .stateList)
-    transitions : transitionsIn os (stateCountOf os) (transitionCountOf os) ≡ accepted (g .transitions)
-
-  parts : Read
-  unfolding readImage
+-- what accepted octets are: the header is as it should be, no spare bit is set, and each transition is within the limits
+module _ (os : List ℕ) (clear : NoneHolds (imageRows os)) where
+  parts : NoneHolds (headerRows os) × NoneHolds (byNumber (stateRows os) 0 (stateCountOf os))
+      × NoneHolds (byNumber (λ i. transitionRows (stateCountOf os) (transitionAt os (transitionPlace (stateCountOf os) i))) 0 (transitionCountOf os))
+  unfolding imageRows
   parts =
-      let n : ℕ = stateCountOf os in
-      let m : ℕ = transitionCountOf os in
-      let last : List State → List Transition → Result Graph = λ ss ts. accepted (record { stateList = ss; transitions = ts }) in
-      let h = then-accepted (headerRule os) (statesIn os n >>= λ ss. transitionsIn os n m >>= λ ts. last ss ts) g e in
-      let s = bind-accepted (statesIn os n) (λ ss. transitionsIn os n m >>= λ ts. last ss ts) g (h .1) in
-      let t = bind-accepted (transitionsIn os n m) (λ ts. last (s .0) ts) g (s .2) in
-      let f : _≡_ {A = Result Graph} (accepted (record { stateList = s .0; transitions = t .0 })) (accepted g) = t .2 in
-      let same : record { stateList = s .0; transitions = t .0 } ≡ g = cc in
-      record {
-        head = accepted-header os (h .0);
-        states-read = s .1 ∙ ap {B = Result (List State)} (λ (x : Graph). accepted (x .stateList)) same;
-        transitions = t .1 ∙ ap {B = Result (List Transition)} (λ (x : Graph). accepted (x .transitions)) same;
-      }
+      let (h, r) = none-append (headerRows os) _ clear in
+      let (s, t) = none-append (byNumber (stateRows os) 0 (stateCountOf os)) _ r in
+      (h, s, t)
+
+  pub read-header : Header os
+  read-header = clear-header os (parts .0)
+
+  spare-free : (k : ℕ) → k < stateCountOf os → spareAt os (statePlace k) ≡ 0
+  spare-free k h =
+      let c = each-none (stateRows os) (stateCountOf os) 0 (parts .1) k h in
+      let z : 0 + k ≡ k = zero-add k in
+      let c′ = subst (λ (i : ℕ). NoneHolds (stateRows os i)) z c in
+      eqb-true (spareAt os (statePlace k)) 0 (not-false _ (c′ .0))
+
+  transition-ok : (k : ℕ) → k < transitionCountOf os → transitionOk (stateCountOf os) (transitionAt os (transitionPlace (stateCountOf os) k)) ≡ true
+  transition-ok k h =
+      let rows : ℕ → List Row = λ i. transitionRows (stateCountOf os) (transitionAt os (transitionPlace (stateCountOf os) i)) in
+      let c = each-none rows (transitionCountOf os) 0 (parts .2) k h in
+      rows-ok (stateCountOf os) (transitionAt os (transitionPlace (stateCountOf os) k)) (subst (λ (i : ℕ). NoneHolds (rows i)) (zero-add k) c)
 
 -- every image read writes back as those octets, and holds a plan within the limits
-module _ (os : List ℕ) (g : Graph) (e : readImage os ≡ accepted g) where
-  read-states : (take (8 * stateCountOf os) (drop 32 (bits os)) ≡ bitsOfAll (fieldsOfEach stateFields (g .stateList))) × (length (g .stateList) ≡ stateCountOf os) × (all stateOk (g .stateList) ≡ true)
-  unfolding statesIn
-  read-states =
-      let p = parts os g e in
-      let h = p .head in
-      bits-of-collect stateFields 8 state-width (bits os) (stateAt os) stateOk 32
-      (λ at v room f. bits-of-state os at v room f)
-      (stateCountOf os) 0 (g .stateList) (omega (arith, length-bits os, h .long)) (p .states-read)
+module _ (os : List ℕ) (clear : NoneHolds (imageRows os)) where
+  N : ℕ
+  N = stateCountOf os
 
-  read-transitions : (take (40 * transitionCountOf os) (drop (32 + 8 * stateCountOf os) (bits os)) ≡ bitsOfAll (fieldsOfEach transitionFields (g .transitions)))
-      × (length (g .transitions) ≡ transitionCountOf os) × (all (transitionOk (stateCountOf os)) (g .transitions) ≡ true)
-  unfolding transitionsIn
-  read-transitions =
-      let p = parts os g e in
-      let h = p .head in
-      let n : ℕ = stateCountOf os in
-      let z : 32 + 8 * n + 40 * 0 ≡ 32 + 8 * n = omega arith in
-      let r = bits-of-collect transitionFields 40 transition-width (bits os) (λ (at : ℕ). checked n (transitionAt os at)) (transitionOk n) (32 + 8 * n)
-      (λ at t room f. bits-of-transition os at n t room f)
-      (transitionCountOf os) 0 (g .transitions) (omega (arith, length-bits os, h .long)) (p .transitions) in
-      (ap (λ (k : ℕ). take (40 * transitionCountOf os) (drop k (bits os))) (sym z) ∙ r .0, r .1, r .2)
+  M : ℕ
+  M = transitionCountOf os
 
-  read-header : take 32 (bits os) ≡ bitsOfAll (headerFields (stateCountOf os) (transitionCountOf os))
-  unfolding widthOfAll
-  read-header =
-      let h = parts os g e .head in
+  ss : List State
+  ss = tabulate N (λ i. stateAt os (statePlace i))
+
+  ts : List Transition
+  ts = tabulate M (λ i. transitionAt os (transitionPlace N i))
+
+  states-bits : take (8 * N) (drop 32 (bits os)) ≡ bitsOfAll (fieldsOfEach stateFields ss)
+  unfolding N ss
+  states-bits =
+      let h = read-header os clear in
+      bits-of-items stateFields 8 state-width (bits os) (λ i. stateAt os (statePlace i)) 32 (stateCountOf os)
+      (λ k l. bits-of-state os (statePlace k) (omega (arith, length-bits os, h .long)) (spare-free os clear k l) .0)
+
+  transitions-bits : take (40 * M) (drop (32 + 8 * N) (bits os)) ≡ bitsOfAll (fieldsOfEach transitionFields ts)
+  unfolding N M ts
+  transitions-bits =
+      let h = read-header os clear in
+      bits-of-items transitionFields 40 transition-width (bits os) (λ i. transitionAt os (transitionPlace (stateCountOf os) i)) (32 + 8 * stateCountOf os) (transitionCountOf os)
+      (λ k l. bits-of-transition os (transitionPlace (stateCountOf os) k) (omega (arith, length-bits os, h .long)))
+
+  header-bits : take 32 (bits os) ≡ bitsOfAll (headerFields N M)
+  unfolding widthOfAll N M
+  header-bits =
+      let h = read-header os clear in
       let u : unpack os 0 (4 ∷ 10 ∷ 12 ∷ 6 ∷ []) ≡ headerFields (stateCountOf os) (transitionCountOf os) = four os 0 4 10 12 6 ∙ rw (h .version, h .pad) refl in
       let w : widthOfAll (unpack os 0 (4 ∷ 10 ∷ 12 ∷ 6 ∷ [])) ≡ 32 = ap widthOfAll u in
       ap (λ (k : ℕ). take k (bits os)) (sym w) ∙ sym (bits-of-unpack os (4 ∷ 10 ∷ 12 ∷ 6 ∷ []) 0 (rw w (omega (arith, h .long)))) ∙ ap bitsOfAll u
 
-  read-bits : bits os ≡ bitsOfAll (imageFields g)
-  unfolding imageFields
+  n-states : length ss ≡ N
+  unfolding ss
+  n-states = length-tabulate N (λ i. stateAt os (statePlace i))
+
+  m-transitions : length ts ≡ M
+  unfolding ts
+  m-transitions = length-tabulate M (λ i. transitionAt os (transitionPlace N i))
+
+  read-bits : bits os ≡ bitsOfAll (imageFields (graphIn os))
+  unfolding imageFields graphIn N M ss ts
   read-bits =
-      let n : ℕ = stateCountOf os in
-      let m : ℕ = transitionCountOf os in
-      let h = parts os g e .head in
-      let s : List Field = fieldsOfEach stateFields (g .stateList) in
-      let t : List Field = fieldsOfEach transitionFields (g .transitions) in
-      let end : take (40 * m) (drop (32 + 8 * n) (bits os)) ≡ drop (32 + 8 * n) (bits os) =
-      take-all (40 * m) (drop (32 + 8 * n) (bits os)) (omega (arith, length-drop (32 + 8 * n) (bits os), length-bits os, h .long)) in
+      let h = read-header os clear in
+      let s : List Field = fieldsOfEach stateFields ss in
+      let t : List Field = fieldsOfEach transitionFields ts in
+      let end : take (40 * M) (drop (32 + 8 * N) (bits os)) ≡ drop (32 + 8 * N) (bits os) =
+      take-all (40 * M) (drop (32 + 8 * N) (bits os)) (omega (arith, length-drop (32 + 8 * N) (bits os), length-bits os, h .long)) in
       sym (take-append-drop 32 (bits os))
-      ∙ ap₂ {C = List Bool} (λ (x y : List Bool). x ++ y) read-header
-      (sym (take-append-drop (8 * n) (drop 32 (bits os)))
-      ∙ ap₂ {C = List Bool} (λ (x y : List Bool). x ++ y) (read-states .0) (drop-drop (8 * n) 32 (bits os) ∙ sym end ∙ read-transitions .0))
-      ∙ sym (append-assoc (bitsOfAll (headerFields n m)) (bitsOfAll s) (bitsOfAll t))
-      ∙ ap {B = List Bool} (λ (x : List Bool). x ++ bitsOfAll t) (sym (bitsOfAll-append (headerFields n m) s))
-      ∙ sym (bitsOfAll-append (headerFields n m ++ s) t)
-      ∙ ap₂ (λ (a b : ℕ). bitsOfAll (headerFields a b ++ s ++ t)) (sym (read-states .1)) (sym (read-transitions .1))
+      ∙ ap₂ {C = List Bool} (λ (x y : List Bool). x ++ y) header-bits
+      (sym (take-append-drop (8 * N) (drop 32 (bits os)))
+      ∙ ap₂ {C = List Bool} (λ (x y : List Bool). x ++ y) states-bits (drop-drop (8 * N) 32 (bits os) ∙ sym end ∙ transitions-bits))
+      ∙ sym (append-assoc (bitsOfAll (headerFields N M)) (bitsOfAll s) (bitsOfAll t))
+      ∙ ap {B = List Bool} (λ (x : List Bool). x ++ bitsOfAll t) (sym (bitsOfAll-append (headerFields N M) s))
+      ∙ sym (bitsOfAll-append (headerFields N M ++ s) t)
+      ∙ ap₂ (λ (a b : ℕ). bitsOfAll (headerFields a b ++ s ++ t)) (sym n-states) (sym m-transitions)
+
+  clear-within : within (graphIn os) ≡ true
+  unfolding graphIn N M ss ts
+  clear-within =
+      let h = read-header os clear in
+      within-limits (graphIn os)
+      (record {
+        least = omega (arith, h .least, n-states);
+        most = omega (arith, h .most, n-states);
+        transitions = omega (arith, h .transitions, m-transitions);
+        each-state = all-tabulate stateOk N (λ i. stateAt os (statePlace i))
+            (λ k l. bits-of-state os (statePlace k) (omega (arith, length-bits os, h .long)) (spare-free os clear k l) .1);
+        each-transition =
+            ap (λ (k : ℕ). all (transitionOk k) ts) n-states
+            ∙ all-tabulate (transitionOk N) M (λ i. transitionAt os (transitionPlace N i)) (transition-ok os clear);
+      })
+
+module _ (os : List ℕ) (g : Graph) (e : readImage os ≡ accepted g) where
+  accepted-as-held : NoneHolds (imageRows os) × (graphIn os ≡ g)
+  unfolding readImage
+  accepted-as-held = accepted-only (imageRows os) (graphIn os) g e
 
   pub image-read : Octets os → image g ≡ os
   unfolding image
-  image-read ho = pack-of-bits os (imageFields g) ho read-bits
+  image-read ho =
+      let (c, s) = accepted-as-held in
+      pack-of-bits os (imageFields g) ho (read-bits os c ∙ ap (λ (x : Graph). bitsOfAll (imageFields x)) s)
 
   pub read-within : within g ≡ true
-  read-within =
-      let h = parts os g e .head in
-      let n : states g ≡ stateCountOf os = read-states .1 in
-      let m : count g ≡ transitionCountOf os = read-transitions .1 in
-      within-limits g
-      (record {
-        least = omega (arith, h .least, n);
-        most = omega (arith, h .most, n);
-        transitions = omega (arith, h .transitions, m);
-        each-state = read-states .2;
-        each-transition = ap (λ (k : ℕ). all (transitionOk k) (g .transitions)) n ∙ read-transitions .2;
-      })
+  read-within = let (c, s) = accepted-as-held in ap within (sym s) ∙ clear-within os c
 
 -- ---- what follows
 
@@ -478,3 +513,14 @@ image-inj g h p q e =
 -- octets that hold a plan are its image and no others are
 pub read-unique : (os ps : List ℕ) (g : Graph) → Octets os → Octets ps → readImage os ≡ accepted g → readImage ps ≡ accepted g → os ≡ ps
 read-unique os ps g ho hp e f = sym (image-read os g e ho) ∙ image-read ps g f hp
+
+-- every list of octets is the image of a plan within the limits, or is refused by a row of the image that holds
+pub read-decided : (os : List ℕ) → Octets os
+    → ((g : Graph) × (readImage os ≡ accepted g) × (within g ≡ true) × (image g ≡ os)) ⊎ ((r : Refusal) × (readImage os ≡ refused r) × Holds r (imageRows os))
+unfolding readImage
+read-decided os ho = go (readImage os) refl
+  where
+    go : (o : Result Graph) → readImage os ≡ o
+        → ((g : Graph) × (readImage os ≡ accepted g) × (within g ≡ true) × (image g ≡ os)) ⊎ ((r : Refusal) × (readImage os ≡ refused r) × Holds r (imageRows os))
+    go (accepted g) e = inl (g, e, read-within os g e, image-read os g e ho)
+    go (refused r) e = inr (r, e, only-grounds (imageRows os) (graphIn os) r e)

@@ -4,25 +4,29 @@
 -- Assumes nothing.
 use mathlib.Core.Bool.{Bool, true, false, _||_}
 use mathlib.Core.List.{List, [], _∷_, _++_}
-use mathlib.Core.Path.{_≡_, refl, ap, ap₂, _∙_}
+use mathlib.Core.Path.{_≡_, refl, sym, ap, ap₂, _∙_}
 use Prim.Native.Nat.{ℕ, _+_, _*_, _^_, _<_}
 use native.Mathlib.Omega.{arith}
 use borrow.Author.Tests.{ltb-false}
-use lib.Dec.{ltb}
 use lib.ListN.{length, getD}
 use Rattle.field.specs.Field.{Field, AllFit, Octets, bits, widthOfAll, unpack, fieldAt}
 use Rattle.field.proofs.Bits.{bits-append}
 use Rattle.field.proofs.Pack.{length-pack, bits-pack, pack-octets, unpack-of-bits}
-use Rattle.graph.specs.Compute.{leastDelay, greatestDelay, leastCount, greatestCount}
+use Rattle.graph.specs.declared.Which.{Which}
+use Rattle.graph.specs.declared.Which.the-variants.{LeastDelay, GreatestDelay, LeastCount, GreatestCount}
+use Rattle.graph.specs.Which.{place, some}
+use Rattle.graph.specs.Compute.{figureFor}
 use Rattle.graph.specs.Figure.{Figure, number, NONE, STRANDED, ENDLESS, kind, value}
 use Rattle.graph.specs.Graph.{Graph}
-use Rattle.graph.proofs.Known.{figure-of, figure-is}
-use Rattle.rules.specs.declared.Refusal.the-variants.{BufferLength, FigureSize}
+use Rattle.graph.proofs.Known.{figure-of, figure-same}
 use Rattle.rules.specs.Image.{field}
-use Rattle.rules.specs.Quotations.{recordFields, recordOctets, recordRule, tooLarge}
-use Rattle.rules.specs.Refusal.{Result, accepted, _>>_, refuseIf}
-use Rattle.rules.specs.Rules.{givenPlan}
-use Rattle.rules.proofs.Results.{then-accepted, ground-false}
+use Rattle.rules.specs.Quotations.{recordFields, recordOctets, recordRows, recordRule, tooLarge}
+use Rattle.rules.specs.Refusal.{accepted}
+use Rattle.rules.proofs.Tables.{accepted-only}
+
+or-true : (b : Bool) → b || true ≡ true
+or-true true = refl
+or-true false = refl
 
 -- "88 bits, 11 octets"
 pub record-width : (g : Graph) → widthOfAll (recordFields g) ≡ 8 * 11
@@ -39,10 +43,6 @@ record-octets g = pack-octets (recordFields g)
 
 -- ---- the values fit their widths
 
-neither : (a b : Bool) → a || b ≡ false → (a ≡ false) × (b ≡ false)
-neither true b e = absurd (let z : _≡_ {A = ℕ} 0 1 = cc in omega arith)
-neither false b e = (refl, e)
-
 kind-fits : (f : Figure) → kind f < 2 ^ 2
 kind-fits (number k) = omega arith
 kind-fits NONE = omega arith
@@ -52,45 +52,43 @@ kind-fits ENDLESS = omega arith
 value-fits : (f : Figure) → tooLarge f ≡ false → value f < 2 ^ 20
 value-fits f h = omega (arith, ltb-false 1048575 (value f) h)
 
+-- none of the four is above
+none-of : (p : Which → Bool) → some p ≡ false → (which : Which) → p which ≡ false
+none-of p e which = go (p which) refl
+  where
+    yes : (which : Which) → p which ≡ true → some p ≡ true
+    yes LeastDelay h = rw h refl
+    yes GreatestDelay h = rw h (or-true (p LeastDelay))
+    yes LeastCount h = rw h (ap (λ (b : Bool). p LeastDelay || b) (or-true (p GreatestDelay)) ∙ or-true (p LeastDelay))
+    yes GreatestCount h =
+        rw h
+        (ap (λ (b : Bool). p LeastDelay || (p GreatestDelay || b)) (or-true (p LeastCount))
+        ∙ ap (λ (b : Bool). p LeastDelay || b) (or-true (p GreatestDelay)) ∙ or-true (p LeastDelay))
+
+    go : (b : Bool) → p which ≡ b → b ≡ false
+    go true h = sym (yes which h) ∙ e
+    go false h = refl
+
 module _ (g : Graph) (buffer : List ℕ) (n : ℕ) (e : recordRule g buffer ≡ accepted n) where
   -- what an accepted record says of the length and of the figures
-  pub accepted-record : (n ≡ 11) × (tooLarge (leastDelay g) || tooLarge (greatestDelay g) || tooLarge (leastCount g) || tooLarge (greatestCount g) ≡ false)
+  pub accepted-record : (n ≡ 11) × ((which : Which) → tooLarge (figureFor which g) ≡ false)
   unfolding recordRule
   accepted-record =
-      let large : Bool = tooLarge (leastDelay g) || tooLarge (greatestDelay g) || tooLarge (leastCount g) || tooLarge (greatestCount g) in
-      let r3 : Result ℕ = refuseIf large FigureSize >> accepted 11 in
-      let p = then-accepted (givenPlan g) (refuseIf (ltb (length buffer) 11) BufferLength >> r3) n e in
-      let q = then-accepted (refuseIf (ltb (length buffer) 11) BufferLength) r3 n (p .1) in
-      let r = then-accepted (refuseIf large FigureSize) (accepted 11) n (q .1) in
-      (cc (r .1), ground-false large FigureSize (r .0))
+      let ((w, (b, (l, u))), same) = accepted-only (recordRows g buffer) 11 n e in
+      (sym same, none-of (λ which. tooLarge (figureFor which g)) l)
+
+  fits : (which : Which) → value (figureFor which g) < 2 ^ 20
+  fits which = value-fits (figureFor which g) (accepted-record .1 which)
+
+  kinds : (which : Which) → kind (figureFor which g) < 2 ^ 2
+  kinds which = kind-fits (figureFor which g)
 
   record-fits : AllFit (recordFields g)
   unfolding recordFields AllFit
-  record-fits =
-      let (abc, d) = neither (tooLarge (leastDelay g) || tooLarge (greatestDelay g) || tooLarge (leastCount g)) (tooLarge (greatestCount g)) (accepted-record .1) in
-      let (ab, c) = neither (tooLarge (leastDelay g) || tooLarge (greatestDelay g)) (tooLarge (leastCount g)) abc in
-      let (a, b) = neither (tooLarge (leastDelay g)) (tooLarge (greatestDelay g)) ab in (
-        kind-fits (leastDelay g),
-        (
-          value-fits (leastDelay g) a,
-          (
-            kind-fits (greatestDelay g),
-            (
-              value-fits (greatestDelay g) b,
-              (
-                kind-fits (leastCount g),
-                (
-                  value-fits (leastCount g) c,
-                  (
-                    kind-fits (greatestCount g),
-                    (value-fits (greatestCount g) d, tt),
-                  ),
-                ),
-              ),
-            ),
-          ),
-        ),
-      )
+  record-fits = (
+    kinds LeastDelay,
+    (fits LeastDelay, (kinds GreatestDelay, (fits GreatestDelay, (kinds LeastCount, (fits LeastCount, (kinds GreatestCount, (fits GreatestCount, tt))))))),
+  )
 
   -- the fields of the octets from the front of the buffer on, whatever comes after them
   pub record-read : (rest : List ℕ) → unpack (recordOctets g ++ rest) 0 (2 ∷ 20 ∷ 2 ∷ 20 ∷ 2 ∷ 20 ∷ 2 ∷ 20 ∷ []) ≡ recordFields g
@@ -106,13 +104,10 @@ module _ (g : Graph) (buffer : List ℕ) (n : ℕ) (e : recordRule g buffer ≡ 
   read-at rest i = ap (valueAt i) (record-read rest)
 
   -- "for least delay, greatest delay, least count, greatest count in turn": what the kinds and figures stand for
-  pub record-figures : (rest : List ℕ) → let os : List ℕ = recordOctets g ++ rest in
-      (figure-of (fieldAt os 0 2) (fieldAt os 2 20) ≡ leastDelay g) × (figure-of (fieldAt os 22 2) (fieldAt os 24 20) ≡ greatestDelay g)
-      × (figure-of (fieldAt os 44 2) (fieldAt os 46 20) ≡ leastCount g) × (figure-of (fieldAt os 66 2) (fieldAt os 68 20) ≡ greatestCount g)
+  pub record-figures : (rest : List ℕ) (which : Which)
+      → figure-of (fieldAt (recordOctets g ++ rest) (22 * place which) 2) (fieldAt (recordOctets g ++ rest) (22 * place which + 2) 20) ≡ figureFor which g
   unfolding recordFields unpack valueAt
-  record-figures rest = (
-    ap₂ figure-of (read-at rest 0) (read-at rest 1) ∙ figure-is (leastDelay g),
-    ap₂ figure-of (read-at rest 2) (read-at rest 3) ∙ figure-is (greatestDelay g),
-    ap₂ figure-of (read-at rest 4) (read-at rest 5) ∙ figure-is (leastCount g),
-    ap₂ figure-of (read-at rest 6) (read-at rest 7) ∙ figure-is (greatestCount g),
-  )
+  record-figures rest LeastDelay = ap₂ figure-of (read-at rest 0) (read-at rest 1) ∙ figure-same (figureFor LeastDelay g)
+  record-figures rest GreatestDelay = ap₂ figure-of (read-at rest 2) (read-at rest 3) ∙ figure-same (figureFor GreatestDelay g)
+  record-figures rest LeastCount = ap₂ figure-of (read-at rest 4) (read-at rest 5) ∙ figure-same (figureFor LeastCount g)
+  record-figures rest GreatestCount = ap₂ figure-of (read-at rest 6) (read-at rest 7) ∙ figure-same (figureFor GreatestCount g)

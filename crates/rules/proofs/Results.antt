@@ -1,47 +1,30 @@
--- Results that are accepted: what came before was accepted, and no ground held. Assumes nothing.
+-- Results, accepted and refused, and tests of every element of a list. Assumes nothing.
 use mathlib.Core.Bool.{Bool, true, false, not, _&&_}
 use mathlib.Core.List.{List, [], _∷_, _++_}
 use mathlib.Core.Path.{_≡_, refl, sym}
-use Prim.Native.Nat.{ℕ, zero, suc, _+_, _<_}
+use Prim.Native.Nat.{ℕ, zero, suc, _<_}
 use native.Mathlib.Nat.{not-suc-le-zero, le-of-suc-le-suc}
 use native.Mathlib.Omega.{arith}
 use lib.ListN.{length, getD, take, drop, set, replicate}
 use Rattle.rules.specs.declared.Refusal.{Refusal}
-use Rattle.rules.specs.Refusal.{number, Result, accepted, refused, _>>=_, _>>_, refuseIf, answerOf, code}
+use Rattle.rules.specs.Refusal.{Result, accepted, refused, answerOf, code}
 use Rattle.rules.specs.Limits.{all}
 
 -- ---- accepted and refused results
 
-pub never : {A : Type 0} (a : A) (k : ℕ) → refused k ≡ accepted a → ⊥
+pub never : {A : Type 0} (a : A) (r : Refusal) → refused r ≡ accepted a → ⊥
 never a k e = let z : _≡_ {A = ℕ} 0 1 = cc in omega arith
-
-pub bind-accepted : {A B : Type 0} (r : Result A) (f : A → Result B) (b : B) → (r >>= f) ≡ accepted b → (a : A) × (r ≡ accepted a) × (f a ≡ accepted b)
-bind-accepted (accepted a) f b e = (a, refl, e)
-bind-accepted (refused k) f b e = absurd (never b k e)
-
-pub then-accepted : {B : Type 0} (r : Result (Unit {0})) (s : Result B) (b : B) → (r >> s) ≡ accepted b → (r ≡ accepted tt) × (s ≡ accepted b)
-then-accepted (accepted tt) s b e = (refl, e)
-then-accepted (refused k) s b e = absurd (never b k e)
-
--- no ground holds where a ground's result is accepted
-pub ground-false : (c : Bool) (r : Refusal) → refuseIf c r ≡ accepted tt → c ≡ false
-ground-false true r e = absurd (never tt (number r) e)
-ground-false false r e = refl
 
 pub not-false : (c : Bool) → not c ≡ false → c ≡ true
 not-false true e = refl
 not-false false e = sym e
-
--- a test that must hold does
-pub holds : (c : Bool) (r : Refusal) → refuseIf (not c) r ≡ accepted tt → c ≡ true
-holds c r e = not-false c (ground-false (not c) r e)
 
 -- a result whose answer is known
 pub accepted-as : {A : Type 0} (o : Result A) → accepted tt ≡ answerOf o → (a : A) × (o ≡ accepted a)
 accepted-as (accepted a) e = (a, refl)
 accepted-as (refused k) e = absurd (never tt k (sym e))
 
-pub refused-as : {A : Type 0} (o : Result A) (k : ℕ) → refused k ≡ answerOf o → o ≡ refused k
+pub refused-as : {A : Type 0} (o : Result A) (k : Refusal) → refused k ≡ answerOf o → o ≡ refused k
 refused-as (accepted a) k e = absurd (never tt k e)
 refused-as (refused j) k e = let i : k ≡ j = cc in rw i
 

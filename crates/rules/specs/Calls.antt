@@ -3,7 +3,9 @@ use mathlib.Core.List.{List, [], _∷_}
 use Prim.Native.Nat.{ℕ}
 use Rattle.graph.specs.Graph.{Graph, Transition}
 use Rattle.rules.specs.Refusal.{Result, answerOf}
-use Rattle.rules.specs.Rules.{freshGraph, markRule, joinRule, unjoinRule, readRule, next}
+use Rattle.rules.specs.Table.{Row, byTable}
+use Rattle.rules.specs.Image.{graphIn}
+use Rattle.rules.specs.Rules.{freshGraph, withMark, withTransition, without, markRows, joinRows, unjoinRows, readRows, next}
 
 -- a call with its arguments, "for read the octets lent to it"
 pub data Call : Type 0 where
@@ -12,12 +14,24 @@ pub data Call : Type 0 where
   unjoin : ℕ → Call
   read : List ℕ → Call
 
--- "the table below and the order under it decide from its arguments and the plan so far"
+-- its rows of the table
+abbrev pub rowsOf : Graph → Call → List Row
+rowsOf g (mark state value) = markRows g state value
+rowsOf g (join t) = joinRows g t
+rowsOf g (unjoin number) = unjoinRows g number
+rowsOf g (read octets) = readRows g octets
+
+-- what "the plan changes" to; for read "the one that the octets hold by the layout"
+abbrev pub effectOf : Graph → Call → Graph
+effectOf g (mark state value) = withMark g state value
+effectOf g (join t) = withTransition g t
+effectOf g (unjoin number) = without g number
+effectOf g (read octets) = graphIn octets
+
+-- "the table below and the order under it decide from its arguments and the plan so far whether it is refused, and by which number. If so, the
+-- answer is that number and the plan stays; if not, the answer is that it was accepted, and the plan changes as above"
 abbrev pub step : Graph → Call → Result Graph
-step g (mark state value) = markRule g state value
-step g (join t) = joinRule g t
-step g (unjoin number) = unjoinRule g number
-step g (read octets) = readRule g octets
+step g call = byTable (rowsOf g call) (effectOf g call)
 
 -- the answers of a list of calls, in turn, and the plan after it
 pub record Run : Type 0 where

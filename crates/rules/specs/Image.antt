@@ -1,15 +1,21 @@
 -- The image of a plan, and the plan that octets hold. Document 01, "The image", and the order of read's refusals. Assumes nothing.
 use mathlib.Core.Bool.{not}
 use mathlib.Core.List.{List, [], _∷_, _++_}
-use Prim.Native.Nat.{ℕ, _+_, _*_, _/_, _%_}
+use Prim.Native.Nat.{ℕ, zero, suc, _+_, _*_, _/_, _%_}
 use lib.Dec.{ltb, eqb}
 use lib.ListN.{length}
 use Rattle.graph.specs.Graph.{Graph, State, Transition, marked, states, count}
 use Rattle.field.specs.Field.{Field, fieldAt, pack}
 use Rattle.rules.specs.declared.Refusal.the-variants.{ImageShort, ImageLong, Version, StateCount, TransitionCount}
 use Rattle.rules.specs.declared.Refusal.the-variants.{SpareBits, StateNumber, Duration}
-use Rattle.rules.specs.Refusal.{Result, accepted, _>>=_, _>>_, refuseIf, collect}
+use Rattle.rules.specs.Refusal.{Result}
+use Rattle.rules.specs.Table.{Row, byTable, byNumber}
 use Rattle.rules.specs.Limits.{stateCountOk, transitionCountOk, endsOk, durationsOk}
+
+-- the list of f 0 up to f (n - 1)
+unfoldable pub tabulate : {A : Type 0} → ℕ → (ℕ → A) → List A
+tabulate zero f = []
+tabulate (suc n) f = tabulate n f ++ (f n ∷ [])
 
 -- ---- the layout
 
@@ -62,23 +68,6 @@ transitionCountOf os = fieldAt os 14 12
 abbrev pub padOf : List ℕ → ℕ
 padOf os = fieldAt os 26 6
 
--- the state at a bit position, unless a spare bit is set
-abbrev pub stateAt : List ℕ → ℕ → Result State
-stateAt os at = do
-  refuseIf (not (eqb (fieldAt os (at + 3) 5) 0)) SpareBits
-  accepted (marked (4 * fieldAt os at 1 + 2 * fieldAt os (at + 1) 1 + fieldAt os (at + 2) 1))
-
--- the fields of the transition at a bit position
-abbrev pub transitionAt : List ℕ → ℕ → Transition
-transitionAt os at = record { from = fieldAt os at 9; to = fieldAt os (at + 9) 9; low = fieldAt os (at + 18) 11; high = fieldAt os (at + 29) 11 }
-
--- a transition of a plan with n states: "7 before 8"
-abbrev pub checked : ℕ → Transition → Result Transition
-checked n t = do
-  refuseIf (not (endsOk n t)) StateNumber
-  refuseIf (not (durationsOk t)) Duration
-  accepted t
-
 -- the bit positions of state i, and of transition i of an image with n states
 abbrev pub statePlace : ℕ → ℕ
 statePlace i = 32 + 8 * i
@@ -86,29 +75,54 @@ statePlace i = 32 + 8 * i
 abbrev pub transitionPlace : ℕ → ℕ → ℕ
 transitionPlace n i = 32 + 8 * n + 40 * i
 
--- the grounds of the header and of the length: "1 for under 4 octets, 3, 4, 5, 6 for pad, 1, 2"
-unfoldable pub headerRule : List ℕ → Result (Unit {0})
-headerRule os = do
-  refuseIf (ltb (length os) 4) ImageShort
-  refuseIf (not (eqb (versionOf os) 1)) Version
-  refuseIf (not (stateCountOk (stateCountOf os))) StateCount
-  refuseIf (not (transitionCountOk (transitionCountOf os))) TransitionCount
-  refuseIf (not (eqb (padOf os) 0)) SpareBits
-  refuseIf (ltb (length os) (imageLength (stateCountOf os) (transitionCountOf os))) ImageShort
-  refuseIf (ltb (imageLength (stateCountOf os) (transitionCountOf os)) (length os)) ImageLong
+-- the state at a bit position, and its spare bits
+abbrev pub stateAt : List ℕ → ℕ → State
+stateAt os at = marked (4 * fieldAt os at 1 + 2 * fieldAt os (at + 1) 1 + fieldAt os (at + 2) 1)
 
--- "then states by number, 6"
-unfoldable pub statesIn : List ℕ → ℕ → Result (List State)
-statesIn os n = collect (λ (i : ℕ). stateAt os (statePlace i)) 0 n
+abbrev pub spareAt : List ℕ → ℕ → ℕ
+spareAt os at = fieldAt os (at + 3) 5
 
--- "then transitions by number, 7 before 8"
-unfoldable pub transitionsIn : List ℕ → ℕ → ℕ → Result (List Transition)
-transitionsIn os n m = collect (λ (i : ℕ). checked n (transitionAt os (transitionPlace n i))) 0 m
+-- the transition at a bit position
+abbrev pub transitionAt : List ℕ → ℕ → Transition
+transitionAt os at = record { from = fieldAt os at 9; to = fieldAt os (at + 9) 9; low = fieldAt os (at + 18) 11; high = fieldAt os (at + 29) 11 }
+
+-- the plan that octets hold "by the layout"
+unfoldable pub graphIn : List ℕ → Graph
+graphIn os =
+    record {
+      stateList = tabulate (stateCountOf os) (λ i. stateAt os (statePlace i));
+      transitions = tabulate (transitionCountOf os) (λ i. transitionAt os (transitionPlace (stateCountOf os) i));
+    }
+
+-- ---- the rows of read
+
+-- the header and the length: "1 for under 4 octets, 3, 4, 5, 6 for pad, 1, 2"
+unfoldable pub headerRows : List ℕ → List Row
+headerRows os =
+    (ImageShort, ltb (length os) 4)
+    ∷ (Version, not (eqb (versionOf os) 1))
+    ∷ (StateCount, not (stateCountOk (stateCountOf os)))
+    ∷ (TransitionCount, not (transitionCountOk (transitionCountOf os)))
+    ∷ (SpareBits, not (eqb (padOf os) 0))
+    ∷ (ImageShort, ltb (length os) (imageLength (stateCountOf os) (transitionCountOf os)))
+    ∷ (ImageLong, ltb (imageLength (stateCountOf os) (transitionCountOf os)) (length os))
+    ∷ []
+
+-- a state: 6
+abbrev pub stateRows : List ℕ → ℕ → List Row
+stateRows os i = (SpareBits, not (eqb (spareAt os (statePlace i)) 0)) ∷ []
+
+-- a transition of a plan with n states: "7 before 8"
+abbrev pub transitionRows : ℕ → Transition → List Row
+transitionRows n t = (StateNumber, not (endsOk n t)) ∷ (Duration, not (durationsOk t)) ∷ []
+
+-- the header, "then states by number, 6; then transitions by number, 7 before 8"
+unfoldable pub imageRows : List ℕ → List Row
+imageRows os =
+    headerRows os
+    ++ (byNumber (stateRows os) 0 (stateCountOf os)
+    ++ byNumber (λ i. transitionRows (stateCountOf os) (transitionAt os (transitionPlace (stateCountOf os) i))) 0 (transitionCountOf os))
 
 -- the plan that octets hold, or the refusal
 unfoldable pub readImage : List ℕ → Result Graph
-readImage os = do
-  headerRule os
-  stateList ← statesIn os (stateCountOf os)
-  transitions ← transitionsIn os (stateCountOf os) (transitionCountOf os)
-  accepted (record { stateList = stateList; transitions = transitions })
+readImage os = byTable (imageRows os) (graphIn os)

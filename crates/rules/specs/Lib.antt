@@ -1,4 +1,5 @@
 pub mod Refusal
+pub mod Table
 pub mod Limits
 pub mod Image
 pub mod Rules

@@ -1,7 +1,7 @@
 -- The quotations and the record: their rules, and what an accepted quotation says. Document 01, "Routes and figures", from "Least delay" on, "The
 -- quotation record", and rows 0, 11 and 13 of the table. Assumes nothing.
-use mathlib.Core.Bool.{Bool, not, _||_}
-use mathlib.Core.List.{List, [], _∷_, _++_}
+use mathlib.Core.Bool.{Bool}
+use mathlib.Core.List.{List, [], _∷_}
 use mathlib.Core.Logic.{_↔_}
 use mathlib.Core.Path.{_≡_}
 use Prim.Native.Nat.{ℕ, _*_, _≤_}
@@ -9,9 +9,11 @@ use lib.Dec.{ltb}
 use lib.ListN.{length, take, drop}
 use Rattle.graph.specs.Graph.{Graph, states}
 use Rattle.graph.specs.Route.{Cost, Route, GoesOnForever, EndsUnanswered, total}
-use Rattle.graph.specs.Figure.{Figure, number, NONE, STRANDED, ENDLESS, kind, value, NoStart, Shown}
-use Rattle.graph.specs.Figure.{leastDelayCost, greatestDelayCost, countCost}
-use Rattle.graph.specs.Compute.{least, greatest, leastDelay, greatestDelay, leastCount, greatestCount}
+use Rattle.graph.specs.Figure.{Figure, number, NONE, STRANDED, ENDLESS, kind, value, NoStart, Shown, costFor}
+use Rattle.graph.specs.Compute.{least, greatest, figureFor}
+use Rattle.graph.specs.Which.{place, four, inTurn, some}
+use Rattle.graph.specs.declared.Which.{Which}
+use Rattle.graph.specs.declared.Which.the-variants.{LeastDelay, GreatestDelay, LeastCount, GreatestCount}
 use Rattle.field.specs.Field.{Field, pack}
 use Rattle.rules.specs.declared.Figure.{Figure as Answered}
 use Rattle.rules.specs.declared.Figure.the-variants.{Number, None, Stranded, Endless}
@@ -21,11 +23,13 @@ use Rattle.rules.specs.declared.Quotation.the-variants.{Quoted, Refused}
 use Rattle.rules.specs.declared.FourQuotes.{FourQuotes}
 use Rattle.rules.specs.declared.Quotations.{Quotations}
 use Rattle.rules.specs.declared.Quotations.the-variants.{Quoted as AllQuoted, Refused as NoneQuoted}
-use Rattle.rules.specs.declared.Refusal.the-variants.{BufferLength, FigureSize}
+use Rattle.rules.specs.declared.Refusal.the-variants.{FigureSize}
 use Rattle.rules.specs.Image.{field}
-use Rattle.rules.specs.Refusal.{Result, accepted, refused, _>>_, refuseIf}
-use Rattle.rules.specs.Refusal.{number as numberOf}
-use Rattle.rules.specs.Rules.{givenPlan}
+use Rattle.rules.specs.declared.Refusal.{Refusal}
+use Rattle.rules.specs.declared.Written.{Written}
+use Rattle.rules.specs.Refusal.{Result, accepted, refused, wrote}
+use Rattle.rules.specs.Table.{Row, byTable, first}
+use Rattle.rules.specs.Rules.{limitRow, bufferRow, written}
 
 -- ---- the answers
 
@@ -39,25 +43,27 @@ meant Endless = ENDLESS
 -- what a quotation answers: that it was accepted, or the number of a refusal
 abbrev pub saidQuotation : Quotation → Result (Unit {0})
 saidQuotation (Quoted q) = accepted tt
-saidQuotation (Refused r) = refused (numberOf r)
+saidQuotation (Refused r) = refused r
 
 abbrev pub saidQuotations : Quotations → Result (Unit {0})
 saidQuotations (AllQuoted q) = accepted tt
-saidQuotations (NoneQuoted r) = refused (numberOf r)
+saidQuotations (NoneQuoted r) = refused r
 
 -- ---- the rules
 
 -- a quotation that was lent places for its walk: 0, then 11 for fewer than "n places"
+abbrev pub quoteRows : Graph → List ℕ → List Row
+quoteRows g places = limitRow g ∷ bufferRow places (states g) ∷ []
+
 unfoldable pub quoteRule : Graph → List ℕ → Result (Unit {0})
-quoteRule g places = do
-  givenPlan g
-  refuseIf (ltb (length places) (states g)) BufferLength
+quoteRule g places = first (quoteRows g places)
 
 -- all four quotations, lent places for four walks, 512 each: 0, then 11 for fewer than 2,048
+abbrev pub allRows : Graph → List ℕ → List Row
+allRows g places = limitRow g ∷ bufferRow places 2048 ∷ []
+
 unfoldable pub allRule : Graph → List ℕ → Result (Unit {0})
-allRule g places = do
-  givenPlan g
-  refuseIf (ltb (length places) 2048) BufferLength
+allRule g places = first (allRows g places)
 
 -- "a kind of 2 bits (0 number, 1 NONE, 2 STRANDED, 3 ENDLESS) and a figure of 20 bits, zero unless the kind is 0"
 abbrev pub figureFields : Figure → List Field
@@ -65,8 +71,7 @@ figureFields f = field 2 (kind f) ∷ field 20 (value f) ∷ []
 
 -- "for least delay, greatest delay, least count, greatest count in turn"
 unfoldable pub recordFields : Graph → List Field
-recordFields g =
-    figureFields (leastDelay g) ++ figureFields (greatestDelay g) ++ figureFields (leastCount g) ++ figureFields (greatestCount g)
+recordFields g = inTurn (λ which. figureFields (figureFor which g))
 
 -- the 11 octets of the record
 unfoldable pub recordOctets : Graph → List ℕ
@@ -76,13 +81,12 @@ recordOctets g = pack (recordFields g)
 abbrev pub tooLarge : Figure → Bool
 tooLarge f = ltb 1048575 (value f)
 
--- "In record: 11, 13", after 0
+-- "In record: 11, 13"
+abbrev pub recordRows : Graph → List ℕ → List Row
+recordRows g buffer = limitRow g ∷ bufferRow buffer 11 ∷ (FigureSize, some (λ which. tooLarge (figureFor which g))) ∷ []
+
 unfoldable pub recordRule : Graph → List ℕ → Result ℕ
-recordRule g buffer = do
-  givenPlan g
-  refuseIf (ltb (length buffer) 11) BufferLength
-  refuseIf (tooLarge (leastDelay g) || tooLarge (greatestDelay g) || tooLarge (leastCount g) || tooLarge (greatestCount g)) FigureSize
-  accepted 11
+recordRule g buffer = byTable (recordRows g buffer) 11
 
 -- ---- what an accepted quotation says
 
@@ -130,60 +134,54 @@ module _ (g : Graph) (c : Cost) (f : Figure) (k j : ℕ) (before after : List �
 abbrev pub Says : Type 1
 Says = Figure → ℕ → ℕ → List ℕ → List ℕ → Type 0
 
-abbrev pub LeastDelay : Graph → Says
-LeastDelay g = LeastQuoted g (leastDelayCost g)
-
-abbrev pub GreatestDelay : Graph → Says
-GreatestDelay g = GreatestQuoted g (greatestDelayCost g)
-
-abbrev pub LeastCount : Graph → Says
-LeastCount g = LeastQuoted g (countCost g)
-
-abbrev pub GreatestCount : Graph → Says
-GreatestCount g = GreatestQuoted g (countCost g)
-
--- a quotation of the plan g: its answer is the rule's, a refusal leaves every lent place, and of an accepted one P holds
-pub record Quotes (P : Says) (g : Graph) (before after : List ℕ) (r : Quotation) : Type 0 where
-  pub answer : saidQuotation r ≡ quoteRule g before
-  pub kept : (k : ℕ) → quoteRule g before ≡ refused k → after ≡ before
-  pub quoted : (q : Quote) → r ≡ Quoted q → P (meant (q .figure)) (q .k) (q .j) before after
-
--- ---- all four at once
-
--- the places of a walk: the i-th 512 of the lent ones
-abbrev pub part : ℕ → List ℕ → List ℕ
-part i places = take 512 (drop (512 * i) places)
-
--- the fields of the record of four quotes
-unfoldable pub quotesFields : FourQuotes → List Field
-quotesFields q =
-    figureFields (meant (q .least .delay .figure)) ++ figureFields (meant (q .greatest .delay .figure))
-    ++ figureFields (meant (q .least .count .figure)) ++ figureFields (meant (q .greatest .count .figure))
-
--- k and j of a quote, and of four, are at most 512
-abbrev pub SmallQuote : Quote → Type 0
-SmallQuote q = (q .k ≤ 512) × (q .j ≤ 512)
-
-pub record FourSmall (q : FourQuotes) : Type 0 where
-  pub least-delay : SmallQuote (q .least .delay)
-  pub greatest-delay : SmallQuote (q .greatest .delay)
-  pub least-count : SmallQuote (q .least .count)
-  pub greatest-count : SmallQuote (q .greatest .count)
-
--- P holds of a quote, and of the lent places before and after
+-- it holds of a quote, and of the lent places before and after
 abbrev pub Stated : Says → Quote → List ℕ → List ℕ → Type 0
 Stated P q before after = P (meant (q .figure)) (q .k) (q .j) before after
 
--- the quotes of the four figures, "least delay, greatest delay, least count, greatest count in turn", each with its walk in its part of the lent places
+abbrev pub says : Which → Graph → Says
+says LeastDelay g = LeastQuoted g (costFor LeastDelay g)
+says GreatestDelay g = GreatestQuoted g (costFor GreatestDelay g)
+says LeastCount g = LeastQuoted g (costFor LeastCount g)
+says GreatestCount g = GreatestQuoted g (costFor GreatestCount g)
+
+-- a quotation of the plan g: its answer is the rule's, a refusal leaves every lent place, and an accepted one says what its figure's does
+pub record Quotes (which : Which) (g : Graph) (before after : List ℕ) (r : Quotation) : Type 0 where
+  pub answer : saidQuotation r ≡ quoteRule g before
+  pub kept : (k : Refusal) → quoteRule g before ≡ refused k → after ≡ before
+  pub quoted : (q : Quote) → r ≡ Quoted q → Stated (says which g) q before after
+
+-- ---- all four at once
+
+-- the quote of a figure
+abbrev pub quoteOf : FourQuotes → Which → Quote
+quoteOf q = four (q .«least_delay») (q .«greatest_delay») (q .«least_count») (q .«greatest_count»)
+
+-- the places of a figure's walk: the 512 from 512 times its place in the order on
+abbrev pub part : Which → List ℕ → List ℕ
+part which places = take 512 (drop (512 * place which) places)
+
+-- the fields of the record of four quotes
+unfoldable pub quotesFields : FourQuotes → List Field
+quotesFields q = inTurn (λ which. figureFields (meant (quoteOf q which .figure)))
+
+-- k and j of a quote are at most 512
+abbrev pub SmallQuote : Quote → Type 0
+SmallQuote q = (q .k ≤ 512) × (q .j ≤ 512)
+
+-- the quotes of the four figures, each with its walk in its part of the lent places
 pub record AllStated (g : Graph) (q : FourQuotes) (before after : List ℕ) : Type 0 where
-  pub least-delay : Stated (LeastDelay g) (q .least .delay) (part 0 before) (part 0 after)
-  pub greatest-delay : Stated (GreatestDelay g) (q .greatest .delay) (part 1 before) (part 1 after)
-  pub least-count : Stated (LeastCount g) (q .least .count) (part 2 before) (part 2 after)
-  pub greatest-count : Stated (GreatestCount g) (q .greatest .count) (part 3 before) (part 3 after)
+  pub each : (which : Which) → Stated (says which g) (quoteOf q which) (part which before) (part which after)
   pub later : drop 2048 after ≡ drop 2048 before
 
 -- a quotation of all four figures of the plan g: its answer is the rule's, a refusal leaves every lent place, and of an accepted one the four hold
 pub record QuotesAll (g : Graph) (before after : List ℕ) (r : Quotations) : Type 0 where
   pub answer : saidQuotations r ≡ allRule g before
-  pub kept : (k : ℕ) → allRule g before ≡ refused k → after ≡ before
+  pub kept : (k : Refusal) → allRule g before ≡ refused k → after ≡ before
   pub quoted : (q : FourQuotes) → r ≡ AllQuoted q → AllStated g q before after
+
+-- ---- calls that fill a lent buffer
+
+-- a call that puts octets at the front of a lent buffer and for which the rules give o: its answer and the buffer afterwards are the rules'
+pub record Write (octets : List ℕ) (o : Result ℕ) (before after : List ℕ) (r : Written) : Type 0 where
+  pub answer : wrote r ≡ o
+  pub buffer : after ≡ written octets before o

@@ -1,5 +1,5 @@
--- The rules of each call on a plan: its grounds in their order, and what it does. Document 01, "Each event on the plan", the table of refused
--- calls and the order under it: "0 comes before the rest in every call". Assumes nothing.
+-- The rules of each call on a plan: what it does, and its rows of the table. Document 01, "Each event on the plan", the table of refused calls and
+-- the order under it. Assumes nothing.
 use mathlib.Core.Bool.{not}
 use mathlib.Core.List.{List, [], _∷_, _++_}
 use Prim.Native.Nat.{ℕ, suc}
@@ -8,13 +8,10 @@ use lib.ListN.{length, take, drop, set, replicate}
 use Rattle.graph.specs.Graph.{Graph, Transition, marked, states, count}
 use Rattle.rules.specs.declared.Refusal.the-variants.{PlanLimits, StateCount, StateNumber, ListFull}
 use Rattle.rules.specs.declared.Refusal.the-variants.{TransitionNumber, BufferLength, MarksValue}
-use Rattle.rules.specs.Refusal.{Result, accepted, refused, _>>=_, _>>_, refuseIf}
+use Rattle.rules.specs.Refusal.{Result, accepted, refused}
+use Rattle.rules.specs.Table.{Row, byTable}
 use Rattle.rules.specs.Limits.{within, stateCountOk, marksOk}
-use Rattle.rules.specs.Image.{checked, readImage, image, imageLength}
-
--- "any call given a plan": refused by 0 where "the plan value breaks a limit of a plan"
-abbrev pub givenPlan : Graph → Result (Unit {0})
-givenPlan g = refuseIf (not (within g)) PlanLimits
+use Rattle.rules.specs.Image.{imageRows, transitionRows, imageLength}
 
 -- ---- the events
 
@@ -34,57 +31,55 @@ withTransition g t = record { stateList = g .stateList; transitions = g .transit
 abbrev pub without : Graph → ℕ → Graph
 without g number = record { stateList = g .stateList; transitions = take number (g .transitions) ++ drop (suc number) (g .transitions) }
 
--- ---- the calls
+-- ---- the rows of each call
+
+-- "any call given a plan": "the plan value breaks a limit of a plan". "0 comes before the rest in every call."
+abbrev pub limitRow : Graph → Row
+limitRow g = (PlanLimits, not (within g))
+
+-- "lent buffer below the image's length, 11 octets, n places"
+abbrev pub bufferRow : List ℕ → ℕ → Row
+bufferRow lent needed = (BufferLength, ltb (length lent) needed)
 
 -- "fresh, given n": 4. It is given no plan
+abbrev pub freshRows : ℕ → List Row
+freshRows n = (StateCount, not (stateCountOk n)) ∷ []
+
 unfoldable pub freshRule : ℕ → Result Graph
-freshRule n = do
-  refuseIf (not (stateCountOk n)) StateCount
-  accepted (freshGraph n)
+freshRule n = byTable (freshRows n) (freshGraph n)
 
 -- "In mark: 7, 12"
-unfoldable pub markRule : Graph → ℕ → ℕ → Result Graph
-markRule g state value = do
-  givenPlan g
-  refuseIf (leb (states g) state) StateNumber
-  refuseIf (not (marksOk value)) MarksValue
-  accepted (withMark g state value)
+abbrev pub markRows : Graph → ℕ → ℕ → List Row
+markRows g state value = limitRow g ∷ (StateNumber, leb (states g) state) ∷ (MarksValue, not (marksOk value)) ∷ []
 
 -- "In join: 7, 8, 9"
-unfoldable pub joinRule : Graph → Transition → Result Graph
-joinRule g t = do
-  givenPlan g
-  checked (states g) t
-  refuseIf (leb 2048 (count g)) ListFull
-  accepted (withTransition g t)
+abbrev pub joinRows : Graph → Transition → List Row
+joinRows g t = limitRow g ∷ transitionRows (states g) t ++ ((ListFull, leb 2048 (count g)) ∷ [])
 
 -- "unjoin, given a number": 10
-unfoldable pub unjoinRule : Graph → ℕ → Result Graph
-unjoinRule g number = do
-  givenPlan g
-  refuseIf (leb (count g) number) TransitionNumber
-  accepted (without g number)
+abbrev pub unjoinRows : Graph → ℕ → List Row
+unjoinRows g number = limitRow g ∷ (TransitionNumber, leb (count g) number) ∷ []
 
--- "read, given octets": 0 ("the old one"), then the order of the image's own grounds
-unfoldable pub readRule : Graph → List ℕ → Result Graph
-readRule g octets = do
-  givenPlan g
-  readImage octets
+-- "read, given octets": 0 ("the old one"), then the image's own
+abbrev pub readRows : Graph → List ℕ → List Row
+readRows g octets = limitRow g ∷ imageRows octets
 
 -- "Write puts the image at the front of the lent buffer and returns its length": 11
+abbrev pub writeRows : Graph → List ℕ → List Row
+writeRows g buffer = limitRow g ∷ bufferRow buffer (imageLength (states g) (count g)) ∷ []
+
 unfoldable pub writeRule : Graph → List ℕ → Result ℕ
-writeRule g buffer = do
-  givenPlan g
-  refuseIf (ltb (length buffer) (imageLength (states g) (count g))) BufferLength
-  accepted (imageLength (states g) (count g))
+writeRule g buffer = byTable (writeRows g buffer) (imageLength (states g) (count g))
+
+-- ---- what comes after
 
 -- the plan after a call: "Any refused event: the plan stays"
 abbrev pub next : Graph → Result Graph → Graph
 next g (accepted g′) = g′
-next g (refused k) = g
+next g (refused r) = g
 
 -- the lent buffer after a call that puts octets "at the front of the lent buffer and returns" their number: "later octets stay", and a
 -- refusal leaves all
 abbrev pub written : List ℕ → List ℕ → Result ℕ → List ℕ
 written octets buffer (accepted n) = octets ++ drop n buffer
-written octets buffer (refused k) = buffer
+written octets buffer (refused r) = buffer

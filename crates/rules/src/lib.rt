@@ -70,16 +70,12 @@ pub enum Quotation {
     Refused(Refusal),
 }
 
-// The quotes of a delay and of a count.
-pub struct Pair {
-    pub delay: Quote,
-    pub count: Quote,
-}
-
-// The quotes of the four figures.
+// The quotes of the four figures, in the record's order.
 pub struct FourQuotes {
-    pub least: Pair,
-    pub greatest: Pair,
+    pub least_delay: Quote,
+    pub greatest_delay: Quote,
+    pub least_count: Quote,
+    pub greatest_count: Quote,
 }
 
 // The answer of a quotation of all four figures.

@@ -1,9 +1,9 @@
 -- `field::store` meets its contract. Five octets are those of `store_five`. The loop's invariant: the octets up to i are those of the number, and the
 -- later ones are as they were.
 -- Assumes nothing.
-use Prim.Native.Nat.{ℕ, _+_, _-_, _≤_, _<_, _^_, _*_, _/_, _%_}
+use Prim.Native.Nat.{ℕ, _+_, _-_, _≤_, _^_, _*_, _/_, _%_}
 use mathlib.Core.List.{List}
-use mathlib.Core.Path.{_≡_, sym, ap, _∙_}
+use mathlib.Core.Path.{_≡_, ap, _∙_}
 use native.Mathlib.Omega.{arith}
 use borrow.Author.Needs.{needs}
 use lib.ListN.{length, set, length-set}

@@ -1,7 +1,7 @@
 -- `field::take_four` meets its contract: the octets from at / 8 up to end hold the four fields, so each is a part of their number.
 -- Assumes nothing.
-use Prim.Native.Nat.{ℕ, _+_, _/_, _%_, _^_, _*_, _-_}
-use mathlib.Core.Path.{_≡_, sym, ap, _∙_}
+use Prim.Native.Nat.{_+_, _/_, _*_, _-_}
+use mathlib.Core.Path.{_≡_, _∙_}
 use native.Mathlib.Omega.{arith}
 use Rattle.field.specs.Field.{fieldAt}
 use borrow.Author.Needs.{needs}
