@@ -1,2 +1,6 @@
-pub mod Puts
-pub mod Prints
+-- The lines of known figures.
+pub mod Basic
+-- How long lines are.
+pub mod Lengths
+-- Four lines in a row.
+pub mod InRow

@@ -3,4 +3,3 @@ pub mod Numerals
 pub mod Listed
 pub mod Puts
 pub mod Fills
-pub mod Printed

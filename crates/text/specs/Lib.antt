@@ -1,3 +1,2 @@
 pub mod Text
 pub mod Put
-pub mod Lines

@@ -1,7 +1,5 @@
 // Words, decimal numbers and lists of numbers, put into a lent slice of octets from a place on. Every function returns the place after what it put, so that
 // the next one goes on from there. The caller has seen to room.
-pub mod lines;
-
 ghost use Prim.Native.Nat.{_+_, _≤_};
 ghost use mathlib.Core.Path.{_≡_};
 ghost use lib.ListN.{length, take};

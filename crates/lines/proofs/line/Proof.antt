@@ -1,35 +1,59 @@
--- `lines::line` meets its contract. Assumes nothing.
+-- `lines::line`: four puts in a row, each with room because the whole has. Assumes nothing.
+use Prim.Native.Nat.{_≤_}
 use native.Mathlib.Omega.{arith}
-use borrow.Author.Needs.{needs}
-use Rattle.lines.proofs.Puts.{told, line-fits}
+use lib.ListN.{length, take}
+use Rattle.lines.specs.Lines.{line}
 use Rattle.rules.specs.Quotations.{meant}
+use Rattle.text.specs.Text.{octets}
+use Rattle.text.proofs.Puts.{put-then}
+use Rattle.lines.proofs.Lengths.{line-sum}
+use borrow.Author.Needs.{needs}
 use Rattle.lines.proofs.line.Statement.{statement}
 use Rattle.lines.proofs.line.Tie as tie
+use Rattle.lines.proofs.line.Reads as reads
+use Rattle.lines.proofs.line.Lts as lts
+use Rattle.lines.proofs.added.Reads as added-reads
+use Rattle.lines.proofs.heading.Reads as heading-reads
+use Rattle.text.proofs.list.Reads as list-reads
+use Rattle.text.proofs.word.Reads as word-reads
 
-kind-requires : tie.Need-kind-requires
-kind-requires c κs = search needs
+heading-requires : tie.Need-heading-requires
+heading-requires c κs = omega (arith, line-sum (c .before .before .before .args .which) (meant (c .before .before .before .args .quote .figure)) (take (c .before .before .before .args .quote .k) (c .before .before .before .args .walk .now)) (c .before .before .before .args .quote .j), c .before .before .before .pre .2)
 
-value-requires : tie.Need-value-requires
-value-requires c κs = search needs
+list-requires : tie.Need-list-requires
+list-requires c κs = (c .before .before .before .before .before .before .before .pre .1, omega (arith, line-sum (c .before .before .before .before .before .before .before .args .which) (meant (c .before .before .before .before .before .before .before .args .quote .figure)) (take (c .before .before .before .before .before .before .before .args .quote .k) (c .before .before .before .before .before .before .before .args .walk .now)) (c .before .before .before .before .before .before .before .args .quote .j), c .before .before .before .before .before .before .before .pre .2))
 
-line-requires : tie.Need-line-requires
-line-requires c κs =
-    let a = c .before .before .before .before .before .before .args in
-    let f = meant (a .quote .figure) in
-    let b = line-fits (a .name .now) (a .walk .now) f (a .quote .k) (a .quote .j) (c .value .result) (c .value .ensures) (omega (arith, c .value .ok)) (c .before .before .before .before .before .before .pre .0 .0) (c .before .before .before .before .before .before .pre .0 .1) (c .before .before .before .before .before .before .pre .0 .2) (λ i. omega (arith, c .before .before .before .shared-slice-known2 .given i)) in
-    let e = told f (c .before .kind .result) (c .value .result) (c .before .kind .ensures) (c .value .ensures) in
-    ((c .before .before .before .before .before .before .pre .0 .0, c .before .before .before .before .before .before .pre .0 .2), rw e (omega (arith, b, c .before .before .before .before .before .before .pre .1)))
+cast-added : tie.Need-cast-added
+cast-added c = search needs
+
+added-requires : tie.Need-added-requires
+added-requires c κs = omega (arith, line-sum (c .before .before .before .before .before .before .before .before .before .before .before .args .which) (meant (c .before .before .before .before .before .before .before .before .before .before .before .args .quote .figure)) (take (c .before .before .before .before .before .before .before .before .before .before .before .args .quote .k) (c .before .before .before .before .before .before .before .before .before .before .before .args .walk .now)) (c .before .before .before .before .before .before .before .before .before .before .before .args .quote .j), c .before .before .before .before .before .before .before .before .before .before .before .pre .2)
+
+slice-aggregate-word : tie.Need-slice-aggregate-word
+slice-aggregate-word c = search needs
+
+word-requires : tie.Need-word-requires
+word-requires c κs = omega (arith, line-sum (c .before .before .before .before .before .before .before .before .before .before .before .before .before .before .before .before .args .which) (meant (c .before .before .before .before .before .before .before .before .before .before .before .before .before .before .before .before .args .quote .figure)) (take (c .before .before .before .before .before .before .before .before .before .before .before .before .before .before .before .before .args .quote .k) (c .before .before .before .before .before .before .before .before .before .before .before .before .before .before .before .before .args .walk .now)) (c .before .before .before .before .before .before .before .before .before .before .before .before .before .before .before .before .args .quote .j), c .before .before .before .before .before .before .before .before .before .before .before .before .before .before .before .before .pre .2)
 
 same-length : tie.Need-same-length
 same-length c = search needs
 
 returns : tie.Need-returns
+unfolding octets line
 returns c =
-    let a = c .before .before .before .before .before .before .before .before .before .args in
-    let f = meant (a .quote .figure) in
-    let b = line-fits (a .name .now) (a .walk .now) f (a .quote .k) (a .quote .j) (c .before .before .before .value .result) (c .before .before .before .value .ensures) (omega (arith, c .before .before .before .value .ok)) (c .before .before .before .before .before .before .before .before .before .pre .0 .0) (c .before .before .before .before .before .before .before .before .before .pre .0 .1) (c .before .before .before .before .before .before .before .before .before .pre .0 .2) (λ i. omega (arith, c .before .before .before .before .before .before .shared-slice-known2 .given i)) in
-    let e = told f (c .before .before .before .before .kind .result) (c .before .before .before .value .result) (c .before .before .before .before .kind .ensures) (c .before .before .before .value .ensures) in
-    (rw e at (c .before .before .line .ensures), b)
+    let inside : c .before .before .before .before .before .before .before .before .before .before .before .before .before .before .before .before .before .before .before .args .at ≤ length (c .before .before .before .before .before .before .before .before .before .before .before .before .before .before .before .before .before .before .before .args .buffer .now) = omega (arith, c .before .before .before .before .before .before .before .before .before .before .before .before .before .before .before .before .before .before .before .pre .2) in
+    let walked = put-then (c .before .before .before .before .before .before .before .before .before .before .before .before .before .before .before .heading .ensures) inside (c .before .before .before .before .before .before .before .before .before .before .before .list .ensures) in
+    put-then (put-then walked inside (c .before .before .before .before .before .before .before .added .ensures)) inside (c .before .before .word .ensures)
 
 pub line-spec : {M : Type 1} → statement M
-line-spec = tie.close (tie.spec kind-requires value-requires line-requires same-length returns)
+line-spec =
+    tie.close
+    (tie.spec
+    heading-requires
+    list-requires
+    cast-added
+    added-requires
+    slice-aggregate-word
+    word-requires
+    same-length
+    returns)

@@ -1,12 +1,16 @@
--- `text::lines::refused` meets its contract. Assumes nothing.
+-- `lines::refused`: three puts in a row, each with room because the whole has. Assumes nothing.
 use native.Mathlib.Omega.{arith}
+use Rattle.lines.specs.Lines.{refusedLine}
+use Rattle.text.specs.Text.{octets}
+use Rattle.text.proofs.Puts.{put-then}
+use Rattle.lines.proofs.Lengths.{refused-sum}
 use borrow.Author.Needs.{needs}
-use Rattle.text.proofs.Printed.{refused-sum}
-use Rattle.text.proofs.Puts.{put-then}
-use Rattle.text.specs.Lines.{refusedLine}
-use Rattle.text.specs.Text.{octets}
-use Rattle.text.proofs.lines.refused.Statement.{statement}
-use Rattle.text.proofs.lines.refused.Tie as tie
+use Rattle.lines.proofs.refused.Statement.{statement}
+use Rattle.lines.proofs.refused.Tie as tie
+use Rattle.lines.proofs.refused.Reads as reads
+use Rattle.lines.proofs.refused.Lts as lts
+use Rattle.text.proofs.number.Reads as number-reads
+use Rattle.text.proofs.word.Reads as word-reads
 
 slice-aggregate-word : tie.Need-slice-aggregate-word
 slice-aggregate-word c = search needs
@@ -29,8 +33,7 @@ same-length c = search needs
 returns : tie.Need-returns
 unfolding octets refusedLine
 returns c =
-    let start = c .before .before .before .before .before .before .before .before .before .before .before .before .before .before .before in
-    let sum = refused-sum (start .args .number) in
+    let sum = refused-sum (c .before .before .before .before .before .before .before .before .before .before .before .before .before .before .before .args .number) in
     put-then (put-then (c .before .before .before .before .before .before .before .before .before .before .before .word .ensures) (omega arith) (c .before .before .before .before .before .before .before .number .ensures)) (omega arith) (c .before .before .word2 .ensures)
 
 pub refused-spec : {M : Type 1} → statement M
