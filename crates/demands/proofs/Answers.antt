@@ -1,17 +1,18 @@
 -- The promises can be kept, whatever a calculator is given: one that may do whatever they allow answers every call, and so meets the demands. A
 -- refusal hands back what it was given; an accepted edit lays the rule's plan over the arrays; an accepted write puts the octets; and each figure
 -- of a plan within the limits exists and can be shown within n places. Assumes nothing.
-use mathlib.Core.Bool.{Bool, true, false, _||_}
-use mathlib.Core.List.{List, [], _∷_, _++_, map}
-use mathlib.Core.Path.{_≡_, refl, sym, ap, _∙_, subst}
-use Prim.Native.Nat.{ℕ, _+_, _≤_}
-use borrow.Author.Tests.{eqb-true, ltb-false}
+use mathlib.Core.Bool.{true}
+use mathlib.Core.List.{List, _++_}
+use mathlib.Core.Path.{_≡_, refl, sym, _∙_, subst}
+use Prim.Native.Nat.{ℕ, _≤_}
+use borrow.Author.Tests.{ltb-false}
 use native.Mathlib.Omega.{arith}
-use lib.Dec.{ltb, eqb}
 use lib.ListN.{length, drop, length-append, length-drop}
 use lib.Seq.{take-at, drop-at}
+use Rattle.graph.specs.declared.Which.{Which}
+use Rattle.graph.specs.declared.Which.the-variants.{LeastDelay, GreatestDelay, LeastCount, GreatestCount}
 use Rattle.graph.specs.Compute.{least, greatest}
-use Rattle.graph.specs.Figure.{Figure, number, NONE, STRANDED, ENDLESS, leastDelayCost, greatestDelayCost, countCost}
+use Rattle.graph.specs.Figure.{Figure, number, NONE, STRANDED, ENDLESS, costFor}
 use Rattle.graph.specs.Graph.{Graph, states}
 use Rattle.graph.specs.Route.{Cost}
 use Rattle.costs.proofs.Quoted.{least-quoted, greatest-quoted}
@@ -20,26 +21,23 @@ use Rattle.rules.specs.declared.Figure.the-variants.{Number, None, Stranded, En
 use Rattle.rules.specs.declared.Quotation.{Quotation}
 use Rattle.rules.specs.declared.Quotation.the-variants.{Quoted, Refused as NotQuoted}
 use Rattle.rules.specs.declared.Quote.{Quote}
-use Rattle.rules.specs.declared.Refusal.{Refusal}
-use Rattle.rules.specs.declared.Refusal.the-variants.{PlanLimits, ImageShort, ImageLong, Version, StateCount, TransitionCount, SpareBits, StateNumber}
-use Rattle.rules.specs.declared.Refusal.the-variants.{Duration, ListFull, TransitionNumber, BufferLength, MarksValue, FigureSize}
 use Rattle.rules.specs.declared.Written.{Written}
 use Rattle.rules.specs.declared.Written.the-variants.{Length, Refused as NotWritten}
-use Rattle.rules.specs.Calls.{Call, mark, join, unjoin, read, step}
+use Rattle.rules.specs.Calls.{step}
 use Rattle.rules.specs.Image.{image}
 use Rattle.rules.specs.Limits.{within}
-use Rattle.rules.specs.Quotations.{Says, Quotes, LeastQuoted, GreatestQuoted, meant, quoteRule, recordOctets, recordRule}
-use Rattle.rules.specs.Refusal.{Result, accepted, refused, refuseIf, number as numberOf}
-use Rattle.rules.specs.Rules.{freshRule, writeRule, givenPlan}
+use Rattle.rules.specs.Quotations.{Says, says, Stated, Quotes, Write, LeastQuoted, GreatestQuoted, meant, quoteRows, quoteRule, recordOctets, recordRule}
+use Rattle.rules.specs.Refusal.{Result, accepted, refused}
+use Rattle.rules.specs.Rules.{freshRule, writeRule}
 use Rattle.rules.proofs.Figures.{within-closed, least-exists, least-showable, greatest-exists, greatest-showable}
-use Rattle.rules.proofs.Grounds.{oneOf, Only, fresh-grounds, mark-grounds, join-grounds, unjoin-grounds, read-grounds, write-grounds, quote-grounds, record-grounds}
-use Rattle.rules.proofs.Results.{never, then-accepted, ground-false, holds}
+use Rattle.rules.proofs.Results.{never, not-false}
+use Rattle.rules.proofs.Tables.{accepted-only}
 use Rattle.plan.specs.declared.Edited.{Edited}
 use Rattle.plan.specs.declared.Plan.{Plan}
-use Rattle.plan.specs.Promise.{Edit, Write, refusing, accepting}
+use Rattle.plan.specs.Promise.{Edit, refusing, accepting}
 use Rattle.plan.specs.View.{view, laid, noPlan}
 use Rattle.plan.proofs.Values.{view-laid}
-use Rattle.demands.specs.Calculator.{Calculator, Promises, Answers, Which, says, least-delay, greatest-delay, least-count, greatest-count}
+use Rattle.demands.specs.Calculator.{Calculator, Promises, Answers}
 use Rattle.demands.specs.Demands.{Demand1, Demand2, Demand3}
 use Rattle.demands.proofs.Demands.{demand-1, demand-2, demand-3}
 
@@ -50,47 +48,24 @@ published = record {
   edits = λ p call e. Edit p (step (view p) call) e;
   writes = λ p before after w. Write (image (view p)) (writeRule (view p) before) before after w;
   records = λ p before after w. Write (recordOctets (view p)) (recordRule (view p) before) before after w;
-  quotes = λ which p before after q. Quotes (says which (view p)) (view p) before after q;
+  quotes = λ which p before after q. Quotes which (view p) before after q;
 }
 
 pub published-keeps : Promises published
 unfolding published
 published-keeps = record { freshes = λ x. x; edits = λ x. x; writes = λ x. x; records = λ x. x; quotes = λ x. x }
 
--- ---- refusals
-
--- a number of a list of refusals is one of theirs
-named : (rs : List Refusal) (k : ℕ) → oneOf k (map numberOf rs) ≡ true → (r : Refusal) × (numberOf r ≡ k)
-named [] k e = absurd (let z : _≡_ {A = ℕ} 0 1 = cc in omega arith)
-named (r ∷ rs) k e = go (eqb k (numberOf r)) refl (named rs k) e
-  where
-    go : (b : Bool) → eqb k (numberOf r) ≡ b → (oneOf k (map numberOf rs) ≡ true → (r : Refusal) × (numberOf r ≡ k)) → b || oneOf k (map numberOf rs) ≡ true
-        → (r : Refusal) × (numberOf r ≡ k)
-    go true e rest h = (r, sym (eqb-true k (numberOf r) e))
-    go false e rest h = rest h
-
 -- ---- edits
 
-edit-of : (p : Plan) (rs : List Refusal) (o : Result Graph) → Only (map numberOf rs) o → (e : Edited) × Edit p o e
-edit-of p rs (accepted g) only = (accepting (laid p g), record { answer = refl; plan = view-laid p g; whole = refl })
-edit-of p rs (refused k) only =
-    let (r, e) = named rs k (only k refl) in
-    (refusing p r, record { answer = ap refused e; plan = refl; whole = refl })
-
-call-of : (p : Plan) (call : Call) → (e : Edited) × Edit p (step (view p) call) e
-call-of p (mark state value) = edit-of p (PlanLimits ∷ StateNumber ∷ MarksValue ∷ []) _ (mark-grounds (view p) state value)
-call-of p (join t) = edit-of p (PlanLimits ∷ StateNumber ∷ Duration ∷ ListFull ∷ []) _ (join-grounds (view p) t)
-call-of p (unjoin k) = edit-of p (PlanLimits ∷ TransitionNumber ∷ []) _ (unjoin-grounds (view p) k)
-call-of p (read octets) =
-    edit-of p (PlanLimits ∷ ImageShort ∷ ImageLong ∷ Version ∷ StateCount ∷ TransitionCount ∷ SpareBits ∷ StateNumber ∷ Duration ∷ []) _ (read-grounds (view p) octets)
+edit-of : (p : Plan) (o : Result Graph) → (e : Edited) × Edit p o e
+edit-of p (accepted g) = (accepting (laid p g), record { answer = refl; plan = view-laid p g; whole = refl })
+edit-of p (refused r) = (refusing p r, record { answer = refl; plan = refl; whole = refl })
 
 -- ---- lent buffers
 
-write-of : (octets before : List ℕ) (rs : List Refusal) (o : Result ℕ) → Only (map numberOf rs) o → (after : List ℕ) × (w : Written) × Write octets o before after w
-write-of octets before rs (accepted n) only = (octets ++ drop n before, Length n, record { answer = refl; buffer = refl })
-write-of octets before rs (refused k) only =
-    let (r, e) = named rs k (only k refl) in
-    (before, NotWritten r, record { answer = ap refused e; buffer = refl })
+write-of : (octets before : List ℕ) (o : Result ℕ) → (after : List ℕ) × (w : Written) × Write octets o before after w
+write-of octets before (accepted n) = (octets ++ drop n before, Length n, record { answer = refl; buffer = refl })
+write-of octets before (refused r) = (before, NotWritten r, record { answer = refl; buffer = refl })
 
 -- ---- quotations
 
@@ -111,17 +86,15 @@ meant-answered ENDLESS = refl
 abbrev Showable : Says → List ℕ → Type 0
 Showable P before = (f : Figure) × (k : ℕ) × (j : ℕ) × (after : List ℕ) × P f k j before after
 
-quotation-of : (P : Says) (g : Graph) (before : List ℕ) → (within g ≡ true → states g ≤ length before → Showable P before)
-    → (after : List ℕ) × (q : Quotation) × Quotes P g before after q
+quotation-of : (which : Which) (g : Graph) (before : List ℕ) → (within g ≡ true → states g ≤ length before → Showable (says which g) before)
+    → (after : List ℕ) × (q : Quotation) × Quotes which g before after q
 unfolding quoteRule
-quotation-of P g before showable = go (quoteRule g before) refl
+quotation-of which g before showable = go (quoteRule g before) refl
   where
-    go : (o : Result (Unit {0})) → quoteRule g before ≡ o → (after : List ℕ) × (q : Quotation) × Quotes P g before after q
+    go : (o : Result (Unit {0})) → quoteRule g before ≡ o → (after : List ℕ) × (q : Quotation) × Quotes which g before after q
     go (accepted tt) e =
-        let r = then-accepted (givenPlan g) (refuseIf (ltb (length before) (states g)) BufferLength) tt e in
-        let w = holds (within g) PlanLimits (r .0) in
-        let room : states g ≤ length before = ltb-false (length before) (states g) (ground-false (ltb (length before) (states g)) BufferLength (r .1)) in
-        let (f, k, j, after, x) = showable w room in
+        let ((w, (short, u)), same) = accepted-only (quoteRows g before) tt tt e in
+        let (f, k, j, after, x) = showable (not-false (within g) w) (ltb-false (length before) (states g) short) in
         let q : Quote = record { figure = answered f; k = k; j = j } in (
           after,
           Quoted q,
@@ -129,19 +102,18 @@ quotation-of P g before showable = go (quoteRule g before) refl
             answer = sym e;
             kept = λ n h. absurd (never tt n (sym h ∙ e));
             quoted = λ q′ s. let s′ : q ≡ q′ = cc in
-                subst (λ (z : Quote). P (meant (z .figure)) (z .k) (z .j) before after) s′ (rw (meant-answered f) x);
+                subst (λ (z : Quote). Stated (says which g) z before after) s′ (rw (meant-answered f) x);
           },
         )
-    go (refused n) e =
-        let (r, s) = named (PlanLimits ∷ BufferLength ∷ []) n (quote-grounds g before n e) in (
-          before,
-          NotQuoted r,
-          record {
-            answer = ap refused s ∙ sym e;
-            kept = λ k h. refl;
-            quoted = λ q h. absurd (let z : _≡_ {A = ℕ} 0 1 = cc in omega arith);
-          },
-        )
+    go (refused r) e = (
+      before,
+      NotQuoted r,
+      record {
+        answer = sym e;
+        kept = λ k h. refl;
+        quoted = λ q h. absurd (let z : _≡_ {A = ℕ} 0 1 = cc in omega arith);
+      },
+    )
 
 module _ (g : Graph) (before : List ℕ) (c : Cost) (w : within g ≡ true) (room : states g ≤ length before) where
   least-of : Showable (LeastQuoted g c) before
@@ -170,22 +142,21 @@ module _ (g : Graph) (before : List ℕ) (c : Cost) (w : within g ≡ true) (roo
             (drop-at ts (drop k before) k refl) (omega (arith, length-append ts (drop k before), length-drop k before)) (greatest-exists g w c),
       )
 
-quote-of : (which : Which) (g : Graph) (before : List ℕ) → (after : List ℕ) × (q : Quotation) × Quotes (says which g) g before after q
-quote-of least-delay g before = quotation-of (says least-delay g) g before (least-of g before (leastDelayCost g))
-quote-of greatest-delay g before = quotation-of (says greatest-delay g) g before (greatest-of g before (greatestDelayCost g))
-quote-of least-count g before = quotation-of (says least-count g) g before (least-of g before (countCost g))
-quote-of greatest-count g before = quotation-of (says greatest-count g) g before (greatest-of g before (countCost g))
+quote-of : (which : Which) (g : Graph) (before : List ℕ) → (after : List ℕ) × (q : Quotation) × Quotes which g before after q
+quote-of LeastDelay g before = quotation-of LeastDelay g before (least-of g before (costFor LeastDelay g))
+quote-of GreatestDelay g before = quotation-of GreatestDelay g before (greatest-of g before (costFor GreatestDelay g))
+quote-of LeastCount g before = quotation-of LeastCount g before (least-of g before (costFor LeastCount g))
+quote-of GreatestCount g before = quotation-of GreatestCount g before (greatest-of g before (costFor GreatestCount g))
 
 -- ---- so it is
 
 pub published-answers : Answers published
 unfolding published
 published-answers = record {
-  freshes = λ n. edit-of noPlan (StateCount ∷ []) (freshRule n) (fresh-grounds n);
-  edits = call-of;
-  writes = λ p before. write-of (image (view p)) before (PlanLimits ∷ BufferLength ∷ []) (writeRule (view p) before) (write-grounds (view p) before);
-  records = λ p before.
-      write-of (recordOctets (view p)) before (PlanLimits ∷ BufferLength ∷ FigureSize ∷ []) (recordRule (view p) before) (record-grounds (view p) before);
+  freshes = λ n. edit-of noPlan (freshRule n);
+  edits = λ p call. edit-of p (step (view p) call);
+  writes = λ p before. write-of (image (view p)) before (writeRule (view p) before);
+  records = λ p before. write-of (recordOctets (view p)) before (recordRule (view p) before);
   quotes = λ which p before. quote-of which (view p) before;
 }
 

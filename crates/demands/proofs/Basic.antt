@@ -1,96 +1,77 @@
--- The table on small calls in which more than one row holds: the first one answers. Proof files are checked in the order of their names, so a wrong
--- table is refused here first. Assumes nothing.
-use mathlib.Core.List.{[], _∷_}
+-- The claim on small plans: runs written out beside computed figures, and plans that the premises leave out.
+-- Assumes nothing.
+use Prim.Native.Nat.{ℕ, zero, suc, _<_}
 use mathlib.Core.Path.{_≡_, refl}
-use lib.ListN.{replicate}
-use Rattle.field.specs.Field.{pack, octetsOf, bits, bitsOf, bitsOfAll, widthOfAll, number, fieldAt}
-use Rattle.graph.specs.Compute.{any, leastDelay, greatestDelay, leastCount, greatestCount}
-use Rattle.graph.specs.Graph.{marksOf, start, final, counted, transition, from, to, low, high}
-use Rattle.graph.specs.Known.{P1, plan, join as to-join}
-use Rattle.rules.specs.Calls.{mark, join, unjoin, read}
-use Rattle.rules.specs.Image.{image, imageFields, fieldsOfEach}
-use Rattle.rules.specs.Limits.{within, all}
-use Rattle.rules.specs.Refusal.{accepted, refused}
-use Rattle.rules.specs.Rules.{freshGraph}
-use Rattle.rules.proofs.Basic.{octets}
-use Rattle.demands.specs.Table.{first, byNumber, freshRows, editRows, writeRows, quoteRows, recordRows}
+use mathlib.Core.Bool.{false≢true}
+use mathlib.Core.List.{[], _∷_}
+use native.Mathlib.Nat.{not-suc-le-zero}
+use native.Mathlib.Omega.{arith}
+use lib.Dec.{lit<}
+use Rattle.graph.specs.Graph.{Graph, marksOf, start, final, counted, transition, from, to, low, high}
+use Rattle.graph.specs.Walk.{Begins}
+use Rattle.graph.specs.Compute.{any, figureFor}
+use Rattle.graph.specs.Known.{plan, P1, P3}
+use Rattle.report.specs.Procedure.{ends, turns, Returns}
+use Rattle.report.specs.Sets.{empty, same, N, T, T⁻¹}
+use Rattle.report.specs.Bounds.{finite, ∞, upper}
+use Rattle.report.specs.Counts.{those, Nₐ, Tₐ, updated}
+use Rattle.report.proofs.Basic.{step}
+use Rattle.report.proofs.Loop.{returns-once}
+use Rattle.demands.specs.Report.{Premises, ReportFigures}
 
--- "0 comes before the rest": a plan of no states
-pub limits-first : first (editRows (freshGraph 0) (mark 0 8)) ≡ refused 0
-unfolding first within
-limits-first = refl
+-- P1 with durations of 1: 0, 1, 3 is the shortest route, 0, 1, 2, 3 the longest, with 1 and 2 counted states
+abbrev pub steps : Graph
+steps = plan (4 ∷ 1 ∷ 1 ∷ 2 ∷ []) (step 0 1 ∷ step 1 2 ∷ step 1 3 ∷ step 2 3 ∷ [])
 
-pub fresh-513 : first (freshRows 513) ≡ refused 4
-unfolding first
-fresh-513 = refl
+pub steps-agree : ReportFigures steps
+unfolding figureFor any empty same N T T⁻¹ those Nₐ Tₐ updated marksOf start final counted transition from to low high
+steps-agree = record {
+  least-delay = (finite 2, (_, turns refl (turns refl (ends refl)), refl), refl);
+  greatest-delay = (finite 3, (_, turns refl (turns refl (turns refl (ends refl))), refl), refl);
+  least-count = λ i u. (1, (_, turns refl (turns refl (turns refl (ends refl))), refl), refl);
+  greatest-count = λ i u. (2, (_, turns refl (turns refl (turns refl (ends refl))), refl), refl);
+}
 
--- "In mark: 7, 12."
-pub mark-7-12 : first (editRows (freshGraph 1) (mark 1 8)) ≡ refused 7
-unfolding first within all
-mark-7-12 = refl
+-- 0→0, 0→1, 1→0 and no final state: both return infinity, NONE from lower and ENDLESS from upper
+abbrev round : Graph
+round = plan (4 ∷ 0 ∷ []) (step 0 0 ∷ step 0 1 ∷ step 1 0 ∷ [])
 
-pub mark-12 : first (editRows (freshGraph 1) (mark 0 8)) ≡ refused 12
-unfolding first within all
-mark-12 = refl
+round-upper : Returns (upper round) ∞
+unfolding any empty same N T T⁻¹ marksOf start final transition from to
+round-upper = (_, ends refl, refl)
 
--- "In join: 7, 8, 9."
-pub join-7-8 : first (editRows (freshGraph 1) (join (to-join 0 1 5 3))) ≡ refused 7
-unfolding first within all
-join-7-8 = refl
+pub round-agrees : ReportFigures round
+unfolding figureFor any empty same N T T⁻¹ marksOf start final counted transition from to low high
+round-agrees = record {
+  least-delay = (∞, (_, turns refl (ends refl), refl), refl);
+  greatest-delay = (∞, round-upper, refl);
+  least-count = λ i u. absurd (not-finite i u);
+  greatest-count = λ i u. absurd (not-finite i u);
+}
+  where
+    not-finite : (i : ℕ) → Returns (upper round) (finite i) → ⊥
+    not-finite i u =
+        let e = returns-once (upper round) u round-upper in
+        let z : _≡_ {A = ℕ} 0 1 = cc in
+        omega arith
 
-pub join-8 : first (editRows (freshGraph 1) (join (to-join 0 0 5 3))) ≡ refused 8
-unfolding first within all
-join-8 = refl
+-- ---- what the premises leave out
 
-pub unjoin-10 : first (editRows (freshGraph 1) (unjoin 0)) ≡ refused 10
-unfolding first within all
-unjoin-10 = refl
+-- other durations
+pub durations-out : Premises (P1 .plan) → ⊥
+unfolding transition low
+durations-out p = omega (arith, p .lows-one 0 (lit< tt))
 
--- "Order in read": under 4 octets; a version of 2 and no state; no state and a pad bit set
-pub read-1 : first (editRows (freshGraph 1) (read (0x20 ∷ []))) ≡ refused 1
-unfolding first within all
-read-1 = refl
+-- a dead end: P3, whose start it is
+pub dead-end-out : Premises (P3 .plan) → ⊥
+unfolding marksOf final
+dead-end-out p = let (t, d) = p .leaves 0 (lit< tt) refl in not-suc-le-zero (d .listed)
 
-pub read-3-4 : first (editRows (freshGraph 1) (read (0x20 ∷ 0x00 ∷ 0x00 ∷ 0x00 ∷ []))) ≡ refused 3
-unfolding first within all fieldAt bits bitsOf number
-read-3-4 = refl
-
-pub read-4-6 : first (editRows (freshGraph 1) (read (0x10 ∷ 0x00 ∷ 0x00 ∷ 0x01 ∷ []))) ≡ refused 4
-unfolding first within all fieldAt bits bitsOf number
-read-4-6 = refl
-
--- a pad bit set, and octets missing; octets missing; an octet too many, and a spare bit set
-pub read-6-1 : first (editRows (freshGraph 1) (read (0x10 ∷ 0x04 ∷ 0x00 ∷ 0x01 ∷ []))) ≡ refused 6
-unfolding first within all fieldAt bits bitsOf number
-read-6-1 = refl
-
-pub read-1-counts : first (editRows (freshGraph 1) (read (0x10 ∷ 0x04 ∷ 0x00 ∷ 0x00 ∷ []))) ≡ refused 1
-unfolding first within all fieldAt bits bitsOf number
-read-1-counts = refl
-
-pub read-2-6 : first (editRows (freshGraph 1) (read (0x10 ∷ 0x04 ∷ 0x00 ∷ 0x00 ∷ 0x01 ∷ 0x00 ∷ []))) ≡ refused 2
-unfolding first within all fieldAt bits bitsOf number
-read-2-6 = refl
-
--- "then transitions by number": the first one's low above its high, the second one from no state
-pub read-by-number : first (editRows (freshGraph 1) (read (image (plan (4 ∷ 2 ∷ []) (to-join 0 1 5 3 ∷ to-join 2 1 1 1 ∷ []))))) ≡ refused 8
-unfolding first byNumber within all image imageFields fieldsOfEach pack octetsOf bitsOf bitsOfAll widthOfAll number fieldAt bits
-read-by-number = refl
-
--- the known octets
-pub read-known : first (editRows (freshGraph 1) (read octets)) ≡ accepted tt
-unfolding first byNumber within all octets fieldAt bits bitsOf number
-read-known = refl
-
--- "lent buffer below the image's length, 11 octets, n places": one too few, and just enough
-pub write-27 : (first (writeRows (P1 .plan) (replicate 27 0)) ≡ refused 11) × (first (writeRows (P1 .plan) (replicate 28 0)) ≡ accepted tt)
-unfolding first within all
-write-27 = (refl, refl)
-
-pub quote-3 : (first (quoteRows (P1 .plan) (replicate 3 0)) ≡ refused 11) × (first (quoteRows (P1 .plan) (replicate 4 0)) ≡ accepted tt)
-unfolding first within all
-quote-3 = (refl, refl)
-
-pub record-10 : (first (recordRows (P1 .plan) (replicate 10 0)) ≡ refused 11) × (first (recordRows (P1 .plan) (replicate 11 0)) ≡ accepted tt)
-unfolding first within all leastDelay greatestDelay leastCount greatestCount any marksOf start final counted transition from to low high
-record-10 = (refl, refl)
+-- no start
+pub no-start-out : Premises (plan (2 ∷ []) []) → ⊥
+unfolding marksOf start
+no-start-out p = let (s, b) = p .started in none s b
+  where
+    none : (s : ℕ) → Begins (plan (2 ∷ []) []) s → ⊥
+    none zero b = false≢true b
+    none (suc s) b = false≢true b

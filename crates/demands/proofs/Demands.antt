@@ -1,7 +1,7 @@
--- The demands, of every calculator that keeps the published promises. Each call's answer is its rule's, by its promise, and the rule is the table
--- (Tables.antt); the plan value and the lent places after a refusal are in the promises' equations. The image both ways is a theorem of
+-- The demands, of every calculator that keeps the published promises. Each call's answer is its rule's, by its promise, and the rule is its rows of the
+-- table (rules' `answer-first`, `only-grounds`, `accepted-where`); the plan value and the lent places after a refusal are in the promises' equations. The image both ways is a theorem of
 -- the promises (plan's `write-then-read`, `read-then-write`). A quoted figure is the one by computation, and that is what the report's procedures
--- return (agreement's `report-figures`). A list of calls is a run of the rules (plan's `fresh-run`), whose plan is within the limits
+-- return (`report-figures`). A list of calls is a run of the rules (plan's `fresh-run`), whose plan is within the limits
 -- (`listed-within`), so that a quotation with n places is accepted, and then says of that plan what its promise says.
 -- Assumes nothing.
 use mathlib.Core.Bool.{true}
@@ -9,62 +9,59 @@ use mathlib.Core.List.{List}
 use mathlib.Core.Path.{_≡_, refl, sym, ap, _∙_, subst}
 use Prim.Native.Nat.{ℕ}
 use borrow.Author.Tests.{le-ltb}
-use lib.Dec.{ltb}
 use lib.ListN.{length}
-use Rattle.graph.specs.Compute.{leastDelay, greatestDelay, leastCount, greatestCount}
+use Rattle.graph.specs.declared.Which.{Which}
+use Rattle.graph.specs.Compute.{figureFor}
 use Rattle.graph.specs.Graph.{Graph, states}
-use Rattle.agreement.proofs.Plans.{report-figures}
 use Rattle.rules.specs.declared.Answer.{Answer}
 use Rattle.rules.specs.declared.Quotation.{Quotation}
 use Rattle.rules.specs.declared.Quotation.the-variants.{Quoted, Refused}
 use Rattle.rules.specs.declared.Quote.{Quote}
-use Rattle.rules.specs.declared.Refusal.the-variants.{PlanLimits, BufferLength}
+use Rattle.rules.specs.declared.Refusal.{Refusal}
 use Rattle.rules.specs.declared.Written.{Written}
-use Rattle.rules.specs.Calls.{Call, step, runFresh}
+use Rattle.rules.specs.Calls.{Call, rowsOf, effectOf, step, runFresh}
 use Rattle.rules.specs.Image.{image}
 use Rattle.rules.specs.Limits.{within}
-use Rattle.rules.specs.Quotations.{meant, saidQuotation, quoteRule}
-use Rattle.rules.specs.Refusal.{Result, accepted, refused, refuseIf, number, answerOf, wrote}
-use Rattle.rules.specs.Rules.{freshRule, writeRule, written, givenPlan}
+use Rattle.rules.specs.Quotations.{saidQuotation, says, Stated, Write, quoteRows, quoteRule, recordRows, recordRule}
+use Rattle.rules.specs.Refusal.{Result, accepted, refused, answerOf, wrote}
+use Rattle.rules.specs.Rules.{freshRows, freshRule, freshGraph, writeRows, writeRule, written}
+use Rattle.rules.specs.Table.{Row, first}
 use Rattle.rules.proofs.Basic.{quote-done}
 use Rattle.rules.proofs.Figures.{listed-within}
 use Rattle.rules.proofs.ReadWrite.{length-image, image-read}
-use Rattle.rules.proofs.Results.{never, then-accepted, holds, refused-as}
+use Rattle.rules.proofs.Results.{never, not-false, refused-as}
+use Rattle.rules.proofs.Tables.{only-grounds, accepted-where, accepted-only, answer-first}
 use Rattle.plan.specs.declared.Plan.{Plan}
-use Rattle.plan.specs.Promise.{Write, Obeyed, none, more}
+use Rattle.plan.specs.Promise.{Obeyed, none, more}
 use Rattle.plan.specs.View.{view, noPlan}
 use Rattle.plan.proofs.Promises.{refused-keeps, fresh-run, accepted-write, write-then-read, accepted-read, read-then-write}
-use Rattle.demands.specs.Calculator.{Calculator, Promises, Answers, Listed, Which, says, least-delay, greatest-delay, least-count, greatest-count}
+use Rattle.demands.specs.Calculator.{Calculator, Promises, Answers, Listed}
 use Rattle.demands.specs.Calculator.{none as no-call, more as one-more}
 use Rattle.demands.specs.Demands.{Called, Lent, Demand1, Demand2, Demand3}
 use Rattle.demands.specs.Demands.{fresh, edit, write, recording, quote}
-use Rattle.demands.specs.Table.{Row, first}
-use Rattle.demands.proofs.Tables.{first-holds, first-none, fresh-rows, edit-rows, write-rows, record-rows, quote-rows}
+use Rattle.demands.proofs.Agreement.{report-figures}
 
 -- a refused call that fills a lent buffer leaves it
-kept-buffer : {octets before after : List ℕ} {o : Result ℕ} {w : Written} (k : ℕ) → Write octets o before after w → answerOf (wrote w) ≡ refused k → after ≡ before
+kept-buffer : {octets before after : List ℕ} {o : Result ℕ} {w : Written} (k : Refusal) → Write octets o before after w → answerOf (wrote w) ≡ refused k → after ≡ before
 kept-buffer {octets} {before} {after} {o} k x e = x .buffer ∙ ap (written octets before) (refused-as o k (sym e ∙ ap answerOf (x .answer)))
 
 -- a quotation that answers that it was accepted quotes
 was-quoted : (q : Quotation) → saidQuotation q ≡ accepted tt → (x : Quote) × (q ≡ Quoted x)
 was-quoted (Quoted x) e = (x, refl)
-was-quoted (Refused r) e = absurd (never tt (number r) e)
+was-quoted (Refused r) e = absurd (never tt r e)
 
 module _ (c : Calculator) (keeps : Promises c) where
   -- ---- demand 1
 
   by-rows : {rows : List Row} {a : Result (Unit {0})} → Called c rows a → a ≡ first rows
-  by-rows (fresh {n} x) = keeps .freshes x .answer ∙ fresh-rows n
-  by-rows (edit {p} {call} x) = keeps .edits x .answer ∙ edit-rows (view p) call
-  by-rows (write {p} {before} x) = ap answerOf (keeps .writes x .answer) ∙ write-rows (view p) before
-  by-rows (recording {p} {before} x) = ap answerOf (keeps .records x .answer) ∙ record-rows (view p) before
-  by-rows (quote {which} {p} {before} x) = keeps .quotes x .answer ∙ answer-unit (quoteRule (view p) before) ∙ quote-rows (view p) before
-    where
-      answer-unit : (o : Result (Unit {0})) → o ≡ answerOf o
-      answer-unit (accepted tt) = refl
-      answer-unit (refused k) = refl
+  unfolding freshRule writeRule recordRule quoteRule
+  by-rows (fresh {n} x) = keeps .freshes x .answer ∙ answer-first (freshRows n) (freshGraph n)
+  by-rows (edit {p} {call} x) = keeps .edits x .answer ∙ answer-first (rowsOf (view p) call) (effectOf (view p) call)
+  by-rows (write {p} {before} x) = ap answerOf (keeps .writes x .answer) ∙ answer-first (writeRows (view p) before) _
+  by-rows (recording {p} {before} x) = ap answerOf (keeps .records x .answer) ∙ answer-first (recordRows (view p) before) _
+  by-rows (quote {which} {p} {before} x) = keeps .quotes x .answer
 
-  stays : {before after : List ℕ} {a : Result (Unit {0})} (k : ℕ) → Lent c before after a → a ≡ refused k → after ≡ before
+  stays : {before after : List ℕ} {a : Result (Unit {0})} (k : Refusal) → Lent c before after a → a ≡ refused k → after ≡ before
   stays k (write {p} {before} x) e = kept-buffer k (keeps .writes x) e
   stays k (recording {p} {before} x) e = kept-buffer k (keeps .records x) e
   stays k (quote {which} {p} {before} x) e = keeps .quotes x .kept k (sym (keeps .quotes x .answer) ∙ e)
@@ -76,25 +73,24 @@ module _ (c : Calculator) (keeps : Promises c) where
     plan-stays = λ {p} {call} {e} k x r. refused-keeps p (step (view p) call) e k (keeps .edits x) (refused-as (step (view p) call) k (sym r ∙ keeps .edits x .answer));
     none-made = λ {n} {e} k x r. refused-keeps noPlan (freshRule n) e k (keeps .freshes x) (refused-as (freshRule n) k (sym r ∙ keeps .freshes x .answer));
     lent-stay = stays;
-    only-grounds = λ {rows} k x r. first-holds rows k (sym (by-rows x) ∙ r);
-    otherwise = λ {rows} x h. by-rows x ∙ first-none rows h;
+    only-grounds = λ {rows} k x r. only-grounds rows tt k (sym (by-rows x) ∙ r);
+    otherwise = λ {rows} x h. by-rows x ∙ accepted-where rows tt h;
   }
 
   -- ---- demand 2
 
   -- what an accepted quotation says, and that its plan is within the limits
   said-of : {which : Which} {p : Plan} {before after : List ℕ} (q : Quote) → c .quotes which p before after (Quoted q)
-      → says which (view p) (meant (q .figure)) (q .k) (q .j) before after
+      → Stated (says which (view p)) q before after
   said-of q x = keeps .quotes x .quoted q refl
 
   quoted-within : {which : Which} {p : Plan} {before after : List ℕ} (q : Quote) → c .quotes which p before after (Quoted q) → within (view p) ≡ true
   unfolding quoteRule
   quoted-within {which} {p} {before} q x =
-      let g : Graph = view p in
-      holds (within g) PlanLimits (then-accepted (givenPlan g) (refuseIf (ltb (length before) (states g)) BufferLength) tt (sym (keeps .quotes x .answer)) .0)
+      not-false (within (view p)) (accepted-only (quoteRows (view p) before) tt tt (sym (keeps .quotes x .answer)) .0 .0)
 
   pub demand-2 : Demand2 c
-  unfolding leastDelay greatestDelay leastCount greatestCount
+  unfolding figureFor
   demand-2 = record {
     written-image = λ {p} {before} n x.
         let a : writeRule (view p) before ≡ accepted n = sym (keeps .writes x .answer) in
@@ -132,6 +128,6 @@ module _ (c : Calculator) (keeps : Promises c) where
             (keeps .quotes (s .quoted which) .answer ∙ ap (λ (x : Graph). quoteRule x (s .places-before which)) (r .2)
             ∙ quote-done g (s .places-before which) (listed-within (s .n) (s .calls) (s .n-ok)) (le-ltb (length (s .places-before which)) (states g) room));
         right = λ which q e.
-            subst (λ (x : Graph). says which x (meant (q .figure)) (q .k) (q .j) (s .places-before which) (s .places-after which)) (r .2)
+            subst (λ (x : Graph). Stated (says which x) q (s .places-before which) (s .places-after which)) (r .2)
             (keeps .quotes (s .quoted which) .quoted q e);
       }

@@ -11,8 +11,10 @@ use native.Mathlib.Omega.{arith}
 use lib.Dec.{eqb}
 use lib.ListN.{length, getD, take, drop, replicate}
 use Rattle.field.specs.Field.{Octets}
-use Rattle.graph.specs.Compute.{any, leastDelay, greatestDelay, leastCount, greatestCount}
-use Rattle.graph.specs.Figure.{Figure, number, NONE, STRANDED, ENDLESS, kind, value, Shown, countCost}
+use Rattle.graph.specs.declared.Which.{Which}
+use Rattle.graph.specs.declared.Which.the-variants.{LeastDelay, GreatestDelay, LeastCount, GreatestCount}
+use Rattle.graph.specs.Compute.{any, figureFor}
+use Rattle.graph.specs.Figure.{Figure, number, NONE, STRANDED, ENDLESS, kind, value, Shown, costFor}
 use Rattle.graph.specs.Graph.{Graph, state, marksOf, start, final, counted, transition, from, to, low, high}
 use Rattle.graph.specs.Known.{Row, plan, join as to-join, P1, P2, P6}
 use Rattle.graph.specs.Route.{number-on}
@@ -23,60 +25,52 @@ use Rattle.rules.specs.declared.Quotation.the-variants.{Quoted}
 use Rattle.rules.specs.declared.Quote.{Quote}
 use Rattle.rules.specs.declared.Refusal.{Refusal}
 use Rattle.rules.specs.declared.Written.the-variants.{Length}
-use Rattle.rules.specs.Calls.{Call, mark, join, read, run, runFresh}
+use Rattle.rules.specs.Calls.{Call, mark, join, read, rowsOf, run, runFresh}
 use Rattle.rules.specs.Image.{image}
 use Rattle.rules.specs.Limits.{within, all, stateCountOk}
-use Rattle.rules.specs.Quotations.{meant}
-use Rattle.rules.specs.Refusal.{number as numberOf, said}
-use Rattle.rules.specs.Rules.{freshGraph, markRule, joinRule}
-use Rattle.rules.proofs.Basic.{octets, image-of-plan}
+use Rattle.rules.specs.Quotations.{says, meant}
+use Rattle.rules.specs.Refusal.{said}
+use Rattle.rules.specs.Rules.{freshGraph}
+use Rattle.rules.specs.Table.{first}
+use Rattle.rules.proofs.Basic.{octets, image-of-plan, read-known}
 use Rattle.rules.proofs.ReadWrite.{image-octets, length-image}
 use Rattle.rules.proofs.Results.{never}
 use Rattle.plan.specs.declared.Edited.{Edited}
 use Rattle.plan.specs.declared.Plan.{Plan}
 use Rattle.plan.specs.View.{view}
-use Rattle.demands.specs.Calculator.{Calculator, Which, says, figureOf, least-delay, greatest-delay, least-count, greatest-count}
+use Rattle.demands.specs.Calculator.{Calculator}
 use Rattle.demands.specs.Demands.{Demand1, Demand2, OneClaim, Session, edit}
-use Rattle.demands.specs.Table.{first, editRows}
-use Rattle.demands.proofs.Basic.{read-known}
 
 -- ---- demand 3: the figures
 
 -- the figure of an accepted quotation is the one by computation
-figure-said : (which : Which) (g : Graph) (f : Figure) (k j : ℕ) (before after : List ℕ) → says which g f k j before after → f ≡ figureOf which g
-unfolding leastDelay greatestDelay leastCount greatestCount
-figure-said least-delay g f k j before after x = x .figure
-figure-said greatest-delay g f k j before after x = x .figure
-figure-said least-count g f k j before after x = x .figure
-figure-said greatest-count g f k j before after x = x .figure
-
--- a row's figure
-entry : Which → Row → Figure
-entry least-delay r = r .least-delay
-entry greatest-delay r = r .greatest-delay
-entry least-count r = r .least-count
-entry greatest-count r = r .greatest-count
+figure-said : (which : Which) (g : Graph) (f : Figure) (k j : ℕ) (before after : List ℕ) → says which g f k j before after → f ≡ figureFor which g
+unfolding figureFor
+figure-said LeastDelay g f k j before after x = x .figure
+figure-said GreatestDelay g f k j before after x = x .figure
+figure-said LeastCount g f k j before after x = x .figure
+figure-said GreatestCount g f k j before after x = x .figure
 
 -- beside P1, a plan with another figure: P2, and for the least count P6
 other : Which → Row
-other least-delay = P2
-other greatest-delay = P2
-other least-count = P6
-other greatest-count = P2
+other LeastDelay = P2
+other GreatestDelay = P2
+other LeastCount = P6
+other GreatestCount = P2
 
-first-known : (which : Which) → figureOf which (P1 .plan) ≡ entry which P1
-unfolding leastDelay greatestDelay leastCount greatestCount any marksOf start final counted transition from to low high entry
-first-known least-delay = refl
-first-known greatest-delay = refl
-first-known least-count = refl
-first-known greatest-count = refl
+first-known : (which : Which) → figureFor which (P1 .plan) ≡ P1 .figures which
+unfolding figureFor any marksOf start final counted transition from to low high
+first-known LeastDelay = refl
+first-known GreatestDelay = refl
+first-known LeastCount = refl
+first-known GreatestCount = refl
 
-other-known : (which : Which) → figureOf which (other which .plan) ≡ entry which (other which)
-unfolding leastDelay greatestDelay leastCount greatestCount any marksOf start final counted transition from to low high entry other
-other-known least-delay = refl
-other-known greatest-delay = refl
-other-known least-count = refl
-other-known greatest-count = refl
+other-known : (which : Which) → figureFor which (other which .plan) ≡ other which .figures which
+unfolding figureFor any marksOf start final counted transition from to low high other
+other-known LeastDelay = refl
+other-known GreatestDelay = refl
+other-known LeastCount = refl
+other-known GreatestCount = refl
 
 -- a list of calls from a fresh plan makes the plan; so it is with these three
 pub record Listable (g : Graph) : Type 0 where
@@ -86,7 +80,7 @@ pub record Listable (g : Graph) : Type 0 where
   pub makes : runFresh n calls .last ≡ g
 
 pub first-listable : Listable (P1 .plan)
-unfolding run markRule joinRule within all
+unfolding run within all
 first-listable = record {
   n = 4;
   n-ok = refl;
@@ -95,11 +89,11 @@ first-listable = record {
 }
 
 one-state : Listable (P2 .plan)
-unfolding run markRule within all
+unfolding run within all
 one-state = record { n = 1; n-ok = refl; calls = mark 0 7 ∷ []; makes = refl }
 
 two-states : Listable (P6 .plan)
-unfolding run markRule joinRule within all
+unfolding run within all
 two-states = record {
   n = 2;
   n-ok = refl;
@@ -109,10 +103,10 @@ two-states = record {
 
 other-listable : (which : Which) → Listable (other which .plan)
 unfolding other
-other-listable least-delay = one-state
-other-listable greatest-delay = one-state
-other-listable least-count = two-states
-other-listable greatest-count = one-state
+other-listable LeastDelay = one-state
+other-listable GreatestDelay = one-state
+other-listable LeastCount = two-states
+other-listable GreatestCount = one-state
 
 module _ (c : Calculator) where
   -- a session whose list of calls makes the plan g, and of which demand 3's claim holds, quotes the figure f
@@ -125,23 +119,22 @@ module _ (c : Calculator) where
     pub figure : meant (quote .figure) ≡ f
 
   -- then f is g's figure
-  heard : (g : Graph) (which : Which) (f : Figure) → Heard g which f → f ≡ figureOf which g
+  heard : (g : Graph) (which : Which) (f : Figure) → Heard g which f → f ≡ figureFor which g
   heard g which f h =
       let s = h .session in
       sym (h .figure)
       ∙ figure-said which (runFresh (s .n) (s .calls) .last) _ _ _ _ _ (h .demand .right which (h .quote) (h .quoted))
-      ∙ ap (figureOf which) (h .makes)
+      ∙ ap (figureFor which) (h .makes)
 
   -- "a calculator that says NONE, STRANDED or ENDLESS before looking": P1 has none of the four
   number-there : (which : Which) (f : Figure) → Heard (P1 .plan) which f → kind f ≡ 0
-  unfolding entry
   number-there which f h = ap kind (heard (P1 .plan) which f h ∙ first-known which) ∙ go which
     where
-      go : (which : Which) → kind (entry which P1) ≡ 0
-      go least-delay = refl
-      go greatest-delay = refl
-      go least-count = refl
-      go greatest-count = refl
+      go : (which : Which) → kind (P1 .figures which) ≡ 0
+      go LeastDelay = refl
+      go GreatestDelay = refl
+      go LeastCount = refl
+      go GreatestCount = refl
 
   pub says-none : (which : Which) → Heard (P1 .plan) which NONE → ⊥
   says-none which h = let z : _≡_ {A = ℕ} 1 0 = number-there which NONE h in omega arith
@@ -154,25 +147,25 @@ module _ (c : Calculator) where
 
   -- "one that quotes a fixed figure": for every figure there is a plan of which it is not quoted, P1 or the other one
   pub fixed-figure : (which : Which) (f : Figure) → (g : Graph) × Listable g × (Heard g which f → ⊥)
-  unfolding entry other
-  fixed-figure which f = go (eqb (value f) (value (entry which P1))) refl
+  unfolding other
+  fixed-figure which f = go (eqb (value f) (value (P1 .figures which))) refl
     where
-      differ : (which : Which) → value (entry which P1) ≡ value (entry which (other which)) → ⊥
-      differ least-delay e = let z : _≡_ {A = ℕ} 7 0 = e in omega arith
-      differ greatest-delay e = let z : _≡_ {A = ℕ} 60 0 = e in omega arith
-      differ least-count e = let z : _≡_ {A = ℕ} 1 0 = e in omega arith
-      differ greatest-count e = let z : _≡_ {A = ℕ} 2 1 = e in omega arith
+      differ : (which : Which) → value (P1 .figures which) ≡ value (other which .figures which) → ⊥
+      differ LeastDelay e = let z : _≡_ {A = ℕ} 7 0 = e in omega arith
+      differ GreatestDelay e = let z : _≡_ {A = ℕ} 60 0 = e in omega arith
+      differ LeastCount e = let z : _≡_ {A = ℕ} 1 0 = e in omega arith
+      differ GreatestCount e = let z : _≡_ {A = ℕ} 2 1 = e in omega arith
 
-      go : (b : Bool) → eqb (value f) (value (entry which P1)) ≡ b → (g : Graph) × Listable g × (Heard g which f → ⊥)
+      go : (b : Bool) → eqb (value f) (value (P1 .figures which)) ≡ b → (g : Graph) × Listable g × (Heard g which f → ⊥)
       go true e = (
         other which .plan,
         other-listable which,
-        λ h. differ which (sym (eqb-true (value f) (value (entry which P1)) e) ∙ ap value (heard (other which .plan) which f h ∙ other-known which)),
+        λ h. differ which (sym (eqb-true (value f) (value (P1 .figures which)) e) ∙ ap value (heard (other which .plan) which f h ∙ other-known which)),
       )
       go false e = (
         P1 .plan,
         first-listable,
-        λ h. eqb-false (value f) (value (entry which P1)) e (ap value (heard (P1 .plan) which f h ∙ first-known which)),
+        λ h. eqb-false (value f) (value (P1 .figures which)) e (ap value (heard (P1 .plan) which f h ∙ first-known which)),
       )
 
   module _ (s : Session c) (d : OneClaim c s) where
@@ -181,36 +174,36 @@ module _ (c : Calculator) where
     after-list = runFresh (s .n) (s .calls) .last
 
     -- "one that quotes a handover count which its walk lacks": from some start the shown walk has just that many counted states
-    counts-shown : (f : Figure) (x k j : ℕ) (places : List ℕ) → f ≡ number x → Shown after-list (countCost after-list) f (take k places) j
+    counts-shown : (f : Figure) (x k j : ℕ) (places : List ℕ) → f ≡ number x → Shown after-list (costFor LeastCount after-list) f (take k places) j
         → ((first : ℕ) → Begins after-list first → number-on after-list (counted after-list) first (take k places) ≡ x → ⊥) → ⊥
     counts-shown f x k j places e shown lacks =
         let (first, b, n) = shown-count after-list (counted after-list) x (take k places) j
-        (subst (λ (f : Figure). Shown after-list (countCost after-list) f (take k places) j) e shown) in
+        (subst (λ (f : Figure). Shown after-list (costFor LeastCount after-list) f (take k places) j) e shown) in
         lacks first b n
 
-    pub least-count-lacking : (q : Quote) (x : ℕ) → s .quotation least-count ≡ Quoted q → meant (q .figure) ≡ number x
-        → ((first : ℕ) → Begins after-list first → number-on after-list (counted after-list) first (take (q .k) (s .places-after least-count)) ≡ x → ⊥) → ⊥
-    least-count-lacking q x e f = counts-shown _ x (q .k) (q .j) (s .places-after least-count) f (d .right least-count q e .shows .walk)
+    pub least-count-lacking : (q : Quote) (x : ℕ) → s .quotation LeastCount ≡ Quoted q → meant (q .figure) ≡ number x
+        → ((first : ℕ) → Begins after-list first → number-on after-list (counted after-list) first (take (q .k) (s .places-after LeastCount)) ≡ x → ⊥) → ⊥
+    least-count-lacking q x e f = counts-shown _ x (q .k) (q .j) (s .places-after LeastCount) f (d .right LeastCount q e .shows .walk)
 
-    pub greatest-count-lacking : (q : Quote) (x : ℕ) → s .quotation greatest-count ≡ Quoted q → meant (q .figure) ≡ number x
-        → ((first : ℕ) → Begins after-list first → number-on after-list (counted after-list) first (take (q .k) (s .places-after greatest-count)) ≡ x → ⊥) → ⊥
-    greatest-count-lacking q x e f = counts-shown _ x (q .k) (q .j) (s .places-after greatest-count) f (d .right greatest-count q e .shows .walk)
+    pub greatest-count-lacking : (q : Quote) (x : ℕ) → s .quotation GreatestCount ≡ Quoted q → meant (q .figure) ≡ number x
+        → ((first : ℕ) → Begins after-list first → number-on after-list (counted after-list) first (take (q .k) (s .places-after GreatestCount)) ≡ x → ⊥) → ⊥
+    greatest-count-lacking q x e f = counts-shown _ x (q .k) (q .j) (s .places-after GreatestCount) f (d .right GreatestCount q e .shows .walk)
 
     -- "one that obeys the first edit and merely acknowledges the rest": it marks state 0 with 4, says that it marked it with 2, and holds 4
     pub acknowledges-the-rest : s .n ≡ 1 → s .calls ≡ mark 0 4 ∷ mark 0 2 ∷ [] → view (s .last) ≡ plan (4 ∷ []) [] → ⊥
-    unfolding run markRule within all
+    unfolding run within all
     acknowledges-the-rest n calls last =
         let e : plan (4 ∷ []) [] ≡ plan (2 ∷ []) [] = sym last ∙ d .plan ∙ ap₂ (λ (k : ℕ) (l : List Call). runFresh k l .last) n calls in
         let z : _≡_ {A = ℕ} 4 2 = ap (λ (g : Graph). (state g 0) .marks) e in
         omega arith
 
     -- and one that hides it, and quotes: after mark 0 4 and mark 0 6 state 0 is final, and who obeyed only the first calls it a dead end
-    pub quotes-the-first : s .n ≡ 1 → s .calls ≡ mark 0 4 ∷ mark 0 6 ∷ [] → (q : Quote) → s .quotation greatest-delay ≡ Quoted q
+    pub quotes-the-first : s .n ≡ 1 → s .calls ≡ mark 0 4 ∷ mark 0 6 ∷ [] → (q : Quote) → s .quotation GreatestDelay ≡ Quoted q
         → meant (q .figure) ≡ STRANDED → ⊥
-    unfolding run markRule within all greatestDelay any marksOf start final counted transition from to low high
+    unfolding run within all figureFor any marksOf start final counted transition from to low high
     quotes-the-first n calls q e f =
         let h : STRANDED ≡ number 0 =
-        heard (plan (6 ∷ []) []) greatest-delay STRANDED
+        heard (plan (6 ∷ []) []) GreatestDelay STRANDED
         (record {
           session = s;
           demand = d;
@@ -249,9 +242,9 @@ module _ (c : Calculator) where
     -- "one that turns all images away": also one that it wrote itself
     pub turns-its-own-away : {p old : Plan} {before after : List ℕ} {e : Edited} (n : ℕ) (r : Refusal) → within (view old) ≡ true
         → c .writes p before after (Length n) → c .edits old (read (take n after)) e → e .answer ≡ Refused r → ⊥
-    turns-its-own-away n r w x y a = never tt (numberOf r) (ap said (sym a ∙ d .reads-back n w x y .0))
+    turns-its-own-away n r w x y a = never tt r (ap said (sym a ∙ d .reads-back n w x y .0))
 
   -- and, by the table, the known octets
   pub turns-images-away : Demand1 c → {p : Plan} {e : Edited} (r : Refusal) → view p ≡ freshGraph 1 → c .edits p (read octets) e → e .answer ≡ Refused r → ⊥
   turns-images-away d {p} {e} r v x a =
-      never tt (numberOf r) (ap said (sym a) ∙ d .by-number (edit x) ∙ ap (λ (g : Graph). first (editRows g (read octets))) v ∙ read-known)
+      never tt r (ap said (sym a) ∙ d .by-number (edit x) ∙ ap (λ (g : Graph). first (rowsOf g (read octets))) v ∙ read-known)

@@ -1,7 +1,7 @@
--- The table on small calls.
+-- Demand 2's sentence about the report, on small plans.
 pub mod Basic
--- The rules of the calls are the table.
-pub mod Tables
+-- The report's procedures and the figures of every plan within the limits.
+pub mod Agreement
 -- The demands, of whatever keeps the promises.
 pub mod Demands
 -- What breaks them.

@@ -2,9 +2,13 @@
 -- figures (rules' `record-read`). Assumes nothing.
 use mathlib.Core.List.{List, [], _∷_, _++_}
 use mathlib.Core.Path.{_≡_, sym, ap, _∙_}
-use Prim.Native.Nat.{ℕ}
+use Prim.Native.Nat.{ℕ, _*_}
 use lib.ListN.{getD, drop}
 use Rattle.field.specs.Field.{Field, unpack}
+use Rattle.graph.specs.declared.Which.{Which}
+use Rattle.graph.specs.declared.Which.the-variants.{LeastDelay, GreatestDelay, LeastCount, GreatestCount}
+use Rattle.graph.specs.Which.{place}
+use Rattle.graph.specs.Compute.{figureFor}
 use Rattle.graph.specs.Graph.{Graph}
 use Rattle.rules.specs.declared.Written.the-variants.{Length}
 use Rattle.rules.specs.Image.{field}
@@ -15,24 +19,31 @@ use Rattle.rules.proofs.Record.{length-record, accepted-record, record-read}
 use Rattle.plan.specs.declared.Plan.{Plan}
 use Rattle.plan.specs.View.{view}
 use Rattle.demands.specs.Calculator.{Calculator, Promises}
-use Rattle.demands.specs.Record.{Recorded}
+use Rattle.demands.specs.Record.{FigureAt, Recorded}
 
 valueAt : ℕ → List Field → ℕ
 valueAt i fs = getD fs i (field 0 0) .value
 
+-- the eight fields at the front of octets
+abbrev fields : List ℕ → List Field
+fields os = unpack os 0 (2 ∷ 20 ∷ 2 ∷ 20 ∷ 2 ∷ 20 ∷ 2 ∷ 20 ∷ [])
+
+at : {g : Graph} {os : List ℕ} → fields os ≡ recordFields g → (which : Which) → FigureAt os (22 * place which) (figureFor which g)
+unfolding recordFields unpack valueAt
+at f LeastDelay = (ap (valueAt 0) f, ap (valueAt 1) f)
+at f GreatestDelay = (ap (valueAt 2) f, ap (valueAt 3) f)
+at f LeastCount = (ap (valueAt 4) f, ap (valueAt 5) f)
+at f GreatestCount = (ap (valueAt 6) f, ap (valueAt 7) f)
+
 pub recorded : (c : Calculator) → Promises c → {p : Plan} {before after : List ℕ} (n : ℕ) → c .records p before after (Length n)
     → Recorded (view p) before after
-unfolding recordFields unpack valueAt
 recorded c keeps {p} {before} {after} n x =
     let g : Graph = view p in
     let a : recordRule g before ≡ accepted n = sym (keeps .records x .answer) in
     let e : after ≡ recordOctets g ++ drop n before = keeps .records x .buffer ∙ ap (written (recordOctets g) before) a in
-    let f = ap (λ (os : List ℕ). unpack os 0 (2 ∷ 20 ∷ 2 ∷ 20 ∷ 2 ∷ 20 ∷ 2 ∷ 20 ∷ [])) e ∙ record-read g before n a (drop n before) in
+    let f : fields after ≡ recordFields g = ap (λ (os : List ℕ). fields os) e ∙ record-read g before n a (drop n before) in
     record {
       octets = e ∙ ap {B = List ℕ} (λ (k : ℕ). recordOctets g ++ drop k before) (accepted-record g before n a .0);
       long = length-record g;
-      least-delay = (ap (valueAt 0) f, ap (valueAt 1) f);
-      greatest-delay = (ap (valueAt 2) f, ap (valueAt 3) f);
-      least-count = (ap (valueAt 4) f, ap (valueAt 5) f);
-      greatest-count = (ap (valueAt 6) f, ap (valueAt 7) f);
+      each = at f;
     }

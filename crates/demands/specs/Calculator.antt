@@ -1,37 +1,18 @@
 -- A calculator as its callers see it, and what is published of it. Assumes nothing.
 use mathlib.Core.List.{List, [], _∷_}
 use Prim.Native.Nat.{ℕ}
-use Rattle.graph.specs.Compute.{leastDelay, greatestDelay, leastCount, greatestCount}
-use Rattle.graph.specs.Figure.{Figure}
-use Rattle.graph.specs.Graph.{Graph}
+use Rattle.graph.specs.declared.Which.{Which}
 use Rattle.rules.specs.declared.Answer.{Answer}
 use Rattle.rules.specs.declared.Quotation.{Quotation}
 use Rattle.rules.specs.declared.Written.{Written}
 use Rattle.rules.specs.Calls.{Call, step}
 use Rattle.rules.specs.Image.{image}
-use Rattle.rules.specs.Quotations.{Says, Quotes, LeastDelay, GreatestDelay, LeastCount, GreatestCount, recordOctets, recordRule}
+use Rattle.rules.specs.Quotations.{Quotes, Write, recordOctets, recordRule}
 use Rattle.rules.specs.Rules.{freshRule, writeRule}
 use Rattle.plan.specs.declared.Edited.{Edited}
 use Rattle.plan.specs.declared.Plan.{Plan}
-use Rattle.plan.specs.Promise.{Edit, Write}
+use Rattle.plan.specs.Promise.{Edit}
 use Rattle.plan.specs.View.{view, noPlan}
-
--- the four quotations, and what an accepted one says
-pub data Which : Type 0 where
-  least-delay greatest-delay least-count greatest-count : Which
-
-abbrev pub says : Which → Graph → Says
-says least-delay = LeastDelay
-says greatest-delay = GreatestDelay
-says least-count = LeastCount
-says greatest-count = GreatestCount
-
--- its figure, by computation
-abbrev pub figureOf : Which → Graph → Figure
-figureOf least-delay = leastDelay
-figureOf greatest-delay = greatestDelay
-figureOf least-count = leastCount
-figureOf greatest-count = greatestCount
 
 -- a calculator: what comes back of what it is given. Lent places are seen as they stand before the call and after it. Each call is a relation, so
 -- that nothing is taken for granted: neither that something comes back, nor that it is always the same
@@ -51,7 +32,7 @@ pub record Promises (c : Calculator) : Type 0 where
   pub records : {p : Plan} {before after : List ℕ} {w : Written} → c .records p before after w
       → Write (recordOctets (view p)) (recordRule (view p) before) before after w
   pub quotes : {which : Which} {p : Plan} {before after : List ℕ} {q : Quotation} → c .quotes which p before after q
-      → Quotes (says which (view p)) (view p) before after q
+      → Quotes which (view p) before after q
 
 -- it answers whatever it is given. (Of the code the check of each function says so, for all that a machine can hold.)
 pub record Answers (c : Calculator) : Type 0 where

@@ -1,7 +1,7 @@
 -- THE THREE DEMANDS: a record for each, a field for each of its sentences, in their words and order. proofs/Demands.antt proves them of every
 -- calculator that keeps the published promises and answers (`demand-1`, `demand-2`, `demand-3`).
 --
--- To be read before: Calculator.antt (what is published) and Table.antt (the table). What it rests on: the rules of the calls, rules/specs; routes
+-- To be read before: Calculator.antt (what is published). What it rests on: the rules of the calls and their rows of the table, rules/specs; routes
 -- and figures, graph/specs; the report's procedures, report/specs. Assumes nothing.
 use mathlib.Core.Bool.{true}
 use mathlib.Core.List.{List, _++_, map}
@@ -9,12 +9,13 @@ use mathlib.Core.Path.{_≡_}
 use Prim.Native.Nat.{ℕ, _≤_}
 use lib.ListN.{length, take, drop}
 use Rattle.field.specs.Field.{Octets}
+use Rattle.graph.specs.declared.Which.{Which}
+use Rattle.graph.specs.declared.Which.the-variants.{LeastDelay, GreatestDelay, LeastCount, GreatestCount}
 use Rattle.graph.specs.Graph.{states, counted}
 use Rattle.report.specs.Bounds.{finite, lower, upper}
 use Rattle.report.specs.Counts.{mincount, maxcount}
 use Rattle.report.specs.Procedure.{Returns}
 use Rattle.report.specs.Agreement.{leastFigure, greatestFigure}
-use Rattle.agreement.specs.Report.{Premises, Gives, GivesNumber}
 use Rattle.rules.specs.declared.Answer.{Answer}
 use Rattle.rules.specs.declared.Answer.the-variants.{Accepted}
 use Rattle.rules.specs.declared.Quotation.{Quotation}
@@ -22,22 +23,25 @@ use Rattle.rules.specs.declared.Quotation.the-variants.{Quoted}
 use Rattle.rules.specs.declared.Quote.{Quote}
 use Rattle.rules.specs.declared.Written.{Written}
 use Rattle.rules.specs.declared.Written.the-variants.{Length}
-use Rattle.rules.specs.Calls.{Call, read, runFresh}
+use Rattle.rules.specs.Calls.{Call, read, rowsOf, runFresh}
 use Rattle.rules.specs.Image.{image}
 use Rattle.rules.specs.Limits.{within, stateCountOk}
-use Rattle.rules.specs.Quotations.{meant, saidQuotation}
+use Rattle.rules.specs.Quotations.{meant, saidQuotation, says, Stated, quoteRows, recordRows}
+use Rattle.rules.specs.declared.Refusal.{Refusal}
 use Rattle.rules.specs.Refusal.{Result, accepted, refused, answerOf, said, wrote}
+use Rattle.rules.specs.Rules.{freshRows, writeRows}
+use Rattle.rules.specs.Table.{Row, first, Holds, NoneHolds}
 use Rattle.plan.specs.declared.Edited.{Edited}
 use Rattle.plan.specs.declared.Plan.{Plan}
 use Rattle.plan.specs.View.{view, noPlan}
-use Rattle.demands.specs.Calculator.{Calculator, Answers, Listed, Which, says, least-delay, greatest-delay, least-count, greatest-count}
-use Rattle.demands.specs.Table.{Row, first, Holds, NoneHolds, freshRows, editRows, writeRows, recordRows, quoteRows}
+use Rattle.demands.specs.Calculator.{Calculator, Answers, Listed}
+use Rattle.demands.specs.Report.{Premises, Gives, GivesNumber}
 
 module _ (c : Calculator) where
   -- a call of the calculator: the table's rows for it, and what it answered
   pub data Called : List Row → Result (Unit {0}) → Type 0 where
     fresh : {n : ℕ} {e : Edited} → c .freshes n e → Called (freshRows n) (said (e .answer))
-    edit : {p : Plan} {call : Call} {e : Edited} → c .edits p call e → Called (editRows (view p) call) (said (e .answer))
+    edit : {p : Plan} {call : Call} {e : Edited} → c .edits p call e → Called (rowsOf (view p) call) (said (e .answer))
     write : {p : Plan} {before after : List ℕ} {w : Written} → c .writes p before after w → Called (writeRows (view p) before) (answerOf (wrote w))
     recording : {p : Plan} {before after : List ℕ} {w : Written} → c .records p before after w
         → Called (recordRows (view p) before) (answerOf (wrote w))
@@ -58,12 +62,12 @@ module _ (c : Calculator) where
     -- "Bad input is refused by its number from the table, in the table's order;
     pub by-number : {rows : List Row} {a : Result (Unit {0})} → Called rows a → a ≡ first rows
     -- a refusal changes neither the plan
-    pub plan-stays : {p : Plan} {call : Call} {e : Edited} (k : ℕ) → c .edits p call e → said (e .answer) ≡ refused k → e .plan ≡ p
-    pub none-made : {n : ℕ} {e : Edited} (k : ℕ) → c .freshes n e → said (e .answer) ≡ refused k → e .plan ≡ noPlan
+    pub plan-stays : {p : Plan} {call : Call} {e : Edited} (k : Refusal) → c .edits p call e → said (e .answer) ≡ refused k → e .plan ≡ p
+    pub none-made : {n : ℕ} {e : Edited} (k : Refusal) → c .freshes n e → said (e .answer) ≡ refused k → e .plan ≡ noPlan
     -- nor any lent buffer."
-    pub lent-stay : {before after : List ℕ} {a : Result (Unit {0})} (k : ℕ) → Lent before after a → a ≡ refused k → after ≡ before
+    pub lent-stay : {before after : List ℕ} {a : Result (Unit {0})} (k : Refusal) → Lent before after a → a ≡ refused k → after ≡ before
     -- "These grounds are the only ones."
-    pub only-grounds : {rows : List Row} {a : Result (Unit {0})} (k : ℕ) → Called rows a → a ≡ refused k → Holds k rows
+    pub only-grounds : {rows : List Row} {a : Result (Unit {0})} (k : Refusal) → Called rows a → a ≡ refused k → Holds k rows
     pub otherwise : {rows : List Row} {a : Result (Unit {0})} → Called rows a → NoneHolds rows → a ≡ accepted tt
 
   -- DEMAND 2
@@ -82,14 +86,14 @@ module _ (c : Calculator) where
         → (w ≡ Length (length octets)) × (after ≡ octets ++ drop (length octets) before)
     -- "On the plans that demand 2 names, the figures are those of the report's lower, upper, mincount and maxcount: lower and upper where all
     -- durations are 1, some state is marked start and every unfinished state has a transition out;
-    pub lower-is : {p : Plan} {before after : List ℕ} (q : Quote) → Premises (view p) → c .quotes least-delay p before after (Quoted q)
+    pub lower-is : {p : Plan} {before after : List ℕ} (q : Quote) → Premises (view p) → c .quotes LeastDelay p before after (Quoted q)
         → Gives (lower (view p)) leastFigure (meant (q .figure))
-    pub upper-is : {p : Plan} {before after : List ℕ} (q : Quote) → Premises (view p) → c .quotes greatest-delay p before after (Quoted q)
+    pub upper-is : {p : Plan} {before after : List ℕ} (q : Quote) → Premises (view p) → c .quotes GreatestDelay p before after (Quoted q)
         → Gives (upper (view p)) greatestFigure (meant (q .figure))
     -- mincount and maxcount there too wherever upper is finite."
-    pub mincount-is : {p : Plan} {before after : List ℕ} (q : Quote) → Premises (view p) → c .quotes least-count p before after (Quoted q)
+    pub mincount-is : {p : Plan} {before after : List ℕ} (q : Quote) → Premises (view p) → c .quotes LeastCount p before after (Quoted q)
         → (i : ℕ) → Returns (upper (view p)) (finite i) → GivesNumber (mincount (view p) (counted (view p))) (meant (q .figure))
-    pub maxcount-is : {p : Plan} {before after : List ℕ} (q : Quote) → Premises (view p) → c .quotes greatest-count p before after (Quoted q)
+    pub maxcount-is : {p : Plan} {before after : List ℕ} (q : Quote) → Premises (view p) → c .quotes GreatestCount p before after (Quoted q)
         → (i : ℕ) → Returns (upper (view p)) (finite i) → GivesNumber (maxcount (view p) (counted (view p))) (meant (q .figure))
 
   -- a list of calls from a fresh plan, what came back, and the four quotations of the plan after it: what was called, and what was heard
@@ -119,7 +123,7 @@ pub record OneClaim (c : Calculator) (s : Session c) : Type 0 where
       → (q : Quote) × (s .quotation which ≡ Quoted q)
   -- "is right, with the walk shown, as 01's "Routes and figures" says."
   pub right : (which : Which) (q : Quote) → s .quotation which ≡ Quoted q
-      → says which (runFresh (s .n) (s .calls) .last) (meant (q .figure)) (q .k) (q .j) (s .places-before which) (s .places-after which)
+      → Stated (says which (runFresh (s .n) (s .calls) .last)) q (s .places-before which) (s .places-after which)
 
 abbrev pub Demand3 : Calculator → Type 0
 Demand3 c = (s : Session c) → OneClaim c s

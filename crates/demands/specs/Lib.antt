@@ -1,4 +1,4 @@
 pub mod Calculator
-pub mod Table
+pub mod Report
 pub mod Demands
 pub mod Record

@@ -18,10 +18,9 @@ use Rattle.report.proofs.Figures.{agreement}
 use Rattle.report.proofs.Premises.{report-plan, of-report-plan}
 use Rattle.rules.specs.Calls.{Call, mark, join, run, runFresh}
 use Rattle.rules.specs.Limits.{all, within, stateCountOk}
-use Rattle.rules.specs.Rules.{markRule, joinRule}
 use Rattle.rules.proofs.Figures.{within-closed, least-one, greatest-one, listed-within}
-use Rattle.agreement.specs.Report.{Premises, ReportFigures}
-use Rattle.agreement.proofs.Basic.{steps}
+use Rattle.demands.specs.Report.{Premises, ReportFigures}
+use Rattle.demands.proofs.Basic.{steps}
 
 module _ (g : Graph) (w : within g ≡ true) (p : Premises g) where
   agrees : Agreement g
@@ -60,7 +59,7 @@ steps-calls =
     ∷ join (step 0 1) ∷ join (step 1 2) ∷ join (step 1 3) ∷ join (step 2 3) ∷ []
 
 pub steps-listed : runFresh 4 steps-calls .last ≡ steps
-unfolding run markRule joinRule within all
+unfolding run within all
 steps-listed = refl
 
 pub steps-premises : Premises steps
