@@ -21,3 +21,10 @@ figure-unique LeastDelay g f h p q = least-unique g (costFor LeastDelay g) f h p
 figure-unique GreatestDelay g f h p q = greatest-unique g (costFor GreatestDelay g) f h p q
 figure-unique LeastCount g f h p q = least-unique g (costFor LeastCount g) f h p q
 figure-unique GreatestCount g f h p q = greatest-unique g (costFor GreatestCount g) f h p q
+
+-- what holds of each of the four holds of every one
+pub each-of : (P : Which → Type 0) → P LeastDelay → P GreatestDelay → P LeastCount → P GreatestCount → (which : Which) → P which
+each-of P a b c d LeastDelay = a
+each-of P a b c d GreatestDelay = b
+each-of P a b c d LeastCount = c
+each-of P a b c d GreatestCount = d

@@ -3,7 +3,8 @@
 use mathlib.Core.Bool.{true, false}
 use mathlib.Core.List.{[], _∷_}
 use mathlib.Core.Path.{_≡_, refl}
-use Rattle.arrays.specs.Tables.{tabulate, transition}
+use Rattle.arrays.specs.Tables.{transition}
+use Rattle.rules.specs.Image.{tabulate}
 use Rattle.rules.specs.Calls.{mark, join, unjoin, read}
 use Rattle.rules.specs.Limits.{all}
 use Rattle.replay.specs.Slices.{callsIn, areCalls}

@@ -9,8 +9,8 @@ use native.Mathlib.Omega.{arith}
 use borrow.Author.Tests.{le-leb}
 use lib.ListN.{length, getD, take, drop, length-append}
 use lib.Seq.{take-at, drop-at}
-use Rattle.arrays.specs.Tables.{tabulate}
-use Rattle.arrays.proofs.Lists.{tabulate-same, all-tabulate}
+use Rattle.rules.specs.Image.{tabulate}
+use Rattle.rules.proofs.Tabulated.{tabulate-same, all-tabulate}
 use Rattle.rules.specs.Calls.{Call, mark, join, unjoin, read}
 use Rattle.rules.specs.Limits.{stateCountOk}
 use Rattle.replay.specs.Slices.{Item, itemAt, callIn, isCall, callsIn, areCalls}

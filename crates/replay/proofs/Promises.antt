@@ -9,16 +9,20 @@ use native.Mathlib.Omega.{arith}
 use borrow.Author.Tests.{leb-true}
 use lib.Dec.{leb}
 use lib.ListN.{length}
+use Rattle.graph.specs.declared.Which.{Which}
+use Rattle.graph.specs.declared.Which.the-variants.{LeastDelay, GreatestDelay, LeastCount, GreatestCount}
+use Rattle.graph.proofs.Figures.{each-of}
 use Rattle.graph.specs.Graph.{Graph}
 use Rattle.arrays.specs.Tables.{over}
-use Rattle.arrays.proofs.Lists.{all-at}
+use Rattle.rules.proofs.Tabulated.{all-at}
 use Rattle.rules.specs.Calls.{Call, run}
 use Rattle.rules.specs.Limits.{stateCountOk}
 use Rattle.rules.specs.declared.Quotation.{Quotation}
-use Rattle.rules.specs.Quotations.{Says, Quotes, saidQuotation, quoteRule}
+use Rattle.rules.specs.declared.Refusal.the-variants.{PlanLimits}
+use Rattle.rules.specs.Quotations.{Quotes, saidQuotation, quoteRule}
 use Rattle.rules.specs.Refusal.{code, refused}
 use Rattle.rules.specs.Rules.{freshRule, freshGraph, next}
-use Rattle.rules.proofs.Basic.{fresh-4, fresh-done, quote-0}
+use Rattle.rules.proofs.Basic.{fresh-refused, fresh-done, quote-limits}
 use Rattle.rules.proofs.Results.{and-true}
 use Rattle.plan.specs.declared.Edited.{Edited}
 use Rattle.plan.specs.declared.Plan.{Plan}
@@ -26,7 +30,7 @@ use Rattle.plan.specs.Promise.{Edit, nextValue}
 use Rattle.plan.specs.View.{view, laid, noPlan}
 use Rattle.plan.proofs.Values.{within-view}
 use Rattle.replay.specs.declared.Replayed.{Replayed}
-use Rattle.replay.specs.Replayed.{Walks, Four, Replays}
+use Rattle.replay.specs.Replayed.{quotationOf, Replays}
 use Rattle.replay.specs.declared.Outcome.the-variants.{Done, NoCalls}
 use Rattle.replay.specs.Applied.{Applies, Callable, InTurn, runValue}
 use Rattle.replay.specs.Slices.{itemAt, isCall, callsIn, areCalls}
@@ -37,7 +41,7 @@ module _ (n : ℕ) (kinds arguments octets before : List ℕ) where
   pub told : (e : Edited) → areCalls n kinds arguments octets before ≡ false → Edit noPlan (freshRule 0) e
       → Applies n kinds arguments octets before before (record { outcome = NoCalls; plan = e .plan })
   told e not-calls x = record {
-    no-calls = λ h. (refl, x .whole ∙ ap (nextValue noPlan) (fresh-4 0 refl), refl);
+    no-calls = λ h. (refl, x .whole ∙ ap (nextValue noPlan) (fresh-refused 0 refl), refl);
     done = λ h. absurd (never h);
     answers = λ h. absurd (never h);
     plan = λ h. absurd (never h);
@@ -83,28 +87,24 @@ module _ (n : ℕ) (kinds arguments octets before : List ℕ) where
 -- ---- the quotations
 
 -- of the plan value with no states each is refused by 0, and leaves its places
-none-quoted : {P : Says} {before after : List ℕ} {q : Quotation} → Quotes P (view noPlan) before after q → (saidQuotation q ≡ refused 0) × (after ≡ before)
-none-quoted {P} {before} x =
-    let r : quoteRule (view noPlan) before ≡ refused 0 = quote-0 (view noPlan) before (within-view noPlan) in
-    (x .answer ∙ r, x .kept 0 r)
+none-quoted : {which : Which} {before after : List ℕ} {q : Quotation} → Quotes which (view noPlan) before after q
+    → (saidQuotation q ≡ refused PlanLimits) × (after ≡ before)
+none-quoted {which} {before} x =
+    let r : quoteRule (view noPlan) before ≡ refused PlanLimits = quote-limits (view noPlan) before (within-view noPlan) in
+    (x .answer ∙ r, x .kept PlanLimits r)
 
-pub replayed : (n : ℕ) (kinds arguments octets before after : List ℕ) (lent left : Walks) (r : Replayed)
-    → Applies n kinds arguments octets before after (r .applied) → Four (view (r .applied .plan)) lent left r
+pub replayed : (n : ℕ) (kinds arguments octets before after : List ℕ) (lent left : Which → List ℕ) (r : Replayed)
+    → Applies n kinds arguments octets before after (r .applied)
+    → Quotes LeastDelay (view (r .applied .plan)) (lent LeastDelay) (left LeastDelay) (r .«least_delay»)
+    → Quotes GreatestDelay (view (r .applied .plan)) (lent GreatestDelay) (left GreatestDelay) (r .«greatest_delay»)
+    → Quotes LeastCount (view (r .applied .plan)) (lent LeastCount) (left LeastCount) (r .«least_count»)
+    → Quotes GreatestCount (view (r .applied .plan)) (lent GreatestCount) (left GreatestCount) (r .«greatest_count»)
     → Replays n kinds arguments octets before after lent left r
-replayed n kinds arguments octets before after lent left r x f = record {
+replayed n kinds arguments octets before after lent left r x ld gd lc gc =
+    let f = each-of (λ which. Quotes which (view (r .applied .plan)) (lent which) (left which) (quotationOf r which)) ld gd lc gc in
+    record {
   list = x;
-  quoted = λ are. subst (λ (g : Graph). Four g lent left r) (x .plan are) f;
-  none-quoted = λ are-not.
-      let f₀ : Four (view noPlan) lent left r = subst (λ (p : Plan). Four (view p) lent left r) (x .no-calls are-not .1) f in
-      let (a, a′) = none-quoted (f₀ .least-delay) in
-      let (b, b′) = none-quoted (f₀ .greatest-delay) in
-      let (c, c′) = none-quoted (f₀ .least-count) in
-      let (d, d′) = none-quoted (f₀ .greatest-count) in
-      record {
-        least-delay = a;
-        greatest-delay = b;
-        least-count = c;
-        greatest-count = d;
-        places = λ i. record { least-delay = a′ i; greatest-delay = b′ i; least-count = c′ i; greatest-count = d′ i };
-      };
+  quoted = λ are which. subst (λ (g : Graph). Quotes which g (lent which) (left which) (quotationOf r which)) (x .plan are) (f which);
+  none-quoted = λ are-not which.
+      none-quoted (subst (λ (p : Plan). Quotes which (view p) (lent which) (left which) (quotationOf r which)) (x .no-calls are-not .1) (f which));
 }

@@ -7,8 +7,10 @@ use native.Mathlib.Omega.{arith}
 use lib.ListN.{length, getD, drop, set, length-map, length-append}
 use lib.Seq.{drop-cons, set-at, append-snoc}
 use Rattle.graph.specs.Graph.{Graph}
-use Rattle.arrays.specs.Tables.{over, tabulate}
-use Rattle.arrays.proofs.Lists.{length-tabulate, tabulate-more}
+use Rattle.arrays.specs.Tables.{over}
+use Rattle.rules.specs.Image.{tabulate}
+use Rattle.arrays.proofs.Lists.{tabulate-more}
+use Rattle.rules.proofs.Tabulated.{length-tabulate}
 use Rattle.rules.specs.Calls.{Call, step, run}
 use Rattle.rules.specs.Refusal.{Result, answerOf, said, code}
 use Rattle.rules.specs.Rules.{next}

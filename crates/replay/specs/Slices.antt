@@ -5,7 +5,8 @@ use mathlib.Core.List.{List}
 use Prim.Native.Nat.{ℕ, zero, suc, _+_, _-_, _*_, _/_}
 use lib.Dec.{leb, ltb, eqb}
 use lib.ListN.{length, getD, take, drop}
-use Rattle.arrays.specs.Tables.{tabulate, transition}
+use Rattle.arrays.specs.Tables.{transition}
+use Rattle.rules.specs.Image.{tabulate}
 use Rattle.rules.specs.Calls.{Call, mark, join, unjoin, read}
 use Rattle.rules.specs.Limits.{all, stateCountOk}
 

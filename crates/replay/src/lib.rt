@@ -5,14 +5,15 @@ ghost use lib.Dec.{leb, ltb, eqb};
 ghost use mathlib.Core.List.{map};
 ghost use Prim.Native.Nat.{_≤_, _/_};
 ghost use lib.ListN.{length};
-ghost use Rattle.arrays.specs.Tables.{over, tabulate};
+ghost use Rattle.rules.specs.Image.{tabulate};
 ghost use Rattle.rules.specs.Calls.{step, run};
 ghost use Rattle.rules.specs.Limits.{all};
 ghost use Rattle.rules.specs.Refusal.{code as codeOf, said};
 ghost use Rattle.plan.specs.Promise.{Edit};
 ghost use Rattle.plan.specs.View.{view, noPlan};
 ghost use Rattle.replay.specs.Slices.{callOf, isCall, itemAt, callsIn, areCalls};
-ghost use Rattle.replay.specs.Replayed.{Replays, walks};
+ghost use Rattle.graph.specs.Which.{four};
+ghost use Rattle.replay.specs.Replayed.{Replays};
 ghost use Rattle.replay.specs.Applied.{Applies, Callable, InTurn};
 use arrays::limits;
 use plan::Edited;
@@ -32,17 +33,13 @@ pub struct Applied {
     pub plan: Plan,
 }
 
-// The quotations of a least and of a greatest figure.
-pub struct Quoted {
-    pub least: Quotation,
-    pub greatest: Quotation,
-}
-
-// What came of a list of calls, and the four quotations of the plan after it.
+// What came of a list of calls, and the four quotations of the plan after it, in the record's order.
 pub struct Replayed {
     pub applied: Applied,
-    pub delay: Quoted,
-    pub count: Quoted,
+    pub least_delay: Quotation,
+    pub greatest_delay: Quotation,
+    pub least_count: Quotation,
+    pub greatest_count: Quotation,
 }
 
 // An answer as one number: 256 for accepted, or the refusal's.
@@ -176,8 +173,8 @@ pub fn apply(
     }
 }
 
-// Applies a list of calls to a fresh plan of n states, and quotes the plan after it. A slice is lent for each walk: those of the least and the
-// greatest delay, and those of the least and the greatest count.
+// Applies a list of calls to a fresh plan of n states, and quotes the plan after it. A slice is lent for each walk, in the record's order.
+// Nine slices and numbers: the list is four of them, and two parts of one slice cannot be lent at the same time.
 pub fn replay(
     n: usize,
     kinds: &[u8],
@@ -191,8 +188,8 @@ pub fn replay(
 ) -> Replayed
     ensures { λ r. ⌜ Replays n (now (kinds .entry)) (now (arguments .entry)) (now (octets .entry))
         (now (answers .entry)) (now (answers .exit))
-        (walks (now (shortest .entry)) (now (longest .entry)) (now (fewest .entry)) (now (most .entry)))
-        (walks (now (shortest .exit)) (now (longest .exit)) (now (fewest .exit)) (now (most .exit))) r ⌝ }
+        (four (now (shortest .entry)) (now (longest .entry)) (now (fewest .entry)) (now (most .entry)))
+        (four (now (shortest .exit)) (now (longest .exit)) (now (fewest .exit)) (now (most .exit))) r ⌝ }
 {
     let applied = apply(n, kinds, arguments, octets, answers);
     let plan = applied.plan;
@@ -202,13 +199,9 @@ pub fn replay(
     let greatest_count = quotation::greatest_count(plan, most);
     Replayed {
         applied,
-        delay: Quoted {
-            least: least_delay,
-            greatest: greatest_delay,
-        },
-        count: Quoted {
-            least: least_count,
-            greatest: greatest_count,
-        },
+        least_delay,
+        greatest_delay,
+        least_count,
+        greatest_count,
     }
 }

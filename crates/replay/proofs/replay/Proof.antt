@@ -46,12 +46,10 @@ returns : tie.Need-returns
 returns c =
     let a = c .before .before .before .before .before .before .before .before .before .before .before .before .before .before .before .before .before .before .before .before .before .before .before .before .before .before .before .before .before .args in
     replayed (a .n) (a .kinds .now) (a .arguments .now) (a .octets .now) (a .answers .now) _ _ _ _ (c .before .before .before .before .before .before .before .before .before .before .before .before .before .before .before .before .before .before .before .apply .ensures)
-    (record {
-      least-delay = c .before .before .before .before .before .before .before .before .before .before .before .before .before .before .least-delay .ensures;
-      greatest-delay = c .before .before .before .before .before .before .before .before .before .before .greatest-delay .ensures;
-      least-count = c .before .before .before .before .before .before .least-count .ensures;
-      greatest-count = c .before .before .greatest-count .ensures;
-    })
+    (c .before .before .before .before .before .before .before .before .before .before .before .before .before .before .least-delay .ensures)
+    (c .before .before .before .before .before .before .before .before .before .before .greatest-delay .ensures)
+    (c .before .before .before .before .before .before .least-count .ensures)
+    (c .before .before .greatest-count .ensures)
 
 pub replay-spec : {M : Type 1} → statement M
 replay-spec =
