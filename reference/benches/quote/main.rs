@@ -19,8 +19,8 @@ use reference::MAX_STATES;
 use shapes::SHAPES;
 
 const SEED: u64 = 0x0000_BE7C;
-const SMALL: usize = 64;
-const LARGE: usize = 512;
+/// The sizes: a ward's, a hospital's, and the largest.
+const SIZES: [(usize, usize); 3] = [(16, 40), (64, 256), (512, 2048)];
 const ROUNDS: usize = 101;
 const CALLS: u32 = 20;
 
@@ -32,33 +32,35 @@ struct Times {
 
 fn main() {
     println!("Quoting from an image: microseconds by call, in the quickest of {ROUNDS} rounds of");
-    println!(
-        "{CALLS} calls, by turns. {SMALL} states with {} transitions, then {LARGE} with {},",
-        4 * SMALL,
-        4 * LARGE
-    );
-    println!("in random order (seed {SEED:#x}). The chain is filled up with further transitions");
-    println!("between its neighbours, the layers with further ones from each to the next.");
-    println!("Growth from the small size to the large: 8 is linear.");
-    println!(
-        "{:23} {:>8} {:>8} {:>6} {:>8} {:>8} {:>6} {:>7} {:>7}",
-        "", "proved", "baseline", "ratio", "proved", "baseline", "ratio", "growth", "(base)"
-    );
+    println!("{CALLS} calls, by turns, transitions in random order (seed {SEED:#x}). The chain is");
+    println!("filled up with further transitions between its neighbours, the layers with further");
+    println!("ones from each to the next. Growth is from the second size to the third.");
+    print!("{:23}", "");
+    for (n, m) in SIZES {
+        print!(" {:>24}", format!("{n} states, {m}"));
+    }
+    println!();
+    print!("{:23}", "");
+    for _ in SIZES {
+        print!(" {:>8} {:>8} {:>6}", "proved", "baseline", "ratio");
+    }
+    println!(" {:>7} {:>7}", "growth", "(base)");
     for (number, shape) in (0..).zip(&SHAPES) {
         let case = Case { seed: SEED, number };
         let mut rng = case.rng();
-        let small = time(&encode(&shape.draw(&mut rng, SMALL)));
-        let large = time(&encode(&shape.draw(&mut rng, LARGE)));
-        let growth = |of: fn(&Times) -> Option<f64>| Some(of(&large)? / of(&small)?);
+        let times = SIZES.map(|(n, m)| time(&encode(&shape.draw(&mut rng, n, m))));
+        print!("{:23}", shape.name);
+        for size in &times {
+            print!(
+                " {} {} {}",
+                column(size.proved, 8),
+                column(Some(size.baseline), 8),
+                column(size.ratio(), 6)
+            );
+        }
+        let growth = |of: fn(&Times) -> Option<f64>| Some(of(&times[2])? / of(&times[1])?);
         println!(
-            "{:23} {} {} {} {} {} {} {} {}",
-            shape.name,
-            column(small.proved, 8),
-            column(Some(small.baseline), 8),
-            column(small.ratio(), 6),
-            column(large.proved, 8),
-            column(Some(large.baseline), 8),
-            column(large.ratio(), 6),
+            " {} {}",
             column(growth(|times| times.proved), 7),
             column(growth(|times| Some(times.baseline)), 7),
         );

@@ -1,12 +1,12 @@
-//! The plans that the benchmark times: six shapes, with 4 transitions for each state.
+//! The plans that the benchmark times: six shapes, with so many states and transitions.
 
 use reference::rng::Rng;
 use reference::{Plan, Transition, MAX_DURATION};
 
 pub struct Shape {
     pub name: &'static str,
-    /// A plan of `n` states, n a multiple of 16 from 32 on, and 4n transitions.
-    pub plan: fn(&mut Rng, usize) -> Plan,
+    /// A plan of `n` states, n a multiple of 16, and `m` transitions, at least 2 for each state.
+    pub plan: fn(&mut Rng, usize, usize) -> Plan,
 }
 
 pub const SHAPES: [Shape; 6] = [
@@ -15,7 +15,7 @@ pub const SHAPES: [Shape; 6] = [
         plan: chain,
     },
     Shape {
-        name: "layers of 16",
+        name: "layers",
         plan: layers,
     },
     Shape {
@@ -38,9 +38,9 @@ pub const SHAPES: [Shape; 6] = [
 
 impl Shape {
     /// The shape's plan with its transitions in a random order.
-    pub fn draw(&self, rng: &mut Rng, n: usize) -> Plan {
-        let mut plan = (self.plan)(rng, n);
-        assert_eq!((plan.marks.len(), plan.transitions.len()), (n, 4 * n));
+    pub fn draw(&self, rng: &mut Rng, n: usize, m: usize) -> Plan {
+        let mut plan = (self.plan)(rng, n, m);
+        assert_eq!((plan.marks.len(), plan.transitions.len()), (n, m));
         rng.shuffle(&mut plan.transitions);
         plan
     }
@@ -57,11 +57,11 @@ fn step(rng: &mut Rng, from: usize, to: usize) -> Transition {
     }
 }
 
-/// A plan with the given starts and finals, every other state counted. From each state four
+/// A plan with the given starts and finals, every other state counted. From each state equally many
 /// transitions lead where `next` says; those of the states that it gives none go to others.
 fn plan(
     rng: &mut Rng,
-    n: usize,
+    (n, m): (usize, usize),
     is_start: impl Fn(usize) -> bool,
     is_final: impl Fn(usize) -> bool,
     next: impl Fn(&mut Rng, usize) -> Option<usize>,
@@ -71,7 +71,7 @@ fn plan(
     });
     let mut transitions = Vec::new();
     let mut from = 0;
-    while transitions.len() < 4 * n {
+    while transitions.len() < m {
         if let Some(to) = next(rng, from) {
             transitions.push(step(rng, from, to));
         }
@@ -84,42 +84,79 @@ fn plan(
 }
 
 /// A chain has n - 1 transitions by nature. The rest are further ones between its neighbours.
-fn chain(rng: &mut Rng, n: usize) -> Plan {
+fn chain(rng: &mut Rng, n: usize, m: usize) -> Plan {
     let next = |_: &mut Rng, state: usize| (state + 1 < n).then_some(state + 1);
-    plan(rng, n, |state| state == 0, |state| state == n - 1, next)
+    plan(
+        rng,
+        (n, m),
+        |state| state == 0,
+        |state| state == n - 1,
+        next,
+    )
 }
 
-/// From each state to random ones of the next layer. The last layer is final, the first are
-/// starts.
-fn layers(rng: &mut Rng, n: usize) -> Plan {
+/// From each state to random ones of the next layer, of 16 states or a quarter of them all. The
+/// last layer is final, the first are starts.
+fn layers(rng: &mut Rng, n: usize, m: usize) -> Plan {
+    let wide = (n / 4).min(16);
     let next = |rng: &mut Rng, state: usize| {
-        (state + 16 < n).then(|| state - state % 16 + 16 + rng.below(16))
+        (state + wide < n).then(|| state - state % wide + wide + rng.below(wide))
     };
-    plan(rng, n, |state| state < 16, |state| state + 16 >= n, next)
+    plan(
+        rng,
+        (n, m),
+        |state| state < wide,
+        |state| state + wide >= n,
+        next,
+    )
 }
 
 /// From each state to any later ones.
-fn acyclic(rng: &mut Rng, n: usize) -> Plan {
+fn acyclic(rng: &mut Rng, n: usize, m: usize) -> Plan {
     let next = |rng: &mut Rng, state: usize| (state + 1 < n).then(|| rng.between(state + 1, n - 1));
-    plan(rng, n, |state| state == 0, |state| state == n - 1, next)
+    plan(
+        rng,
+        (n, m),
+        |state| state == 0,
+        |state| state == n - 1,
+        next,
+    )
 }
 
 /// From each state to any.
-fn loops(rng: &mut Rng, n: usize) -> Plan {
+fn loops(rng: &mut Rng, n: usize, m: usize) -> Plan {
     let next = |rng: &mut Rng, _: usize| Some(rng.below(n));
-    plan(rng, n, |state| state == 0, |state| state == n - 1, next)
+    plan(
+        rng,
+        (n, m),
+        |state| state == 0,
+        |state| state == n - 1,
+        next,
+    )
 }
 
 /// From each state to later ones. One state in four is a start and one in four final.
-fn many(rng: &mut Rng, n: usize) -> Plan {
+fn many(rng: &mut Rng, n: usize, m: usize) -> Plan {
     let next = |rng: &mut Rng, state: usize| (state + 1 < n).then(|| rng.between(state + 1, n - 1));
-    plan(rng, n, |state| state % 4 == 0, |state| state % 4 == 3, next)
+    plan(
+        rng,
+        (n, m),
+        |state| state % 4 == 0,
+        |state| state % 4 == 3,
+        next,
+    )
 }
 
 /// A chain of steps that take a second each, and shortcuts that take longer than the chain.
-fn shortcuts(rng: &mut Rng, n: usize) -> Plan {
+fn shortcuts(rng: &mut Rng, n: usize, m: usize) -> Plan {
     let next = |rng: &mut Rng, state: usize| (state + 1 < n).then(|| rng.between(state + 1, n - 1));
-    let mut plan = plan(rng, n, |state| state == 0, |state| state == n - 1, next);
+    let mut plan = plan(
+        rng,
+        (n, m),
+        |state| state == 0,
+        |state| state == n - 1,
+        next,
+    );
     for (place, transition) in plan.transitions.iter_mut().enumerate() {
         if place < n - 1 {
             transition.to = transition.from + 1;

@@ -13,8 +13,8 @@ fn the_benchmarks_plans() {
     for (number, shape) in (0..).zip(&SHAPES) {
         let case = Case { seed: SEED, number };
         let mut rng = case.rng();
-        for n in [32, 64, 128, 512, 512] {
-            let plan = shape.draw(&mut rng, n);
+        for (n, m) in [(16, 40), (32, 128), (64, 256), (128, 512), (512, 2048)] {
+            let plan = shape.draw(&mut rng, n, m);
             let values = compare(&mut rng, &plan);
             print(&format!("  {} of {n} states: {values:?}\n", shape.name));
         }
