@@ -11,6 +11,8 @@ from pathlib import Path
 ROOT = Path(__file__).resolve().parent.parent
 FILES = {
     "binding": "crates/binding/src/lib.rt",
+    "room": "crates/slices/specs/Lent.antt",
+    "answered": "crates/answers/specs/Answered.antt",
     "lent": "crates/binding/specs/Lent.antt",
     "quoted": "crates/binding/specs/Quoted.antt",
     "figure": "crates/graph/specs/Figure.antt",
@@ -140,7 +142,7 @@ def comparisons(t):
     declared = between(t["header"], "typedef enum callplan_kind {", "} callplan_kind;")
     yield "include/callplan.h: the kinds", kinds, numbers(declared, r"CALLPLAN_(\w+) = (\d)")
 
-    room = re.findall(r"= leb (\d+) counts && \(leb (\d+) marks && leb (\d+) fields\)", t["lent"])
+    room = re.findall(r"= leb (\d+) counts && \(leb (\d+) marks && leb (\d+) fields\)", t["room"])
     room = [tuple(map(int, r)) for r in room]
     yield "the places of a plan", [(2, states, 4 * transitions)], room
     slices = between(t["header"], "#define CALLPLAN_SLICES(plan)", "\n\n")
@@ -151,7 +153,7 @@ def comparisons(t):
     room = re.findall(r"canQuote walks out = leb (\d+) \(length walks\) && leb (\d+) \(length out\)", t["quoted"])
     yield "the places of four answers", [(str(4 * states), str(4 * out))], room
     yield "include/callplan.h: the places of four answers", 1, t["header"].count(", walks, 4 * CALLPLAN_MAX_STATES, out, 4 * 4)")
-    order = re.findall(r"numbersOf \(q \.(\w+) \.(\w+)\)", between(t["quoted"], "\nfourNumbers q =", "\n"))
+    order = re.findall(r"numbersOf \(q \.(\w+) \.(\w+)\)", between(t["answered"], "\nfourNumbers q =", "\n"))
     order = [(f"{extreme}_{what}".upper(), place) for place, (extreme, what) in enumerate(order)]
     places = numbers(t["header"], r"CALLPLAN_((?:LEAST|GREATEST)_\w+) = (\d)")
     yield "include/callplan.h: the places of the figures", order, places
@@ -176,8 +178,8 @@ def compare(texts):
 DAMAGES = [
     ("binding", "callplan_lent_unjoin(", "callplan_lent_remove("),
     ("binding", "    n: usize,", "    n: u32,"),
-    ("binding", "    octets: &[u8],", "    octets: &mut [u8],"),
-    ("binding", "    walk: &mut [u16],", "    walk: &mut [u32],"),
+    ("binding", "    octets: &[u8],\n) -> u32", "    octets: &mut [u8],\n) -> u32"),
+    ("binding", "least_delay(\n    counts: &[usize],\n    marks: &[u8],\n    fields: &[u16],\n    walk: &mut [u16],", "least_delay(\n    counts: &[usize],\n    marks: &[u8],\n    fields: &[u16],\n    walk: &mut [u32],"),
     ("binding", "    from: usize,\n    to: usize,", "    to: usize,\n    from: usize,"),
     ("binding", "    value: u32,\n) -> u32", "    value: u32,\n) -> u64"),
     ("binding", "#[no_mangle]\n", "#[no_mangle]\npub extern \"C\" fn callplan_lent_more(n: usize) -> u32\n{ 0 }\n\n#[no_mangle]\n"),
@@ -188,11 +190,11 @@ DAMAGES = [
     ("refusal", "code (accepted a) = 256", "code (accepted a) = 512"),
     ("lent", "(r ≡ 255)", "(r ≡ 254)"),
     ("lent", "= 256 + n", "= 255 + n"),
-    ("lent", "leb 8192 fields", "leb 8191 fields"),
+    ("room", "leb 8192 fields", "leb 8191 fields"),
     ("quoted", "leb 4 (length out)", "leb 5 (length out)"),
     ("quoted", "leb 2048 (length walks)", "leb 2047 (length walks)"),
     ("quoted", "leb 16 (length out)", "leb 15 (length out)"),
-    ("quoted", "fourNumbers q = numbersOf (q .least .delay)", "fourNumbers q = numbersOf (q .least .count)"),
+    ("answered", "fourNumbers q = numbersOf (q .least .delay)", "fourNumbers q = numbersOf (q .least .count)"),
     ("limits", "leb n 512", "leb n 511"),
     ("limits", "leb m 2048", "leb m 4096"),
     ("limits", "leb (t .high) 2047", "leb (t .high) 2046"),

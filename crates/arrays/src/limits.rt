@@ -14,21 +14,21 @@ use rules::Refusal;
 pub fn state_count_ok(n: usize) -> bool
     ensures { λ r. ⌜ r ≡ stateCountOk n ⌝ }
 {
-    if 1 <= n { n <= 512 } else { false }
+    (1 <= n) & (n <= 512)
 }
 
 // Whether both ends of a transition are states of a plan with n of them.
 fn ends_ok(n: usize, from: usize, to: usize) -> bool
     ensures { λ r. ⌜ r ≡ (ltb from n && ltb to n) ⌝ }
 {
-    if from < n { to < n } else { false }
+    (from < n) & (to < n)
 }
 
 // Whether a low and a high duration are within the limits.
 fn durations_ok(low: usize, high: usize) -> bool
     ensures { λ r. ⌜ r ≡ (leb low high && leb high 2047) ⌝ }
 {
-    if low <= high { high <= 2047 } else { false }
+    (low <= high) & (high <= 2047)
 }
 
 // The grounds of a transition of a plan with n states, in their order: for every call that is given transitions.

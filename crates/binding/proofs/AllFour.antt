@@ -1,76 +1,29 @@
--- All four figures of an image on lent slices. Numbers put behind those that stand at the front stand there too (`put-behind`), so four times four
--- numbers are sixteen at the front (`four-put`). And the promises of the plan's own read and quotations are the promise on the slices
--- (`short-of-walks`, `short-of-places`, `quotes-refused`, `quotes-done`). Assumes nothing.
-use mathlib.Core.Bool.{Bool, true, false, _&&_}
-use mathlib.Core.List.{List, [], _∷_, _++_, append-assoc, append-nil}
-use mathlib.Core.Path.{_≡_, refl, sym, ap, ap₂, subst, _∙_}
-use Prim.Native.Nat.{ℕ, _+_, _≤_, _<_}
-use native.Mathlib.Omega.{arith}
-use borrow.Author.Tests.{lt-leb, le-leb, leb-true}
-use borrow.Rule.Slice.PartMut.{putMid}
-use lib.Dec.{leb}
-use lib.ListN.{length, take, drop, length-append, length-drop, drop-of-length-le}
-use lib.Seq.{length-take-le, take-append-seam, drop-append-seam, drop-drop}
+-- All four figures of an image on lent slices: the promises of the plan's own read and quotations are the promise on the slices (`short-of-walks`,
+-- `short-of-places`, `quotes-refused`, `quotes-done`). Assumes nothing.
+use mathlib.Core.Bool.{true, false}
+use mathlib.Core.List.{List}
+use mathlib.Core.Path.{_≡_, refl, sym, ap, subst, _∙_}
+use Prim.Native.Nat.{ℕ, _≤_, _<_}
+use borrow.Author.Tests.{lt-leb, le-leb}
+use lib.ListN.{length}
 use Rattle.graph.specs.Graph.{Graph}
 use Rattle.rules.specs.declared.Answer.the-variants.{Accepted, Refused}
-use Rattle.rules.specs.declared.FourQuotes.{FourQuotes}
 use Rattle.rules.specs.declared.Quotations.{Quotations}
 use Rattle.rules.specs.declared.Quotations.the-variants.{Quoted as AllQuoted, Refused as NoneQuoted}
 use Rattle.rules.specs.declared.Refusal.{Refusal}
-use Rattle.rules.specs.Image.{readImage}
 use Rattle.rules.specs.Limits.{within}
 use Rattle.rules.specs.Quotations.{AllStated, QuotesAll}
-use Rattle.rules.specs.Refusal.{Result, accepted, refused, answerOf, said, number}
-use Rattle.rules.proofs.Results.{never, and-true}
-use Rattle.arrays.specs.Tables.{over}
+use Rattle.rules.specs.Refusal.{Result, refused, answerOf, said, number}
+use Rattle.rules.proofs.Results.{never}
 use Rattle.plan.specs.declared.Edited.{Edited}
 use Rattle.plan.specs.Promise.{Held}
 use Rattle.plan.specs.View.{view}
 use Rattle.plan.proofs.Holding.{held-within, held-plan}
 use Rattle.quotation.proofs.Small.{four-small}
 use Rattle.quotation.proofs.Together.{all-done, all-not-refused}
-use Rattle.binding.specs.Quoted.{numbersOf, fourNumbers, AllSmall, AllAnswered, canQuote, LentQuotes}
-use Rattle.binding.proofs.Stores.{true-false}
-
--- ---- the sixteen places
-
-whole : (ys p : List ℕ) → length p ≡ length ys → over ys p ≡ ys
-whole ys p h =
-    let l : length p ≤ length ys = omega arith in
-    ap (λ (z : List ℕ). ys ++ z) (drop-of-length-le p l) ∙ append-nil ys
-
-put-more : (xs ys l : List ℕ) → putMid (length xs) (length ys) (over xs l) ys ≡ over (xs ++ ys) l
-put-more xs ys l =
-    let r = drop (length xs) l in
-    ap₂ {C = List ℕ} (λ (a b : List ℕ). a ++ (ys ++ drop (length ys) b)) (take-append-seam xs r) (drop-append-seam xs r)
-    ∙ sym (append-assoc xs ys (drop (length ys) r))
-    ∙ ap (λ (z : List ℕ). (xs ++ ys) ++ z) (drop-drop (length ys) (length xs) l ∙ ap (λ (n : ℕ). drop n l) (sym (length-append xs ys)))
-
--- xs stand at the front, and the part behind them holds ys and what was there
-put-behind : (xs ys l m y : List ℕ) → length xs + length ys ≤ length l → m ≡ over xs l → y ≡ over ys (take (length ys) (drop (length xs) m))
-    → putMid (length xs) (length ys) m y ≡ over (xs ++ ys) l
-put-behind xs ys l m y h e f =
-    let room : length (over xs l) ≡ length l = length-append xs (drop (length xs) l) ∙ (let d = length-drop (length xs) l in omega arith) in
-    let cut : length (take (length ys) (drop (length xs) (over xs l))) ≡ length ys =
-    length-take-le (length ys) (drop (length xs) (over xs l)) (omega (arith, length-drop (length xs) (over xs l))) in
-    let g : y ≡ ys = f ∙ ap (λ (z : List ℕ). over ys (take (length ys) (drop (length xs) z))) e ∙ whole ys (take (length ys) (drop (length xs) (over xs l))) cut in
-    ap₂ {C = List ℕ} (λ (a b : List ℕ). putMid (length xs) (length ys) a b) e g ∙ put-more xs ys l
-
-pub four-put : (q : FourQuotes) (l a b c d : List ℕ) → 16 ≤ length l
-    → a ≡ over (numbersOf (q .least .delay)) (take 4 l)
-    → b ≡ over (numbersOf (q .greatest .delay)) (take 4 (drop 4 (a ++ drop 4 l)))
-    → c ≡ over (numbersOf (q .least .count)) (take 4 (drop 8 (putMid 4 4 (a ++ drop 4 l) b)))
-    → d ≡ over (numbersOf (q .greatest .count)) (take 4 (drop 12 (putMid 8 4 (putMid 4 4 (a ++ drop 4 l) b) c)))
-    → putMid 12 4 (putMid 8 4 (putMid 4 4 (a ++ drop 4 l) b) c) d ≡ over (fourNumbers q) l
-four-put q l a b c d h ea eb ec ed =
-    let w = numbersOf (q .least .delay) in
-    let x = numbersOf (q .greatest .delay) in
-    let y = numbersOf (q .least .count) in
-    let z = numbersOf (q .greatest .count) in
-    let one : a ++ drop 4 l ≡ over w l = put-behind [] w l l a (omega arith) refl ea in
-    let two : putMid 4 4 (a ++ drop 4 l) b ≡ over (w ++ x) l = put-behind w x l (a ++ drop 4 l) b (omega arith) one eb in
-    let three : putMid 8 4 (putMid 4 4 (a ++ drop 4 l) b) c ≡ over (w ++ x ++ y) l = put-behind (w ++ x) y l (putMid 4 4 (a ++ drop 4 l) b) c (omega arith) two ec in
-    put-behind (w ++ x ++ y) z l (putMid 8 4 (putMid 4 4 (a ++ drop 4 l) b) c) d (omega arith) three ed
+use Rattle.answers.specs.Answered.{AllSmall, AllAnswered}
+use Rattle.binding.specs.Quoted.{canQuote, LentQuotes}
+use Rattle.binding.proofs.Edits.{true-false}
 
 -- ---- the numbers fit
 

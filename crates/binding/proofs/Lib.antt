@@ -1,5 +1,5 @@
-pub mod Copies
-pub mod Stores
-pub mod Runs
+pub mod Edits
+pub mod Fills
 pub mod Quotes
 pub mod AllFour
+pub mod Runs

@@ -1,58 +1,66 @@
--- What a quotation on lent slices promises. Four numbers set one after another stand at the front. The walk of an accepted quotation has at most as
+-- What a quotation on lent slices promises. The walk of an accepted quotation has at most as
 -- many transitions as the plan has states, and j is below their number or 0, so both fit their places. The promise of the plan's own call is then
 -- the promise on the slices: accepted with the figure's numbers put, refused with every place as it was.
 -- Assumes nothing.
 use mathlib.Core.Bool.{true, false}
-use mathlib.Core.List.{List, [], _∷_}
+use mathlib.Core.List.{List}
 use mathlib.Core.Path.{_≡_, refl, sym, ap, _∙_}
-use Prim.Native.Nat.{ℕ, _≤_}
-use native.Mathlib.Omega.{arith}
-use borrow.Author.Tests.{leb-true}
-use lib.Dec.{leb}
-use lib.ListN.{length, set}
+use Prim.Native.Nat.{ℕ, _≤_, _<_}
+use borrow.Author.Tests.{lt-leb, le-leb}
+use lib.ListN.{length}
 use Rattle.graph.specs.Graph.{Graph}
-use Rattle.graph.specs.Figure.{Figure}
+use Rattle.graph.specs.Figure.{Figure, leastDelayCost, greatestDelayCost, countCost}
 use Rattle.graph.specs.Route.{Cost}
-use Rattle.rules.specs.declared.Quote.{Quote}
 use Rattle.rules.specs.declared.Quotation.{Quotation}
 use Rattle.rules.specs.declared.Quotation.the-variants.{Quoted, Refused}
 use Rattle.rules.specs.Quotations.{Says, Shows, Quotes, quoteRule, saidQuotation, meant}
-use Rattle.rules.specs.Refusal.{Result, accepted, refused, code}
+use Rattle.rules.specs.Refusal.{Result, accepted, code}
 use Rattle.rules.specs.Refusal.{number as numberOf}
-use Rattle.rules.proofs.Results.{never, and-true}
-use Rattle.arrays.specs.Tables.{over}
+use Rattle.rules.proofs.Results.{never}
 use Rattle.plan.specs.declared.Plan.{Plan}
 use Rattle.plan.specs.View.{view}
 use Rattle.quotation.proofs.Asked.{accepted-within}
 use Rattle.quotation.proofs.Small.{small-quote}
-use Rattle.binding.specs.Lent.{Slices, hasRoom, planIn}
-use Rattle.binding.specs.Quoted.{Small, Answered, Stands, canAnswer, LentQuote}
-use Rattle.binding.proofs.Stores.{true-false}
-
--- ---- the four places
-
-pub four-stored : (l : List ℕ) (a b c d : ℕ) → 4 ≤ length l → set (set (set (set l 0 a) 1 b) 2 c) 3 d ≡ over (a ∷ b ∷ c ∷ d ∷ []) l
-four-stored [] a b c d h = absurd (omega arith)
-four-stored (v ∷ []) a b c d h = absurd (omega arith)
-four-stored (v ∷ w ∷ []) a b c d h = absurd (omega arith)
-four-stored (v ∷ w ∷ x ∷ []) a b c d h = absurd (omega arith)
-four-stored (v ∷ w ∷ x ∷ y ∷ l) a b c d h = refl
+use Rattle.slices.specs.Lent.{Slices, hasRoom, planIn}
+use Rattle.binding.specs.declared.Which.{Which}
+use Rattle.binding.specs.declared.Which.the-variants.{LeastDelay, GreatestDelay, LeastCount, GreatestCount}
+use Rattle.binding.specs.Shapes.{says}
+use Rattle.answers.specs.Answered.{Small, Answered}
+use Rattle.binding.specs.Quoted.{canAnswer, LentQuote}
+use Rattle.binding.proofs.Edits.{true-false}
 
 -- ---- k and j fit
 
-pub small : (P : Says) (g : Graph) (c : Cost) (walk walk′ : List ℕ) (r : Quotation)
-    → ((f : Figure) (k j : ℕ) (before after : List ℕ) → P f k j before after → Shows g c f k j before after) → Quotes P g walk walk′ r → Small r
-small P g c walk walk′ r shown x q e =
+-- the cost of each figure
+costOf : Which → Graph → Cost
+costOf LeastDelay g = leastDelayCost g
+costOf GreatestDelay g = greatestDelayCost g
+costOf LeastCount g = countCost g
+costOf GreatestCount g = countCost g
+
+shows : (which : Which) (g : Graph) (f : Figure) (k j : ℕ) (before after : List ℕ) → says which g f k j before after → Shows g (costOf which g) f k j before after
+unfolding costOf
+shows LeastDelay g f k j before after s = s .shows
+shows GreatestDelay g f k j before after s = s .shows
+shows LeastCount g f k j before after s = s .shows
+shows GreatestCount g f k j before after s = s .shows
+
+pub small : (which : Which) (g : Graph) (walk walk′ : List ℕ) (r : Quotation) → Quotes (says which g) g walk walk′ r → Small r
+small which g walk walk′ r x q e =
     let a : quoteRule g walk ≡ accepted tt = sym (x .answer) ∙ ap saidQuotation e in
-    small-quote g (accepted-within g walk a) c q walk walk′ (shown (meant (q .figure)) (q .k) (q .j) walk walk′ (x .quoted q e))
+    small-quote g (accepted-within g walk a) (costOf which g) q walk walk′ (shows which g (meant (q .figure)) (q .k) (q .j) walk walk′ (x .quoted q e))
 
 -- ---- the promise on the slices
 
--- slices that can hold an answer too have a plan's places, and four
-pub can-hold : (s : Slices) (out : List ℕ) → canAnswer s out ≡ true → (hasRoom s ≡ true) × (4 ≤ length out)
-can-hold s out e =
-    let a = and-true (hasRoom s) (leb 4 (length out)) e in
-    (a .0, leb-true 4 (length out) (a .1))
+module _ (s : Slices) (out : List ℕ) where
+  pub no-room : hasRoom s ≡ false → canAnswer s out ≡ false
+  no-room h = rw h refl
+
+  pub no-places : hasRoom s ≡ true → length out < 4 → canAnswer s out ≡ false
+  no-places h l = rw (h, lt-leb 4 (length out) l) refl
+
+  pub enough : hasRoom s ≡ true → 4 ≤ length out → canAnswer s out ≡ true
+  enough h l = rw (h, le-leb 4 (length out) l) refl
 
 pub quote-short : (P : Graph → Says) (s : Slices) (walk out : List ℕ) → canAnswer s out ≡ false → LentQuote P s walk walk out out 255
 quote-short P s walk out e =

@@ -20,8 +20,9 @@ use Rattle.rules.proofs.Results.{both-true, code-answer}
 use Rattle.arrays.specs.Tables.{over}
 use Rattle.plan.specs.declared.Plan.{Plan}
 use Rattle.plan.specs.View.{view, laid, noPlan}
-use Rattle.binding.specs.Lent.{Roomy, Slices, hasRoom, planIn, storing, nextSlices, LentEdit, LentObeyed, none, more}
-use Rattle.binding.proofs.Stores.{has-room}
+use Rattle.slices.specs.Lent.{Roomy, Slices, hasRoom, planIn, storing}
+use Rattle.slices.proofs.Stores.{has-room}
+use Rattle.binding.specs.Lent.{nextSlices, LentEdit, LentObeyed, none, more}
 
 -- ---- room
 

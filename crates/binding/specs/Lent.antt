@@ -1,73 +1,15 @@
--- A plan in three lent slices, and what the calls promise of them. Assumes nothing.
-use mathlib.Core.Bool.{Bool, true, false, _&&_}
-use mathlib.Core.List.{List, [], _∷_, _++_}
+-- What the calls promise of a plan in three lent slices. Assumes nothing.
+use mathlib.Core.Bool.{true, false}
+use mathlib.Core.List.{List, [], _∷_}
 use mathlib.Core.Path.{_≡_}
-use Prim.Native.Nat.{ℕ, _+_, _≤_}
-use lib.Dec.{leb}
-use lib.ListN.{length, getD, take, drop}
+use Prim.Native.Nat.{ℕ, _+_}
 use Rattle.graph.specs.Graph.{Graph}
-use Rattle.rules.specs.declared.Answer.{Answer}
-use Rattle.rules.specs.declared.Answer.the-variants.{Accepted, Refused}
-use Rattle.rules.specs.Refusal.{Result, accepted, refused, number, code}
+use Rattle.rules.specs.Refusal.{Result, accepted, refused, code}
 use Rattle.rules.specs.Calls.{Call, step}
 use Rattle.rules.specs.Rules.{next, written}
-use Rattle.arrays.specs.Tables.{over}
 use Rattle.plan.specs.declared.Plan.{Plan}
 use Rattle.plan.specs.View.{view, laid}
-
--- the three slices have the places of a plan
-abbrev pub roomy : ℕ → ℕ → ℕ → Bool
-roomy counts marks fields = leb 2 counts && (leb 512 marks && leb 8192 fields)
-
--- the same, of the slices' contents
-pub record Roomy (counts marks fields : List ℕ) : Type 0 where
-  pub two : 2 ≤ length counts
-  pub states : 512 ≤ length marks
-  pub transitions : 8192 ≤ length fields
-
--- the plan value that three slices hold
-abbrev pub lentPlan : List ℕ → List ℕ → List ℕ → Plan
-lentPlan counts marks fields =
-    record {
-      states = getD counts 0 0;
-      transitions = getD counts 1 0;
-      marks = take 512 marks;
-      from = take 2048 (drop 0 fields);
-      to = take 2048 (drop 2048 fields);
-      low = take 2048 (drop 4096 fields);
-      high = take 2048 (drop 6144 fields);
-    }
-
--- three lent slices, as they stand before a call or after it
-pub record Slices : Type 0 where
-  pub counts : List ℕ
-  pub marks : List ℕ
-  pub fields : List ℕ
-
--- the slices by what they hold
-abbrev pub slices : List ℕ → List ℕ → List ℕ → Slices
-slices counts marks fields = record { counts = counts; marks = marks; fields = fields }
-
--- they have the places of a plan, and the plan value that they hold
-abbrev pub hasRoom : Slices → Bool
-hasRoom s = roomy (length (s .counts)) (length (s .marks)) (length (s .fields))
-
-abbrev pub planIn : Slices → Plan
-planIn s = lentPlan (s .counts) (s .marks) (s .fields)
-
--- the slices with a plan value stored in a plan's places, and every later place as it was
-unfoldable pub storing : Plan → Slices → Slices
-storing p s =
-    record {
-      counts = over (p .states ∷ p .transitions ∷ []) (s .counts);
-      marks = over (p .marks) (s .marks);
-      fields = over (p .from ++ p .to ++ p .low ++ p .high) (s .fields);
-    }
-
--- what is left in the slices by an answer with a plan value: an accepted one stores it, and a refusal leaves every place
-abbrev pub Finished : Answer → Plan → Slices → Slices → ℕ → Type 0
-Finished Accepted p before after r = (r ≡ 256) × (after ≡ storing p before) × (planIn after ≡ p)
-Finished (Refused k) p before after r = (r ≡ number k) × (after ≡ before)
+use Rattle.slices.specs.Lent.{Slices, hasRoom, planIn, storing}
 
 -- the slices after a call that was given the plan value p: the new plan in p's arrays, stored; after a refusal every place as it was
 abbrev pub nextSlices : Plan → Slices → Result Graph → Slices

@@ -2,144 +2,77 @@
 // transitions' fields, 2,048 places each for from, to, low and high. A call answers a refusal by its number, 256 for accepted, and 255 where a
 // lent slice is too short for a plan; write and record answer 256 plus the octets' number. A quotation answers in four more lent places: the
 // figure's kind (0 number, 1 NONE, 2 STRANDED, 3 ENDLESS) and number, k and j. One call takes no plan: an image in, its four figures out.
-ghost use mathlib.Core.Bool.{_&&_};
-ghost use mathlib.Core.Path.{_≡_};
-ghost use Prim.Native.Nat.{_+_, _≤_};
-ghost use lib.Dec.{leb};
-ghost use lib.ListN.{length, take, drop};
-ghost use lib.Seq.{paste};
-ghost use Rattle.arrays.specs.Tables.{transition, over};
+// Edits, fillings and quotations are each one private function, by an index; the exported functions hand on to it.
+ghost use Rattle.arrays.specs.Tables.{transition};
+ghost use Rattle.plan.specs.Promise.{Edit, Write};
 ghost use Rattle.plan.specs.View.{view, noPlan};
+ghost use Rattle.rules.specs.Calls.{step};
 ghost use Rattle.rules.specs.Image.{image};
-ghost use Rattle.rules.specs.Quotations.{SmallQuote, FourSmall, recordOctets, recordRule, LeastDelay, GreatestDelay, LeastCount, GreatestCount};
+ghost use Rattle.rules.specs.Quotations.{Quotes, recordOctets, recordRule, LeastDelay, GreatestDelay, LeastCount, GreatestCount};
 ghost use Rattle.rules.specs.Rules.{freshRule, markRule, joinRule, unjoinRule, readRule, writeRule};
-ghost use Rattle.binding.specs.Lent.{Roomy, roomy, lentPlan, planIn, slices, storing, Finished, LentEdit, LentWrite};
-ghost use Rattle.binding.specs.Quoted.{numbersOf, Small, Answered, LentQuote, fourNumbers, AllSmall, AllAnswered, LentQuotes};
+ghost use Rattle.slices.specs.Lent.{lentPlan, slices};
+ghost use Rattle.binding.specs.Lent.{LentEdit, LentWrite};
+ghost use Rattle.binding.specs.Shapes.{callOf, octetsOf, ruleOf, says};
+ghost use Rattle.binding.specs.Quoted.{LentQuote, LentQuotes};
 use plan::Edited;
 use plan::Plan;
 use rules::Answer;
-use rules::FourQuotes;
 use rules::Quotation;
-use rules::Quotations;
-use rules::Quote;
 use rules::Written;
 
-// Whether three lent slices have the places of a plan.
-fn has_room(counts: usize, marks: usize, fields: usize) -> bool
-    ensures { λ r. ⌜ r ≡ roomy counts marks fields ⌝ }
+// An edit of the plan that lent slices hold. The octets of a read are lent beside it.
+enum Change {
+    Mark(usize, usize),
+    Join(usize, usize, usize, usize),
+    Unjoin(usize),
+    Read,
+}
+
+// What is put into a lent buffer: the plan's image, or the record of its figures.
+enum Content {
+    Image,
+    Record,
+}
+
+// Which of the four figures is quoted.
+enum Which {
+    LeastDelay,
+    GreatestDelay,
+    LeastCount,
+    GreatestCount,
+}
+
+// One edit of a plan.
+fn changed(change: Change, plan: Plan, octets: &[u8]) -> Edited
+    ensures { λ r. ⌜ Edit plan (step (view plan) (callOf change (now (octets .entry)))) r ⌝ }
 {
-    if 2 <= counts {
-        if 512 <= marks { 8192 <= fields } else { false }
-    } else {
-        false
+    match change {
+        Change::Mark(state, value) => plan::mark(plan, state, value),
+        Change::Join(from, to, low, high) => plan::join(plan, from, to, low, high),
+        Change::Unjoin(number) => plan::unjoin(plan, number),
+        Change::Read => plan::read(plan, octets),
     }
 }
 
-// The first 512 octets of a slice, as an array.
-fn marks_of(places: &[u8]) -> [u8; 512]
-    requires { ⌜ 512 ≤ length (now places) ⌝ }
-    ensures { λ r. ⌜ r ≡ take 512 (now (places .entry)) ⌝ }
-{
-    let mut out = [0u8; 512];
-    let mut i = 0;
-    while i < 512 {
-        out[i] = places[i];
-        i += 1;
-    }
-    out
-}
-
-// The 2,048 numbers of a slice from a place on, as an array.
-fn field_of(places: &[u16], at: usize) -> [u16; 2048]
-    requires { ⌜ at + 2048 ≤ length (now places) ⌝ }
-    ensures { λ r. ⌜ r ≡ take 2048 (drop at (now (places .entry))) ⌝ }
-{
-    let mut out = [0u16; 2048];
-    let mut i = 0;
-    while i < 2048 {
-        out[i] = places[at + i];
-        i += 1;
-    }
-    out
-}
-
-// Puts 512 octets at the front of a slice.
-fn put_marks(places: &mut [u8], marks: [u8; 512])
-    requires { ⌜ 512 ≤ length (now places) ⌝ }
-    ensures { λ r. ⌜ now (places .exit) ≡ paste (now (places .entry)) 0 marks 512 ⌝ }
-{
-    let mut i = 0;
-    while i < 512 {
-        places[i] = marks[i];
-        i += 1;
-    }
-}
-
-// Puts 2,048 numbers into a slice, from a place on.
-fn put_field(places: &mut [u16], at: usize, field: [u16; 2048])
-    requires { ⌜ at + 2048 ≤ length (now places) ⌝ }
-    ensures { λ r. ⌜ now (places .exit) ≡ paste (now (places .entry)) at field 2048 ⌝ }
-{
-    let mut i = 0;
-    while i < 2048 {
-        places[at + i] = field[i];
-        i += 1;
-    }
-}
-
-// The plan value that three lent slices hold.
-fn load(counts: &[usize], marks: &[u8], fields: &[u16]) -> Plan
-    requires { ⌜ Roomy (now counts) (now marks) (now fields) ⌝ }
-    ensures { λ r. ⌜ r ≡ lentPlan (now (counts .entry)) (now (marks .entry)) (now (fields .entry)) ⌝ }
-{
-    Plan {
-        states: counts[0],
-        transitions: counts[1],
-        marks: marks_of(marks),
-        from: field_of(fields, 0),
-        to: field_of(fields, 2048),
-        low: field_of(fields, 4096),
-        high: field_of(fields, 6144),
-    }
-}
-
-// Stores a plan value in three lent slices.
-fn store(plan: Plan, counts: &mut [usize], marks: &mut [u8], fields: &mut [u16])
-    requires { ⌜ Roomy (now counts) (now marks) (now fields) ⌝ }
-    ensures { λ r. ⌜ (slices (now (counts .exit)) (now (marks .exit)) (now (fields .exit))
-        ≡ storing plan (slices (now (counts .entry)) (now (marks .entry)) (now (fields .entry))))
-        × (planIn (slices (now (counts .exit)) (now (marks .exit)) (now (fields .exit))) ≡ plan) ⌝ }
-{
-    counts[0] = plan.states;
-    counts[1] = plan.transitions;
-    let states = plan.marks;
-    let from = plan.from;
-    let to = plan.to;
-    let low = plan.low;
-    let high = plan.high;
-    put_marks(marks, states);
-    put_field(fields, 0, from);
-    put_field(fields, 2048, to);
-    put_field(fields, 4096, low);
-    put_field(fields, 6144, high);
-}
-
-// Stores the plan of an accepted call, and gives the number of its answer.
-fn finish(edited: Edited, counts: &mut [usize], marks: &mut [u8], fields: &mut [u16]) -> u32
-    requires { ⌜ Roomy (now counts) (now marks) (now fields) ⌝ }
-    ensures { λ r. ⌜ Finished (edited .answer) (edited .plan)
+// One edit of the plan that lent slices hold.
+fn edit(
+    change: Change,
+    octets: &[u8],
+    counts: &mut [usize],
+    marks: &mut [u8],
+    fields: &mut [u16],
+) -> u32
+    ensures { λ r. ⌜ LentEdit (lentPlan (now (counts .entry)) (now (marks .entry)) (now (fields .entry)))
         (slices (now (counts .entry)) (now (marks .entry)) (now (fields .entry)))
-        (slices (now (counts .exit)) (now (marks .exit)) (now (fields .exit))) r ⌝ }
+        (slices (now (counts .exit)) (now (marks .exit)) (now (fields .exit)))
+        (step (view (lentPlan (now (counts .entry)) (now (marks .entry)) (now (fields .entry))))
+        (callOf change (now (octets .entry)))) r ⌝ }
 {
-    let answer = edited.answer;
-    match answer {
-        Answer::Accepted => {
-            let plan = edited.plan;
-            store(plan, counts, marks, fields);
-            256
-        }
-        Answer::Refused(r) => rules::number(r),
+    if !slices::has_room(counts.len(), marks.len(), fields.len()) {
+        return 255;
     }
+    let edited = changed(change, slices::load(counts, marks, fields), octets);
+    slices::finish(edited, counts, marks, fields)
 }
 
 // A fresh plan with n states.
@@ -155,10 +88,10 @@ pub extern "C" fn callplan_lent_fresh(
         (slices (now (counts .exit)) (now (marks .exit)) (now (fields .exit)))
         (freshRule n) r ⌝ }
 {
-    if !has_room(counts.len(), marks.len(), fields.len()) {
+    if !slices::has_room(counts.len(), marks.len(), fields.len()) {
         return 255;
     }
-    finish(plan::fresh(n), counts, marks, fields)
+    slices::finish(plan::fresh(n), counts, marks, fields)
 }
 
 // Makes a state's marks value the value given.
@@ -176,11 +109,9 @@ pub extern "C" fn callplan_lent_mark(
         (markRule (view (lentPlan (now (counts .entry)) (now (marks .entry)) (now (fields .entry))))
         state value) r ⌝ }
 {
-    if !has_room(counts.len(), marks.len(), fields.len()) {
-        return 255;
-    }
-    finish(
-        plan::mark(load(counts, marks, fields), state, value as usize),
+    edit(
+        Change::Mark(state, value as usize),
+        b"",
         counts,
         marks,
         fields,
@@ -204,21 +135,8 @@ pub extern "C" fn callplan_lent_join(
         (joinRule (view (lentPlan (now (counts .entry)) (now (marks .entry)) (now (fields .entry))))
         (transition from to low high)) r ⌝ }
 {
-    if !has_room(counts.len(), marks.len(), fields.len()) {
-        return 255;
-    }
-    finish(
-        plan::join(
-            load(counts, marks, fields),
-            from,
-            to,
-            low as usize,
-            high as usize,
-        ),
-        counts,
-        marks,
-        fields,
-    )
+    let change = Change::Join(from, to, low as usize, high as usize);
+    edit(change, b"", counts, marks, fields)
 }
 
 // Takes a transition out of the list.
@@ -235,15 +153,7 @@ pub extern "C" fn callplan_lent_unjoin(
         (unjoinRule (view (lentPlan (now (counts .entry)) (now (marks .entry)) (now (fields .entry))))
         number) r ⌝ }
 {
-    if !has_room(counts.len(), marks.len(), fields.len()) {
-        return 255;
-    }
-    finish(
-        plan::unjoin(load(counts, marks, fields), number),
-        counts,
-        marks,
-        fields,
-    )
+    edit(Change::Unjoin(number), b"", counts, marks, fields)
 }
 
 // Reads an image.
@@ -260,15 +170,36 @@ pub extern "C" fn callplan_lent_read(
         (readRule (view (lentPlan (now (counts .entry)) (now (marks .entry)) (now (fields .entry))))
         (now (octets .entry))) r ⌝ }
 {
-    if !has_room(counts.len(), marks.len(), fields.len()) {
+    edit(Change::Read, octets, counts, marks, fields)
+}
+
+// Puts a content of a plan at the front of the buffer.
+fn put(content: Content, plan: Plan, buffer: &mut [u8]) -> Written
+    ensures { λ r. ⌜ Write (octetsOf content (view plan)) (ruleOf content (view plan) (now (buffer .entry)))
+        (now (buffer .entry)) (now (buffer .exit)) r ⌝ }
+{
+    match content {
+        Content::Image => plan::write(plan, buffer),
+        Content::Record => quotation::record(plan, buffer),
+    }
+}
+
+// Puts a content of the plan that lent slices hold at the front of the buffer.
+fn fill(content: Content, counts: &[usize], marks: &[u8], fields: &[u16], buffer: &mut [u8]) -> u32
+    ensures { λ r. ⌜ LentWrite
+        (slices (now (counts .entry)) (now (marks .entry)) (now (fields .entry)))
+        (octetsOf content (view (lentPlan (now (counts .entry)) (now (marks .entry)) (now (fields .entry)))))
+        (ruleOf content (view (lentPlan (now (counts .entry)) (now (marks .entry)) (now (fields .entry)))) (now (buffer .entry)))
+        (now (buffer .entry)) (now (buffer .exit)) r ⌝ }
+{
+    if !slices::has_room(counts.len(), marks.len(), fields.len()) {
         return 255;
     }
-    finish(
-        plan::read(load(counts, marks, fields), octets),
-        counts,
-        marks,
-        fields,
-    )
+    let written = put(content, slices::load(counts, marks, fields), buffer);
+    match written {
+        Written::Length(n) => 256 + n as u32,
+        Written::Refused(r) => rules::number(r),
+    }
 }
 
 // Puts the image at the front of the buffer.
@@ -285,57 +216,42 @@ pub extern "C" fn callplan_lent_write(
         (writeRule (view (lentPlan (now (counts .entry)) (now (marks .entry)) (now (fields .entry)))) (now (buffer .entry)))
         (now (buffer .entry)) (now (buffer .exit)) r ⌝ }
 {
-    if !has_room(counts.len(), marks.len(), fields.len()) {
+    fill(Content::Image, counts, marks, fields, buffer)
+}
+
+// One quotation of a plan.
+fn ask(which: Which, plan: Plan, walk: &mut [u16]) -> Quotation
+    ensures { λ r. ⌜ Quotes (says which (view plan)) (view plan) (now (walk .entry)) (now (walk .exit)) r ⌝ }
+{
+    match which {
+        Which::LeastDelay => quotation::least_delay(plan, walk),
+        Which::GreatestDelay => quotation::greatest_delay(plan, walk),
+        Which::LeastCount => quotation::least_count(plan, walk),
+        Which::GreatestCount => quotation::greatest_count(plan, walk),
+    }
+}
+
+// One quotation of the plan that lent slices hold.
+fn quote(
+    which: Which,
+    counts: &[usize],
+    marks: &[u8],
+    fields: &[u16],
+    walk: &mut [u16],
+    out: &mut [u32],
+) -> u32
+    ensures { λ r. ⌜ LentQuote (says which)
+        (slices (now (counts .entry)) (now (marks .entry)) (now (fields .entry)))
+        (now (walk .entry)) (now (walk .exit)) (now (out .entry)) (now (out .exit)) r ⌝ }
+{
+    if !slices::has_room(counts.len(), marks.len(), fields.len()) {
         return 255;
     }
-    let written = plan::write(load(counts, marks, fields), buffer);
-    match written {
-        Written::Length(n) => 256 + n as u32,
-        Written::Refused(r) => rules::number(r),
+    if out.len() < 4 {
+        return 255;
     }
-}
-
-// Whether three lent slices have the places of a plan, and a fourth one those of an answer.
-fn can_answer(counts: usize, marks: usize, fields: usize, out: usize) -> bool
-    ensures { λ r. ⌜ r ≡ (roomy counts marks fields && leb 4 out) ⌝ }
-{
-    if has_room(counts, marks, fields) {
-        4 <= out
-    } else {
-        false
-    }
-}
-
-// Puts the four numbers of a quote at the front of a slice.
-fn put_quote(quote: Quote, out: &mut [u32])
-    requires { ⌜ SmallQuote quote ⌝ }
-    requires { ⌜ 4 ≤ length (now out) ⌝ }
-    ensures { λ r. ⌜ now (out .exit) ≡ over (numbersOf quote) (now (out .entry)) ⌝ }
-{
-    let figure = quote.figure;
-    let k = quote.k;
-    let j = quote.j;
-    let kind = rules::kind(figure);
-    let value = rules::value(figure);
-    out[0] = kind as u32;
-    out[1] = value;
-    out[2] = k as u32;
-    out[3] = j as u32;
-}
-
-// Puts the numbers of an accepted quotation at the front of a slice, and gives the number of its answer.
-fn answer(quotation: Quotation, out: &mut [u32]) -> u32
-    requires { ⌜ Small quotation ⌝ }
-    requires { ⌜ 4 ≤ length (now out) ⌝ }
-    ensures { λ r. ⌜ Answered quotation (now (out .entry)) (now (out .exit)) r ⌝ }
-{
-    match quotation {
-        Quotation::Quoted(quote) => {
-            put_quote(quote, out);
-            256
-        }
-        Quotation::Refused(r) => rules::number(r),
-    }
+    let quotation = ask(which, slices::load(counts, marks, fields), walk);
+    answers::one(quotation, out)
 }
 
 // The least delay, with a route that attains it.
@@ -351,11 +267,7 @@ pub extern "C" fn callplan_lent_least_delay(
         (slices (now (counts .entry)) (now (marks .entry)) (now (fields .entry)))
         (now (walk .entry)) (now (walk .exit)) (now (out .entry)) (now (out .exit)) r ⌝ }
 {
-    if !can_answer(counts.len(), marks.len(), fields.len(), out.len()) {
-        return 255;
-    }
-    let quotation = quotation::least_delay(load(counts, marks, fields), walk);
-    answer(quotation, out)
+    quote(Which::LeastDelay, counts, marks, fields, walk, out)
 }
 
 // The greatest delay, with the walk that shows it.
@@ -371,11 +283,7 @@ pub extern "C" fn callplan_lent_greatest_delay(
         (slices (now (counts .entry)) (now (marks .entry)) (now (fields .entry)))
         (now (walk .entry)) (now (walk .exit)) (now (out .entry)) (now (out .exit)) r ⌝ }
 {
-    if !can_answer(counts.len(), marks.len(), fields.len(), out.len()) {
-        return 255;
-    }
-    let quotation = quotation::greatest_delay(load(counts, marks, fields), walk);
-    answer(quotation, out)
+    quote(Which::GreatestDelay, counts, marks, fields, walk, out)
 }
 
 // The least count, with a route that attains it.
@@ -391,11 +299,7 @@ pub extern "C" fn callplan_lent_least_count(
         (slices (now (counts .entry)) (now (marks .entry)) (now (fields .entry)))
         (now (walk .entry)) (now (walk .exit)) (now (out .entry)) (now (out .exit)) r ⌝ }
 {
-    if !can_answer(counts.len(), marks.len(), fields.len(), out.len()) {
-        return 255;
-    }
-    let quotation = quotation::least_count(load(counts, marks, fields), walk);
-    answer(quotation, out)
+    quote(Which::LeastCount, counts, marks, fields, walk, out)
 }
 
 // The greatest count, with the walk that shows it.
@@ -411,11 +315,7 @@ pub extern "C" fn callplan_lent_greatest_count(
         (slices (now (counts .entry)) (now (marks .entry)) (now (fields .entry)))
         (now (walk .entry)) (now (walk .exit)) (now (out .entry)) (now (out .exit)) r ⌝ }
 {
-    if !can_answer(counts.len(), marks.len(), fields.len(), out.len()) {
-        return 255;
-    }
-    let quotation = quotation::greatest_count(load(counts, marks, fields), walk);
-    answer(quotation, out)
+    quote(Which::GreatestCount, counts, marks, fields, walk, out)
 }
 
 // Puts the record of the four figures at the front of the buffer.
@@ -432,47 +332,7 @@ pub extern "C" fn callplan_lent_record(
         (recordRule (view (lentPlan (now (counts .entry)) (now (marks .entry)) (now (fields .entry)))) (now (buffer .entry)))
         (now (buffer .entry)) (now (buffer .exit)) r ⌝ }
 {
-    if !has_room(counts.len(), marks.len(), fields.len()) {
-        return 255;
-    }
-    let written = quotation::record(load(counts, marks, fields), buffer);
-    match written {
-        Written::Length(n) => 256 + n as u32,
-        Written::Refused(r) => rules::number(r),
-    }
-}
-
-// Puts the sixteen numbers of four quotes at the front of a slice.
-fn put_quotes(quotes: FourQuotes, out: &mut [u32])
-    requires { ⌜ FourSmall quotes ⌝ }
-    requires { ⌜ 16 ≤ length (now out) ⌝ }
-    ensures { λ r. ⌜ now (out .exit) ≡ over (fourNumbers quotes) (now (out .entry)) ⌝ }
-{
-    let least = quotes.least;
-    let greatest = quotes.greatest;
-    let first = least.delay;
-    let second = greatest.delay;
-    let third = least.count;
-    let fourth = greatest.count;
-    put_quote(first, &mut out[0..4]);
-    put_quote(second, &mut out[4..8]);
-    put_quote(third, &mut out[8..12]);
-    put_quote(fourth, &mut out[12..16]);
-}
-
-// Puts the numbers of four accepted quotations at the front of a slice, and gives the number of their answer.
-fn answer_all(quotations: Quotations, out: &mut [u32]) -> u32
-    requires { ⌜ AllSmall quotations ⌝ }
-    requires { ⌜ 16 ≤ length (now out) ⌝ }
-    ensures { λ r. ⌜ AllAnswered quotations (now (out .entry)) (now (out .exit)) r ⌝ }
-{
-    match quotations {
-        Quotations::Quoted(quotes) => {
-            put_quotes(quotes, out);
-            256
-        }
-        Quotations::Refused(r) => rules::number(r),
-    }
+    fill(Content::Record, counts, marks, fields, buffer)
 }
 
 // Reads an image, and quotes all four figures of its plan. The walks have 512 places each, the figures four.
@@ -493,5 +353,5 @@ pub extern "C" fn callplan_lent_quote(octets: &[u8], walks: &mut [u16], out: &mu
     }
     let plan = edited.plan;
     let quotations = quotation::all(plan, walks);
-    answer_all(quotations, out)
+    answers::four(quotations, out)
 }

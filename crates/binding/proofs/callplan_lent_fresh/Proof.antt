@@ -5,15 +5,11 @@ use borrow.Author.Needs.{needs}
 use borrow.Author.Tests.{not-true, not-false}
 use Rattle.plan.specs.View.{noPlan}
 use Rattle.rules.specs.Rules.{freshRule}
-use Rattle.binding.specs.Lent.{slices}
-use Rattle.binding.proofs.Stores.{has-room, too-short, finished}
+use Rattle.slices.specs.Lent.{slices}
+use Rattle.slices.proofs.Stores.{has-room}
+use Rattle.binding.proofs.Edits.{too-short, finished}
 use Rattle.binding.proofs.callplan_lent_fresh.Statement.{statement}
 use Rattle.binding.proofs.callplan_lent_fresh.Tie as tie
-use Rattle.binding.proofs.callplan_lent_fresh.Reads as reads
-use Rattle.binding.proofs.callplan_lent_fresh.Lts as lts
-use Rattle.binding.proofs.finish.Reads as finish-reads
-use Rattle.binding.proofs.has_room.Reads as has-room-reads
-use Rattle.plan.proofs.fresh.Reads as fresh-reads
 
 has-room-requires : tie.Need-has-room-requires
 has-room-requires c κs = search needs

@@ -1,5 +1,4 @@
 -- `binding::callplan_lent_quote` meets its contract: read and all four quotations, on lent slices (proofs/AllFour.antt). Assumes nothing.
-use mathlib.Core.Path.{_≡_, refl, sym, ap, _∙_}
 use native.Mathlib.Omega.{arith}
 use Rattle.plan.specs.View.{view}
 use Rattle.plan.proofs.Holding.{held-within}
@@ -7,12 +6,6 @@ use Rattle.binding.proofs.AllFour.{all-small, short-of-walks, short-of-
 use borrow.Author.Needs.{needs}
 use Rattle.binding.proofs.callplan_lent_quote.Statement.{statement}
 use Rattle.binding.proofs.callplan_lent_quote.Tie as tie
-use Rattle.binding.proofs.callplan_lent_quote.Reads as reads
-use Rattle.binding.proofs.callplan_lent_quote.Lts as lts
-use Rattle.binding.proofs.answer_all.Reads as answer-all-reads
-use Rattle.plan.proofs.held.Reads as held-reads
-use Rattle.quotation.proofs.all.Reads as all-reads
-use Rattle.rules.proofs.number.Reads as number-reads
 
 returns : tie.Need-returns
 returns c =
@@ -45,8 +38,8 @@ enum-told c = search needs
 all-requires : tie.Need-all-requires
 all-requires c κs = search needs
 
-answer-all-requires : tie.Need-answer-all-requires
-answer-all-requires c κs =
+four-requires : tie.Need-four-requires
+four-requires c κs =
     let a = c .before .before .before .before .before .before .before .before .before .before .before .before .before .before .args in
     let e = c .before .before .before .before .before .before .before .before .held .result in
     let w = held-within (a .octets .now) e (c .before .before .before .before .before .before .before .before .held .ensures) (c .before .before .before .before .before .before .enum-told .given .1) in
@@ -62,7 +55,7 @@ returns-4 : tie.Need-returns-4
 returns-4 c =
     let a = c .before .before .before .before .before .before .before .before .before .before .before .before .before .before .before .before .before .args in
     quotes-done (a .octets .now) (a .walks .now) (a .out .now) (c .before .before .before .before .before .before .before .before .before .before .before .before .before .if1 .left) (c .before .before .before .before .before .before .before .before .before .before .before .before .if2 .left) (c .before .before .before .before .before .before .before .before .before .before .before .held .result) (c .before .before .before .before .before .before .before .before .before .before .before .held .ensures) _ _ (c .before .before .before .before .before .before .all .result)
-    (c .before .before .answer-all .result) (c .before .before .before .before .before .before .before .before .before .enum-told .given .1) (c .before .before .before .before .before .before .all .ensures) (c .before .before .answer-all .ensures)
+    (c .before .before .four .result) (c .before .before .before .before .before .before .before .before .before .enum-told .given .1) (c .before .before .before .before .before .before .all .ensures) (c .before .before .four .ensures)
 
 pub callplan-lent-quote-spec : {M : Type 1} → statement M
 callplan-lent-quote-spec =
@@ -76,7 +69,7 @@ callplan-lent-quote-spec =
     returns-3
     enum-told
     all-requires
-    answer-all-requires
+    four-requires
     same-length
     same-length-2
     returns-4)

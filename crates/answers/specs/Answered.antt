@@ -1,0 +1,46 @@
+-- The numbers of a figure in the places of an answer. Document 01, "The quotation record", for the kind and the figure. Assumes nothing.
+use mathlib.Core.List.{List, [], _∷_, _++_}
+use mathlib.Core.Path.{_≡_}
+use Prim.Native.Nat.{ℕ}
+use Rattle.graph.specs.Figure.{Figure, kind, value}
+use Rattle.rules.specs.declared.Quote.{Quote}
+use Rattle.rules.specs.declared.FourQuotes.{FourQuotes}
+use Rattle.rules.specs.declared.Quotation.{Quotation}
+use Rattle.rules.specs.declared.Quotation.the-variants.{Quoted, Refused}
+use Rattle.rules.specs.declared.Quotations.{Quotations}
+use Rattle.rules.specs.declared.Quotations.the-variants.{Quoted as AllQuoted, Refused as NoneQuoted}
+use Rattle.rules.specs.Quotations.{SmallQuote, FourSmall, meant}
+use Rattle.rules.specs.Refusal.{number}
+use Rattle.arrays.specs.Tables.{over}
+
+-- a figure's answer as four numbers: "a kind (0 number, 1 NONE, 2 STRANDED, 3 ENDLESS) and a figure, zero unless the kind is 0", k and j
+abbrev pub numbers : Figure → ℕ → ℕ → List ℕ
+numbers f k j = kind f ∷ value f ∷ k ∷ j ∷ []
+
+-- the same, of what the code quotes
+abbrev pub numbersOf : Quote → List ℕ
+numbersOf q = numbers (meant (q .figure)) (q .k) (q .j)
+
+-- k and j of a quotation that is not refused are small enough for the places of an answer
+abbrev pub Small : Quotation → Type 0
+Small r = (q : Quote) → r ≡ Quoted q → SmallQuote q
+
+-- what is left in the places of an answer: the four numbers at the front, or after a refusal every place as it was
+abbrev pub Answered : Quotation → List ℕ → List ℕ → ℕ → Type 0
+Answered (Quoted q) before after r = (r ≡ 256) × (after ≡ over (numbersOf q) before)
+Answered (Refused k) before after r = (r ≡ number k) × (after ≡ before)
+
+-- ---- all four figures
+
+-- the numbers of four quotes, "least delay, greatest delay, least count, greatest count in turn"
+abbrev pub fourNumbers : FourQuotes → List ℕ
+fourNumbers q = numbersOf (q .least .delay) ++ numbersOf (q .greatest .delay) ++ numbersOf (q .least .count) ++ numbersOf (q .greatest .count)
+
+-- the same of four
+abbrev pub AllSmall : Quotations → Type 0
+AllSmall r = (q : FourQuotes) → r ≡ AllQuoted q → FourSmall q
+
+-- what is left in the places of an answer: the sixteen numbers at the front, or after a refusal every place as it was
+abbrev pub AllAnswered : Quotations → List ℕ → List ℕ → ℕ → Type 0
+AllAnswered (AllQuoted q) before after r = (r ≡ 256) × (after ≡ over (fourNumbers q) before)
+AllAnswered (NoneQuoted k) before after r = (r ≡ number k) × (after ≡ before)

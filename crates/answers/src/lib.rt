@@ -1,0 +1,77 @@
+// The answer of a quotation in a lent slice: four numbers for each figure, its kind (0 number, 1 NONE, 2 STRANDED, 3 ENDLESS) and number, k and j.
+ghost use mathlib.Core.Path.{_≡_};
+ghost use Prim.Native.Nat.{_+_, _≤_};
+ghost use lib.ListN.{length};
+ghost use lib.Seq.{paste};
+ghost use Rattle.arrays.specs.Tables.{over};
+ghost use Rattle.rules.specs.Quotations.{SmallQuote, FourSmall};
+ghost use Rattle.answers.specs.Answered.{numbersOf, Small, Answered, fourNumbers, AllSmall, AllAnswered};
+use rules::FourQuotes;
+use rules::Quotation;
+use rules::Quotations;
+use rules::Quote;
+
+// Puts the four numbers of a quote into a slice, from a place on.
+fn put_quote(quote: Quote, out: &mut [u32], at: usize)
+    requires { ⌜ SmallQuote quote ⌝ }
+    requires { ⌜ at + 4 ≤ length (now out) ⌝ }
+    ensures { λ r. ⌜ now (out .exit) ≡ paste (now (out .entry)) at (numbersOf quote) 4 ⌝ }
+{
+    let figure = quote.figure;
+    let k = quote.k;
+    let j = quote.j;
+    let kind = rules::kind(figure);
+    let value = rules::value(figure);
+    out[at] = kind as u32;
+    out[at + 1] = value;
+    out[at + 2] = k as u32;
+    out[at + 3] = j as u32;
+}
+
+// Puts the numbers of an accepted quotation at the front of a slice, and gives the number of its answer.
+pub fn one(quotation: Quotation, out: &mut [u32]) -> u32
+    requires { ⌜ Small quotation ⌝ }
+    requires { ⌜ 4 ≤ length (now out) ⌝ }
+    ensures { λ r. ⌜ Answered quotation (now (out .entry)) (now (out .exit)) r ⌝ }
+{
+    match quotation {
+        Quotation::Quoted(quote) => {
+            put_quote(quote, out, 0);
+            256
+        }
+        Quotation::Refused(r) => rules::number(r),
+    }
+}
+
+// Puts the sixteen numbers of four quotes at the front of a slice.
+fn put_quotes(quotes: FourQuotes, out: &mut [u32])
+    requires { ⌜ FourSmall quotes ⌝ }
+    requires { ⌜ 16 ≤ length (now out) ⌝ }
+    ensures { λ r. ⌜ now (out .exit) ≡ over (fourNumbers quotes) (now (out .entry)) ⌝ }
+{
+    let least = quotes.least;
+    let greatest = quotes.greatest;
+    let first = least.delay;
+    let second = greatest.delay;
+    let third = least.count;
+    let fourth = greatest.count;
+    put_quote(first, out, 0);
+    put_quote(second, out, 4);
+    put_quote(third, out, 8);
+    put_quote(fourth, out, 12);
+}
+
+// Puts the numbers of four accepted quotations at the front of a slice, and gives the number of their answer.
+pub fn four(quotations: Quotations, out: &mut [u32]) -> u32
+    requires { ⌜ AllSmall quotations ⌝ }
+    requires { ⌜ 16 ≤ length (now out) ⌝ }
+    ensures { λ r. ⌜ AllAnswered quotations (now (out .entry)) (now (out .exit)) r ⌝ }
+{
+    match quotations {
+        Quotations::Quoted(quotes) => {
+            put_quotes(quotes, out);
+            256
+        }
+        Quotations::Refused(r) => rules::number(r),
+    }
+}

@@ -1,0 +1,73 @@
+-- What lent slices hold once a plan value is stored in them. A stored plan value is read back whole: each part stands at its own places, and the
+-- copies that follow it go elsewhere. Assumes nothing.
+use mathlib.Core.Bool.{true, _&&_}
+use mathlib.Core.List.{List, [], _∷_, _++_, append-assoc}
+use mathlib.Core.Path.{_≡_, refl, ap, _∙_}
+use Prim.Native.Nat.{ℕ, _≤_}
+use native.Mathlib.Omega.{arith}
+use borrow.Author.Tests.{leb-true}
+use lib.Dec.{leb}
+use lib.ListN.{length, take, drop, set}
+use lib.Seq.{paste, take-at}
+use Rattle.rules.proofs.Results.{and-true}
+use Rattle.arrays.specs.Tables.{over}
+use Rattle.arrays.proofs.Copies.{paste-over, part, two, three, four-copied}
+use Rattle.plan.specs.declared.Plan.{Plan}
+use Rattle.plan.proofs.Values.{Sized}
+use Rattle.slices.specs.Lent.{Roomy, roomy, Slices, slices, planIn, storing}
+
+-- the counts set one after the other
+counts-stored : (c : List ℕ) (n k : ℕ) → 2 ≤ length c → set (set c 0 n) 1 k ≡ over (n ∷ k ∷ []) c
+counts-stored [] n k h = absurd (omega arith)
+counts-stored (a ∷ []) n k h = absurd (omega arith)
+counts-stored (a ∷ b ∷ c) n k h = refl
+
+module _ (p : Plan) (z : Sized p) where
+  -- the first two fields, and the first three
+  front : length (p .from ++ p .to) ≡ 4096
+  front = two (p .from) (p .to) (p .low) (p .high) 2048 (z .from) (z .to) (z .low) (z .high)
+
+  middle : length (p .from ++ p .to ++ p .low) ≡ 6144
+  middle = three (p .from) (p .to) (p .low) (p .high) 2048 (z .from) (z .to) (z .low) (z .high)
+
+  -- a stored plan value is read back whole
+  pub stored-back : (s : Slices) → planIn (storing p s) ≡ p
+  unfolding storing
+  stored-back s =
+      let F = p .from in
+      let T = p .to in
+      let L = p .low in
+      let H = p .high in
+      let r : List ℕ = drop (length (F ++ T ++ L ++ H)) (s .fields) in
+      let at : (k : ℕ) (l : List ℕ) → F ++ T ++ L ++ H ++ r ≡ l → take 2048 (drop k (F ++ T ++ L ++ H ++ r)) ≡ take 2048 (drop k l) =
+      λ k l e. ap (λ (x : List ℕ). take 2048 (drop k x)) e in
+      λ i. record {
+        states = p .states;
+        transitions = p .transitions;
+        marks = take-at (p .marks) (drop (length (p .marks)) (s .marks)) 512 (z .marks) i;
+        from = (at 0 (F ++ (T ++ (L ++ (H ++ r)))) (simp append-assoc) ∙ take-at F (T ++ (L ++ (H ++ r))) 2048 (z .from)) i;
+        to = (at 2048 (F ++ (T ++ (L ++ (H ++ r)))) (simp append-assoc) ∙ part F T (L ++ (H ++ r)) 2048 2048 (z .from) (z .to)) i;
+        low = (at 4096 (F ++ T ++ (L ++ (H ++ r))) (simp append-assoc) ∙ part (F ++ T) L (H ++ r) 4096 2048 front (z .low)) i;
+        high = (at 6144 (F ++ T ++ L ++ (H ++ r)) (simp append-assoc) ∙ part (F ++ T ++ L) H r 6144 2048 middle (z .high)) i;
+      }
+
+  pub stored : (c m f m′ f′ : List ℕ) → Roomy c m f → m′ ≡ paste m 0 (p .marks) 512
+      → f′ ≡ paste (paste (paste (paste f 0 (p .from) 2048) 2048 (p .to) 2048) 4096 (p .low) 2048) 6144 (p .high) 2048
+      → (slices (set (set c 0 (p .states)) 1 (p .transitions)) m′ f′ ≡ storing p (slices c m f)) × (planIn (slices (set (set c 0 (p .states)) 1 (p .transitions)) m′ f′) ≡ p)
+  unfolding storing
+  stored c m f m′ f′ room em ef =
+      let e : slices (set (set c 0 (p .states)) 1 (p .transitions)) m′ f′ ≡ storing p (slices c m f) =
+      λ i. record {
+        counts = counts-stored c (p .states) (p .transitions) (room .two) i;
+        marks = (em ∙ paste-over m [] (p .marks) 0 512 refl (z .marks)) i;
+        fields = (ef ∙ four-copied (p .from) (p .to) (p .low) (p .high) 2048 (z .from) (z .to) (z .low) (z .high) f) i;
+      } in
+      (e, ap planIn e ∙ stored-back (slices c m f))
+
+-- ---- room
+
+pub has-room : (c m f : List ℕ) → roomy (length c) (length m) (length f) ≡ true → Roomy c m f
+has-room c m f e =
+    let a = and-true (leb 2 (length c)) (leb 512 (length m) && leb 8192 (length f)) e in
+    let b = and-true (leb 512 (length m)) (leb 8192 (length f)) (a .1) in
+    record { two = leb-true 2 (length c) (a .0); states = leb-true 512 (length m) (b .0); transitions = leb-true 8192 (length f) (b .1) }

@@ -1,0 +1,80 @@
+-- `slices::put_field` meets its contract. The invariant: the places from at on, i of them, are the field's.
+-- Assumes nothing.
+use Prim.Native.Nat.{ℕ, _+_, _-_, _≤_}
+use mathlib.Core.List.{List}
+use mathlib.Core.Path.{_≡_, ap, _∙_}
+use native.Mathlib.Omega.{arith}
+use borrow.Author.Needs.{needs}
+use lib.ListN.{length, getD, set, length-set}
+use lib.Seq.{paste, paste-zero}
+use Rattle.arrays.proofs.Copies.{paste-more}
+use Rattle.slices.proofs.put_field.Statement.{statement}
+use Rattle.slices.proofs.put_field.Tie as tie
+
+abbrev Inv-loop : tie.InvT-loop
+Inv-loop places₀ at field i₀ places i = (i ≤ 2048) × (length places ≡ length places₀) × (places ≡ paste places₀ at field i)
+
+abbrev μ-loop : tie.MeasureT-loop
+μ-loop places₀ at field i₀ places i = 2048 - i
+
+loop-holds : tie.Need-loop-holds Inv-loop μ-loop
+loop-holds c = (omega arith, search needs, paste-zero (c .args .places .now) (c .args .at) (c .args .t3))
+
+mul-places : tie.Need-mul-places Inv-loop μ-loop
+mul-places c = omega arith
+
+array-read-places : tie.Need-array-read-places Inv-loop μ-loop
+array-read-places c = omega arith
+
+add-places : tie.Need-add-places Inv-loop μ-loop
+add-places c = omega arith
+
+mul-places-2 : tie.Need-mul-places-2 Inv-loop μ-loop
+mul-places-2 c = omega arith
+
+slice-write-places : tie.Need-slice-write-places Inv-loop μ-loop
+slice-write-places c = omega arith
+
+add-i : tie.Need-add-i Inv-loop μ-loop
+add-i c = omega arith
+
+loop-less : tie.Need-loop-less Inv-loop μ-loop
+loop-less c = omega arith
+
+loop-again : tie.Need-loop-again Inv-loop μ-loop
+loop-again c =
+    let l = c .before .loop in
+    let a = c .before .before .args in
+    let h : length (a .t3) ≡ 2048 = search needs in (
+      omega arith,
+      length-set (l .places) (a .at + l .i) _ ∙ l .inv .1,
+      ap (λ (o : List ℕ). set o (a .at + l .i) (getD (a .t3) (l .i) 0)) (l .inv .2) ∙ paste-more (a .places .now) (a .t3) (a .at) (l .i) (omega arith) (omega arith),
+    )
+
+same-length : tie.Need-same-length Inv-loop μ-loop
+same-length c = c .before .loop .inv .1
+
+returns : tie.Need-returns Inv-loop μ-loop
+returns c =
+    let l = c .before .loop in
+    let a = c .before .before .args in
+    let e : l .i ≡ 2048 = omega arith in
+    l .inv .2 ∙ ap (λ (k : ℕ). paste (a .places .now) (a .at) (a .t3) k) e
+
+pub put-field-spec : {M : Type 1} → statement M
+put-field-spec =
+    tie.close
+    (tie.spec
+    Inv-loop
+    μ-loop
+    loop-holds
+    mul-places
+    array-read-places
+    add-places
+    mul-places-2
+    slice-write-places
+    add-i
+    loop-less
+    loop-again
+    same-length
+    returns)

@@ -1,0 +1,74 @@
+-- `slices::store` meets its contract: each part is copied to its own places.
+-- Assumes nothing.
+use Prim.Native.Nat.{ℕ}
+use mathlib.Core.List.{List}
+use mathlib.Core.Path.{ap, _∙_}
+use borrow.Author.Needs.{needs}
+use lib.Seq.{paste}
+use Rattle.plan.proofs.Values.{Sized}
+use Rattle.slices.proofs.Stores.{stored}
+use Rattle.slices.proofs.store.Statement.{statement}
+use Rattle.slices.proofs.store.Tie as tie
+
+slice-write-counts : tie.Need-slice-write-counts
+slice-write-counts c = search needs
+
+slice-write-counts-2 : tie.Need-slice-write-counts-2
+slice-write-counts-2 c = search needs
+
+put-marks-requires : tie.Need-put-marks-requires
+put-marks-requires c κs = search needs
+
+put-field-requires : tie.Need-put-field-requires
+put-field-requires c κs = search needs
+
+put-field-requires-2 : tie.Need-put-field-requires-2
+put-field-requires-2 c κs = search needs
+
+put-field-requires-3 : tie.Need-put-field-requires-3
+put-field-requires-3 c κs = search needs
+
+put-field-requires-4 : tie.Need-put-field-requires-4
+put-field-requires-4 c κs = search needs
+
+same-length : tie.Need-same-length
+same-length c = search needs
+
+same-length-2 : tie.Need-same-length-2
+same-length-2 c = search needs
+
+same-length-3 : tie.Need-same-length-3
+same-length-3 c = search needs
+
+-- the arrays of a plan value have their lengths
+sized : (c : tie.Start) → Sized (c .args .plan)
+sized c = record { marks = search needs; from = search needs; to = search needs; low = search needs; high = search needs }
+
+returns : tie.Need-returns
+returns c =
+    let a = c .before .before .before .before .before .before .before .before .before .before .before .before .before .before .before .before .before .before .before .before .before .before .before .before .before .before .before .before .args in
+    let p = a .plan in
+    let z : Sized p = sized (c .before .before .before .before .before .before .before .before .before .before .before .before .before .before .before .before .before .before .before .before .before .before .before .before .before .before .before .before) in
+    let P : List ℕ → ℕ → List ℕ → List ℕ = λ d at s. paste d at s 2048 in
+    stored p z (a .counts .now) (a .marks .now) (a .fields .now) (c .before .before .before .before .before .before .before .before .before .before .before .before .before .before .before .before .before .before .put-marks .last .0) (c .before .before .put-field4 .last .0) (c .before .before .before .before .before .before .before .before .before .before .before .before .before .before .before .before .before .before .before .before .before .before .before .before .before .before .before .before .pre)
+    (c .before .before .before .before .before .before .before .before .before .before .before .before .before .before .before .before .before .before .put-marks .ensures)
+    (c .before .before .put-field4 .ensures
+    ∙ ap (λ (d : List ℕ). P d 6144 (p .high))
+    (c .before .before .before .before .before .before .put-field3 .ensures
+    ∙ ap (λ (d : List ℕ). P d 4096 (p .low)) (c .before .before .before .before .before .before .before .before .before .before .put-field2 .ensures ∙ ap (λ (d : List ℕ). P d 2048 (p .to)) (c .before .before .before .before .before .before .before .before .before .before .before .before .before .before .put-field .ensures))))
+
+pub store-spec : {M : Type 1} → statement M
+store-spec =
+    tie.close
+    (tie.spec
+    slice-write-counts
+    slice-write-counts-2
+    put-marks-requires
+    put-field-requires
+    put-field-requires-2
+    put-field-requires-3
+    put-field-requires-4
+    same-length
+    same-length-2
+    same-length-3
+    returns)

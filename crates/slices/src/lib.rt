@@ -1,0 +1,125 @@
+// A plan in three lent slices: the two counts; the marks values, 512 places; and the transitions' fields, 2,048 places each for from, to, low and
+// high. Whether they have the room, a plan value loaded from them, and one stored in them,
+// by itself or as the plan of an accepted call.
+ghost use mathlib.Core.Path.{_≡_};
+ghost use Prim.Native.Nat.{_+_, _≤_};
+ghost use lib.ListN.{length, take, drop};
+ghost use lib.Seq.{paste};
+ghost use Rattle.slices.specs.Lent.{Roomy, roomy, lentPlan, planIn, slices, storing, Finished};
+use plan::Edited;
+use plan::Plan;
+use rules::Answer;
+
+// Whether three lent slices have the places of a plan.
+pub fn has_room(counts: usize, marks: usize, fields: usize) -> bool
+    ensures { λ r. ⌜ r ≡ roomy counts marks fields ⌝ }
+{
+    (2 <= counts) & ((512 <= marks) & (8192 <= fields))
+}
+
+// The first 512 octets of a slice, as an array.
+fn marks_of(places: &[u8]) -> [u8; 512]
+    requires { ⌜ 512 ≤ length (now places) ⌝ }
+    ensures { λ r. ⌜ r ≡ take 512 (now (places .entry)) ⌝ }
+{
+    let mut out = [0u8; 512];
+    let mut i = 0;
+    while i < 512 {
+        out[i] = places[i];
+        i += 1;
+    }
+    out
+}
+
+// The 2,048 numbers of a slice from a place on, as an array.
+fn field_of(places: &[u16], at: usize) -> [u16; 2048]
+    requires { ⌜ at + 2048 ≤ length (now places) ⌝ }
+    ensures { λ r. ⌜ r ≡ take 2048 (drop at (now (places .entry))) ⌝ }
+{
+    let mut out = [0u16; 2048];
+    let mut i = 0;
+    while i < 2048 {
+        out[i] = places[at + i];
+        i += 1;
+    }
+    out
+}
+
+// Puts 512 octets at the front of a slice.
+fn put_marks(places: &mut [u8], marks: [u8; 512])
+    requires { ⌜ 512 ≤ length (now places) ⌝ }
+    ensures { λ r. ⌜ now (places .exit) ≡ paste (now (places .entry)) 0 marks 512 ⌝ }
+{
+    let mut i = 0;
+    while i < 512 {
+        places[i] = marks[i];
+        i += 1;
+    }
+}
+
+// Puts 2,048 numbers into a slice, from a place on.
+fn put_field(places: &mut [u16], at: usize, field: [u16; 2048])
+    requires { ⌜ at + 2048 ≤ length (now places) ⌝ }
+    ensures { λ r. ⌜ now (places .exit) ≡ paste (now (places .entry)) at field 2048 ⌝ }
+{
+    let mut i = 0;
+    while i < 2048 {
+        places[at + i] = field[i];
+        i += 1;
+    }
+}
+
+// The plan value that three lent slices hold.
+pub fn load(counts: &[usize], marks: &[u8], fields: &[u16]) -> Plan
+    requires { ⌜ Roomy (now counts) (now marks) (now fields) ⌝ }
+    ensures { λ r. ⌜ r ≡ lentPlan (now (counts .entry)) (now (marks .entry)) (now (fields .entry)) ⌝ }
+{
+    Plan {
+        states: counts[0],
+        transitions: counts[1],
+        marks: marks_of(marks),
+        from: field_of(fields, 0),
+        to: field_of(fields, 2048),
+        low: field_of(fields, 4096),
+        high: field_of(fields, 6144),
+    }
+}
+
+// Stores a plan value in three lent slices.
+pub fn store(plan: Plan, counts: &mut [usize], marks: &mut [u8], fields: &mut [u16])
+    requires { ⌜ Roomy (now counts) (now marks) (now fields) ⌝ }
+    ensures { λ r. ⌜ (slices (now (counts .exit)) (now (marks .exit)) (now (fields .exit))
+        ≡ storing plan (slices (now (counts .entry)) (now (marks .entry)) (now (fields .entry))))
+        × (planIn (slices (now (counts .exit)) (now (marks .exit)) (now (fields .exit))) ≡ plan) ⌝ }
+{
+    counts[0] = plan.states;
+    counts[1] = plan.transitions;
+    let states = plan.marks;
+    let from = plan.from;
+    let to = plan.to;
+    let low = plan.low;
+    let high = plan.high;
+    put_marks(marks, states);
+    put_field(fields, 0, from);
+    put_field(fields, 2048, to);
+    put_field(fields, 4096, low);
+    put_field(fields, 6144, high);
+}
+
+// Stores the plan of an accepted call, and gives the number of its answer.
+pub fn finish(edited: Edited, counts: &mut [usize], marks: &mut [u8], fields: &mut [u16]) -> u32
+    requires { ⌜ Roomy (now counts) (now marks) (now fields) ⌝ }
+    ensures { λ r. ⌜ Finished (edited .answer) (edited .plan)
+        (slices (now (counts .entry)) (now (marks .entry)) (now (fields .entry)))
+        (slices (now (counts .exit)) (now (marks .exit)) (now (fields .exit))) r ⌝ }
+{
+    let answer = edited.answer;
+    match answer {
+        Answer::Accepted => {
+            let plan = edited.plan;
+            store(plan, counts, marks, fields);
+            256
+        }
+        Answer::Refused(r) => rules::number(r),
+    }
+}
