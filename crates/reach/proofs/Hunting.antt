@@ -4,52 +4,62 @@
 use mathlib.Core.Bool.{true≢false}
 use mathlib.Core.List.{List}
 use mathlib.Core.Logic.{_⊎_, inl, inr, ⊎-elim}
-use mathlib.Core.Path.{_≡_, refl, sym, ap, _∙_}
-use Prim.Native.Nat.{ℕ, zero, suc, _≤_, _<_}
+use mathlib.Core.Path.{_≡_, refl, sym, _∙_}
+use Prim.Native.Nat.{ℕ, _<_}
 use native.Mathlib.Omega.{arith}
-use Rattle.search.specs.Arrays.{at, StartIn, UnfinishedIn, Ends, Leaves}
-use Rattle.search.specs.Chain.{First, Chains}
+use Rattle.search.specs.Arrays.{Arrays, at, UnfinishedIn, Leaves}
+use Rattle.search.specs.Chain.{none, First, Linked}
 use Rattle.reach.specs.declared.Reach.{Reach}
-use Rattle.reach.specs.declared.Reach.the-variants.{NoStart, Looped, DeadEnd, Ends as Over}
-use Rattle.reach.specs.Explored.{Table, Rooted, NoDeadEnd, Explored, Ranked, Reached}
+use Rattle.reach.specs.declared.Reach.the-variants.{NoStart, Looped, DeadEnd, Ends}
+use Rattle.reach.specs.Explored.{Table, Rooted, Entered, NoDeadEnd, Explored, Ranked, Reached}
 
--- where an entered state's transition leads: a final state, or an entered one of lower rank
-pub onward-lower : (n m : ℕ) (marks from to : List ℕ) (a : Table) (done : ℕ) → Ranked n m marks from to a done → (s t : ℕ) → s < n → 0 < at (a .rank) s
-    → Leaves m from s t → UnfinishedIn marks (at to t) → (0 < at (a .rank) (at to t)) × (at (a .rank) (at to t) < at (a .rank) s)
-onward-lower n m marks from to a done r s t h p l u = ⊎-elim (λ f. absurd (true≢false (sym f ∙ u))) (λ w. w) (r .onward s h p t l)
+module _ {A : Arrays} {a : Table} {done : ℕ} (r : Ranked A a done) where
+  -- where an entered state's transition leads: a final state, or an entered one of lower rank
+  pub onward-lower : (s t : ℕ) → s < A .n → 0 < at (a .rank) s → Leaves A s t → UnfinishedIn (A .marks) (at (A .to) t)
+      → (0 < at (a .rank) (at (A .to) t)) × (at (a .rank) (at (A .to) t) < at (a .rank) s)
+  onward-lower s t h p l u = ⊎-elim (λ f. absurd (true≢false (sym f ∙ u))) (λ w. w) (r .onward s h p t l)
 
-module _ (m : ℕ) (marks from to head via : List ℕ) where
-  -- a transition to an unfinished state that has a transition
-  abbrev pub Onward : ℕ → Type 0
-  Onward t = UnfinishedIn marks (at to t) → at head (at to t) < 2048
+  -- so the hunt can go by what the search left behind
+  pub ranked-entered : {head link : List ℕ} → Linked A head link → Entered A head link (a .rank) (a .via)
+  ranked-entered w = record { linked = w; rooted = λ s h q. (r .unfinished s h q, r .origin s h q); onward = λ s t h q l u. onward-lower s t h q l u .0 }
 
-  pub record Looked (x : ℕ) : Type 0 where
-    pub itself : at via x ≡ 2048 → at head x < 2048
-    pub behind : (t : ℕ) → t < m → at from t ≡ x → Onward t
+-- a transition to an unfinished state that has a transition
+abbrev pub Onward : Arrays → List ℕ → ℕ → Type 0
+Onward A head t = UnfinishedIn (A .marks) (at (A .to) t) → at head (at (A .to) t) < none
 
--- a state without a first transition has none
-pub none-leaves : (keys : List ℕ) (m s t : ℕ) → First keys m 0 s t → m ≤ 2048 → t ≡ 2048 → (k : ℕ) → Leaves m keys s k → ⊥
-none-leaves keys m s t f h e k l = f .none-before k (omega arith) (l .listed) (omega (arith, l .listed)) (l .source)
+-- a state that was looked at
+pub record Looked (A : Arrays) (head via : List ℕ) (x : ℕ) : Type 0 where
+  pub itself : at via x ≡ none → at head x < none
+  pub behind : (t : ℕ) → t < A .m → at (A .from) t ≡ x → Onward A head t
 
-module _ (n m : ℕ) (marks from to head link rank via : List ℕ) (ends : Ends n m from to) (chains : Chains from m head link)
-    (entered : (s : ℕ) → s < n → 0 < at rank s → UnfinishedIn marks s × Rooted n m marks from to rank via s) where
-  first-of : (s : ℕ) → s < n → at head s < 2048 → (t : ℕ) × Leaves m from s t
-  first-of s h l = let q = chains .heads s (omega (arith, ends .states)) .listed l in (at head s, record { listed = q .1; source = q .2 })
+module _ {A : Arrays} {head link rank via : List ℕ} (e : Entered A head link rank via) where
+  first-at : (s : ℕ) → s < A .n → First (A .from) (A .m) 0 s (at head s)
+  first-at s h = e .linked .chains .heads s (omega (arith, e .linked .bounded .states))
 
-  pub hunted-none : ((x : ℕ) → x < n → 0 < at rank x → Looked m marks from to head via x) → NoDeadEnd n m marks from to rank
-  hunted-none looked s h r = let (u, o) = entered s h r in go u o
+  -- a state without a first transition has none; and where there is one, it is below none
+  pub none-leaves : (s : ℕ) → s < A .n → at head s ≡ none → (t : ℕ) → Leaves A s t → ⊥
+  none-leaves s h q t l = first-at s h .none-before t (omega arith) (l .listed) (omega (arith, l .listed, e .linked .bounded .count)) (l .source)
+
+  pub head-below : (s : ℕ) → s < A .n → (at head s ≡ none → ⊥) → at head s < none
+  head-below s h d = omega (arith, first-at s h .most, d)
+
+  first-of : (s : ℕ) → s < A .n → at head s < none → (t : ℕ) × Leaves A s t
+  first-of s h l = let q = first-at s h .listed l in (at head s, record { listed = q .1; source = q .2 })
+
+  pub hunted-none : ((x : ℕ) → x < A .n → 0 < at rank x → Looked A head via x) → NoDeadEnd A rank
+  hunted-none looked s h r = let (u, o) = e .rooted s h r in go u o
     where
-      go : UnfinishedIn marks s → Rooted n m marks from to rank via s → (t : ℕ) × Leaves m from s t
-      go u (inl (e, b)) = first-of s h (looked s h r .itself e)
-      go u (inr (l, e, p)) =
-          let y = at from (at via s) in
-          let there = looked y (ends .leaves (at via s) l) p .behind (at via s) l refl (rw e u) in
-          first-of s h (rw e at there)
+      go : UnfinishedIn (A .marks) s → Rooted A rank via s → (t : ℕ) × Leaves A s t
+      go u (inl (q, b)) = first-of s h (looked s h r .itself q)
+      go u (inr (l, q, p)) =
+          let y = at (A .from) (at via s) in
+          let there = looked y (e .linked .bounded .leaves (at via s) l) p .behind (at via s) l refl (rw q u) in
+          first-of s h (rw q at there)
 
 -- what the search found where it did not come to its end, there is no hunt for
-pub reached-early : (n m : ℕ) (marks from to : List ℕ) (a : Table) (r : Reach) → ((k : ℕ) → r ≡ Over k → ⊥) → Explored n m marks from to a r
-    → Reached n m marks from to a r
-reached-early n m marks from to a NoStart d e = e
-reached-early n m marks from to a (Looped d j) n′ e = e
-reached-early n m marks from to a (DeadEnd s) d e = absurd e
-reached-early n m marks from to a (Over k) d e = absurd (d k refl)
+pub reached-early : (A : Arrays) (a : Table) (r : Reach) → ((k : ℕ) → r ≡ Ends k → ⊥) → Explored A a r
+    → Reached A a r
+reached-early A a NoStart d e = e
+reached-early A a (Looped d j) n′ e = e
+reached-early A a (DeadEnd s) d e = absurd e
+reached-early A a (Ends k) d e = absurd (d k refl)

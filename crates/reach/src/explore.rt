@@ -1,15 +1,20 @@
 // The depth-first search through the unfinished states that starts reach. A step to a state on the stack is a walk that goes on forever; where
 // there is none, the order of leaving is a rank that falls along every transition.
+//
+// Inside the search arrays are lent one by one: a struct of them would be copied at every step.
+ghost use mathlib.Core.List.{List};
 ghost use mathlib.Core.Path.{_≡_};
-ghost use Prim.Native.Nat.{ℕ, _+_, _≤_, _<_};
+ghost use Prim.Native.Nat.{ℕ, _+_, _<_};
 ghost use lib.ListN.{set};
-ghost use Rattle.search.specs.Arrays.{at, StartIn, UnfinishedIn, Ends};
-ghost use Rattle.search.specs.Chain.{Chains};
-ghost use Rattle.reach.specs.Explored.{table, Sized, Searching, Explored, Turned, Descended, Reached};
+ghost use Rattle.search.specs.Arrays.{arrays, at, StartIn, UnfinishedIn};
+ghost use Rattle.search.specs.Chain.{Linked};
+ghost use Rattle.reach.specs.Explored.{table, Sized, Underway, Explored, Turned, Descended, Reached};
 use crate::Reach;
+use crate::Searched;
 use crate::Turn;
 use crate::hunt;
 use arrays::limits::wide;
+use search::NONE;
 use search::is_final;
 use search::is_start;
 
@@ -36,12 +41,9 @@ fn enter(
 
 // One turn at the state on top of the stack, with its cursor: leaves the state, passes a transition, or enters the state that it leads to.
 fn turn(
-    n: usize,
-    m: usize,
     d: usize,
     done: usize,
     marks: &[u8; 512],
-    from: &[u16; 2048],
     to: &[u16; 2048],
     head: &[u16; 512],
     link: &[u16; 2048],
@@ -51,19 +53,24 @@ fn turn(
     order: &mut [u16; 512],
     via: &mut [u16; 512],
 ) -> Turn
-    requires { ⌜ Ends n m (now from) (now to) × Chains (now from) m (now head) (now link) × (0 < d) ⌝ }
-    requires { ⌜ Sized (table (now rank) (now cursor) (now stack) (now order) (now via))
-        × Searching n m (now marks) (now from) (now to) (table (now rank) (now cursor) (now stack) (now order) (now via)) d done ⌝ }
-    ensures { λ r. ⌜ Turned n m (now (marks .entry)) (now (from .entry)) (now (to .entry))
+    requires { ⌜ ((n m : ℕ) × (from : List ℕ) × (0 < d)
+        × Underway (arrays n m (now marks) from (now to)) (now head) (now link) (table (now rank) (now cursor) (now stack) (now order) (now via)) d done) ⌝ }
+    ensures { λ r. ⌜ ((n m : ℕ) (from : List ℕ)
+        → Underway (arrays n m (now (marks .entry)) from (now (to .entry))) (now (head .entry)) (now (link .entry))
+        (table (now (rank .entry)) (now (cursor .entry)) (now (stack .entry)) (now (order .entry)) (now (via .entry))) d done
+        → Turned (arrays n m (now (marks .entry)) from (now (to .entry)))
         (table (now (rank .entry)) (now (cursor .entry)) (now (stack .entry)) (now (order .entry)) (now (via .entry))) d r
-        (table (now (rank .exit)) (now (cursor .exit)) (now (stack .exit)) (now (order .exit)) (now (via .exit))) ⌝ }
+        (table (now (rank .exit)) (now (cursor .exit)) (now (stack .exit)) (now (order .exit)) (now (via .exit)))) ⌝ }
 {
     let s = wide(stack[d - 1]);
     let t = wide(cursor[s]);
-    if t == 2048 {
+    if t == NONE {
         order[done] = s as u16;
         rank[s] = (done + 1) as u16;
-        return Turn::On(d - 1, done + 1);
+        return Turn::On {
+            depth: d - 1,
+            left: done + 1,
+        };
     }
     let v = wide(to[t]);
     let r = wide(rank[v]);
@@ -73,21 +80,24 @@ fn turn(
     if !is_final(marks[v]) {
         if r == 0 {
             enter(v, t as u16, d, head, rank, cursor, stack, via);
-            return Turn::On(d + 1, done);
+            return Turn::On {
+                depth: d + 1,
+                left: done,
+            };
         }
     }
     cursor[s] = link[t];
-    Turn::On(d, done)
+    Turn::On {
+        depth: d,
+        left: done,
+    }
 }
 
 // Searches from a start that was not entered yet, until all that was entered is left, or a loop is found.
 fn descend(
     s: usize,
-    n: usize,
-    m: usize,
     done: usize,
     marks: &[u8; 512],
-    from: &[u16; 2048],
     to: &[u16; 2048],
     head: &[u16; 512],
     link: &[u16; 2048],
@@ -97,25 +107,24 @@ fn descend(
     order: &mut [u16; 512],
     via: &mut [u16; 512],
 ) -> Reach
-    requires { ⌜ Ends n m (now from) (now to) × Chains (now from) m (now head) (now link) × (s < n) × StartIn (now marks) s
-        × UnfinishedIn (now marks) s × (at (now rank) s ≡ 0) ⌝ }
-    requires { ⌜ Sized (table (now rank) (now cursor) (now stack) (now order) (now via))
-        × Searching n m (now marks) (now from) (now to) (table (now rank) (now cursor) (now stack) (now order) (now via)) 0 done ⌝ }
-    ensures { λ r. ⌜ Descended n m (now (marks .entry)) (now (from .entry)) (now (to .entry))
+    requires { ⌜ StartIn (now marks) s × UnfinishedIn (now marks) s × (at (now rank) s ≡ 0) ⌝ }
+    requires { ⌜ ((n m : ℕ) × (from : List ℕ) × (s < n)
+        × Underway (arrays n m (now marks) from (now to)) (now head) (now link) (table (now rank) (now cursor) (now stack) (now order) (now via)) 0 done) ⌝ }
+    ensures { λ r. ⌜ ((n m : ℕ) (from : List ℕ) → s < n
+        → Underway (arrays n m (now (marks .entry)) from (now (to .entry))) (now (head .entry)) (now (link .entry))
+        (table (now (rank .entry)) (now (cursor .entry)) (now (stack .entry)) (now (order .entry)) (now (via .entry))) 0 done
+        → Descended (arrays n m (now (marks .entry)) from (now (to .entry)))
         (table (now (rank .entry)) (now (cursor .entry)) (now (stack .entry)) (now (order .entry)) (now (via .entry))) s r
-        (table (now (rank .exit)) (now (cursor .exit)) (now (stack .exit)) (now (order .exit)) (now (via .exit))) ⌝ }
+        (table (now (rank .exit)) (now (cursor .exit)) (now (stack .exit)) (now (order .exit)) (now (via .exit)))) ⌝ }
 {
-    enter(s, 2048, 0, head, rank, cursor, stack, via);
+    enter(s, NONE as u16, 0, head, rank, cursor, stack, via);
     let mut d = 1;
     let mut left = done;
     while 0 < d {
         let turned = turn(
-            n,
-            m,
             d,
             left,
             marks,
-            from,
             to,
             head,
             link,
@@ -126,22 +135,20 @@ fn descend(
             via,
         );
         match turned {
-            Turn::On(depth, count) => {
+            Turn::On { depth, left: count } => {
                 d = depth;
                 left = count;
             }
-            Turn::Back(j) => return Reach::Looped(d, j),
+            Turn::Back(j) => return Reach::Looped { depth: d, back: j },
         }
     }
     Reach::Ends(left)
 }
 
 // Searches from every start. The ranks are zero before it.
-pub fn explore(
+fn explore(
     n: usize,
-    m: usize,
     marks: &[u8; 512],
-    from: &[u16; 2048],
     to: &[u16; 2048],
     head: &[u16; 512],
     link: &[u16; 2048],
@@ -151,10 +158,11 @@ pub fn explore(
     order: &mut [u16; 512],
     via: &mut [u16; 512],
 ) -> Reach
-    requires { ⌜ Ends n m (now from) (now to) × Chains (now from) m (now head) (now link) × ((s : ℕ) → at (now rank) s ≡ 0) ⌝ }
-    requires { ⌜ Sized (table (now rank) (now cursor) (now stack) (now order) (now via)) ⌝ }
-    ensures { λ r. ⌜ Explored n m (now (marks .entry)) (now (from .entry)) (now (to .entry))
-        (table (now (rank .exit)) (now (cursor .exit)) (now (stack .exit)) (now (order .exit)) (now (via .exit))) r ⌝ }
+    requires { ⌜ ((m : ℕ) × (from : List ℕ) × Linked (arrays n m (now marks) from (now to)) (now head) (now link)) ⌝ }
+    requires { ⌜ Sized (table (now rank) (now cursor) (now stack) (now order) (now via)) × ((s : ℕ) → at (now rank) s ≡ 0) ⌝ }
+    ensures { λ r. ⌜ ((m : ℕ) (from : List ℕ) → Linked (arrays n m (now (marks .entry)) from (now (to .entry))) (now (head .entry)) (now (link .entry))
+        → Explored (arrays n m (now (marks .entry)) from (now (to .entry)))
+        (table (now (rank .exit)) (now (cursor .exit)) (now (stack .exit)) (now (order .exit)) (now (via .exit))) r) ⌝ }
 {
     let mut any = false;
     let mut left = 0;
@@ -168,11 +176,8 @@ pub fn explore(
                 if rank[s] == 0 {
                     let found = descend(
                         s,
-                        n,
-                        m,
                         left,
                         marks,
-                        from,
                         to,
                         head,
                         link,
@@ -198,46 +203,54 @@ pub fn explore(
     }
 }
 
-// What the starts reach: no start, a loop, a dead end, or neither. The ranks are zero before it.
-pub fn reach(
+// What the starts reach: no start, a loop, a dead end, or neither.
+pub fn reach<'a>(
     n: usize,
-    m: usize,
     marks: &[u8; 512],
-    from: &[u16; 2048],
     to: &[u16; 2048],
-    head: &[u16; 512],
-    link: &[u16; 2048],
-    rank: &mut [u16; 512],
-    cursor: &mut [u16; 512],
-    stack: &mut [u16; 512],
-    order: &mut [u16; 512],
-    via: &mut [u16; 512],
-) -> Reach
-    requires { ⌜ Ends n m (now from) (now to) × Chains (now from) m (now head) (now link) × ((s : ℕ) → at (now rank) s ≡ 0) ⌝ }
-    requires { ⌜ Sized (table (now rank) (now cursor) (now stack) (now order) (now via)) ⌝ }
-    ensures { λ r. ⌜ Reached n m (now (marks .entry)) (now (from .entry)) (now (to .entry))
-        (table (now (rank .exit)) (now (cursor .exit)) (now (stack .exit)) (now (order .exit)) (now (via .exit))) r ⌝ }
+    head: &'a [u16; 512],
+    link: &'a [u16; 2048],
+) -> Searched
+    requires { ⌜ ((m : ℕ) × (from : List ℕ) × Linked (arrays n m (now marks) from (now to)) (now head) (now link)) ⌝ }
+    ensures { λ r. ⌜ ((m : ℕ) (from : List ℕ) → Linked (arrays n m (now (marks .entry)) from (now (to .entry))) (now (head .entry)) (now (link .entry))
+        → Reached (arrays n m (now (marks .entry)) from (now (to .entry))) (table (r .rank) (r .cursor) (r .stack) (r .order) (r .via)) (r .found)) ⌝ }
 {
+    let mut rank = [0u16; 512];
+    let mut cursor = [0u16; 512];
+    let mut stack = [0u16; 512];
+    let mut order = [0u16; 512];
+    let mut via = [0u16; 512];
     let found = explore(
         n,
-        m,
         marks,
-        from,
         to,
         head,
         link,
+        &mut rank,
+        &mut cursor,
+        &mut stack,
+        &mut order,
+        &mut via,
+    );
+    if let Reach::Ends(left) = found {
+        let dead = hunt::hunt(n, marks, to, head, link, &rank, &via);
+        if dead < 512 {
+            return Searched {
+                found: Reach::DeadEnd(dead),
+                rank,
+                cursor,
+                stack,
+                order,
+                via,
+            };
+        }
+    }
+    Searched {
+        found,
         rank,
         cursor,
         stack,
         order,
         via,
-    );
-    let Reach::Ends(left) = found else {
-        return found;
-    };
-    let dead = hunt::hunt(n, m, marks, from, to, head, link, rank, via);
-    if dead < 512 {
-        return Reach::DeadEnd(dead);
     }
-    Reach::Ends(left)
 }

@@ -1,10 +1,12 @@
 // Walks from what the search left behind: along the stack for a loop, and up the tree from a state to the start that it was reached from.
+ghost use mathlib.Core.List.{List};
 ghost use mathlib.Core.Path.{_≡_};
 ghost use Prim.Native.Nat.{ℕ, _≤_, _<_};
 ghost use lib.ListN.{length, drop};
-ghost use Rattle.search.specs.Arrays.{at, Ends};
-ghost use Rattle.reach.specs.Tree.{Rising, up, Climbs, Climbed};
+ghost use Rattle.search.specs.Arrays.{at};
+ghost use Rattle.reach.specs.Tree.{Climbable, Climbs, Climbed};
 use arrays::limits::wide;
+use search::NONE;
 
 // Writes the cursors of the d states on the stack to the front of the places.
 pub fn along_stack(d: usize, stack: &[u16; 512], cursor: &[u16; 512], walk: &mut [u16])
@@ -20,20 +22,14 @@ pub fn along_stack(d: usize, stack: &[u16; 512], cursor: &[u16; 512], walk: &mut
 }
 
 // How many transitions lead up the tree from a state to a start.
-fn height(
-    s: usize,
-    n: usize,
-    m: usize,
-    from: &[u16; 2048],
-    rank: &[u16; 512],
-    via: &[u16; 512],
-) -> usize
-    requires { ⌜ (s < n) × (n ≤ 512) × (m ≤ 2048) × (0 < at (now rank) s) × Rising n m (now from) (now rank) (now via) ⌝ }
-    ensures { λ r. ⌜ Climbs n m (now (from .entry)) (now (rank .entry)) (now (via .entry)) s r ⌝ }
+fn height(s: usize, from: &[u16; 2048], via: &[u16; 512]) -> usize
+    requires { ⌜ ((n m : ℕ) × (rank : List ℕ) × Climbable n m (now from) rank (now via) s) ⌝ }
+    ensures { λ r. ⌜ ((n m : ℕ) (rank : List ℕ) → Climbable n m (now (from .entry)) rank (now (via .entry)) s
+        → Climbs n m (now (from .entry)) rank (now (via .entry)) s r) ⌝ }
 {
     let mut x = s;
     let mut k = 0;
-    while via[x] < 2048 {
+    while via[x] < NONE as u16 {
         x = wide(from[wide(via[x])]);
         k += 1;
     }
@@ -41,20 +37,13 @@ fn height(
 }
 
 // Writes the walk down the tree, from the start to the state, to the front of the places, and returns how many transitions it has.
-pub fn climb(
-    s: usize,
-    n: usize,
-    m: usize,
-    from: &[u16; 2048],
-    rank: &[u16; 512],
-    via: &[u16; 512],
-    walk: &mut [u16],
-) -> usize
-    requires { ⌜ (s < n) × (n ≤ 512) × (m ≤ 2048) × (n ≤ length (now walk)) × (0 < at (now rank) s) × Rising n m (now from) (now rank) (now via) ⌝ }
-    ensures { λ r. ⌜ Climbs n m (now (from .entry)) (now (rank .entry)) (now (via .entry)) s r
+pub fn climb(s: usize, from: &[u16; 2048], via: &[u16; 512], walk: &mut [u16]) -> usize
+    requires { ⌜ ((n m : ℕ) × (rank : List ℕ) × (n ≤ length (now walk)) × Climbable n m (now from) rank (now via) s) ⌝ }
+    ensures { λ r. ⌜ ((n m : ℕ) (rank : List ℕ) → Climbable n m (now (from .entry)) rank (now (via .entry)) s
+        → Climbs n m (now (from .entry)) rank (now (via .entry)) s r)
         × Climbed (now (from .entry)) (now (via .entry)) s r (now (walk .entry)) (now (walk .exit)) ⌝ }
 {
-    let k = height(s, n, m, from, rank, via);
+    let k = height(s, from, via);
     let mut x = s;
     let mut i = k;
     while 0 < i {

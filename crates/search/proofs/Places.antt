@@ -1,12 +1,12 @@
--- Places of arrays: what stands at a place after a store, numbers all below a bound, and sums over places of which one falls.
+-- Places of arrays: what stands at a place after a store, an array of zeros, numbers all below a bound, and sums over places of which one falls.
 -- Assumes nothing.
-use mathlib.Core.List.{List, [], _∷_}
+use mathlib.Core.List.{List}
 use mathlib.Core.Logic.{_⊎_, inl, inr, _≢_}
-use mathlib.Core.Path.{_≡_, refl, sym, ap, _∙_}
+use mathlib.Core.Path.{_≡_, refl}
 use Prim.Native.Nat.{ℕ, zero, suc, _+_, _≤_, _<_}
 use native.Mathlib.Nat.{not-suc-le-zero}
 use native.Mathlib.Omega.{arith}
-use lib.ListN.{length, set, getD}
+use lib.ListN.{length, set, replicate}
 use lib.Seq.{getD-set-same, getD-set-other, set-out}
 use Rattle.arrays.proofs.Lists.{same-or-not, below-or-not}
 use Rattle.search.specs.Arrays.{at, Below}
@@ -19,6 +19,12 @@ at-set xs i x j h = go (same-or-not j i)
     go : (j ≡ i) ⊎ (j ≢ i) → ((j ≡ i) × (at (set xs i x) j ≡ x)) ⊎ ((j ≢ i) × (at (set xs i x) j ≡ at xs j))
     go (inl e) = inl (e, rw e (getD-set-same xs i x 0 h))
     go (inr d) = inr (d, getD-set-other xs i j x 0 d)
+
+-- an array of zeros
+pub zeros : (k i : ℕ) → _≡_ {A = ℕ} (at (replicate k 0) i) 0
+zeros zero i = refl
+zeros (suc k) zero = refl
+zeros (suc k) (suc i) = zeros k i
 
 -- a store of a number below the bound keeps all below it
 pub below-store : {k : ℕ} (xs : List ℕ) (i x : ℕ) → x < k → Below k xs → Below k (set xs i x)

@@ -4,20 +4,20 @@
 -- state, which none before is, or one of a lower rank than all before. k + 1 states that differ are at most n (`traced-fits`). At a final state the
 -- value is the close, and the walk is the route (`traced-all`). Assumes nothing.
 use mathlib.Core.Bool.{Bool, true, false, true≢false}
-use mathlib.Core.List.{List, [], _∷_, _++_}
+use mathlib.Core.List.{List}
 use mathlib.Core.Logic.{_⊎_, inl, inr, _≢_}
 use mathlib.Core.Path.{_≡_, refl, sym, ap, _∙_}
 use Prim.Native.Nat.{ℕ, zero, suc, _+_, _≤_, _<_}
 use native.Mathlib.Nat.{le-refl}
 use native.Mathlib.Numerals.{add-one}
 use native.Mathlib.Omega.{arith}
-use lib.ListN.{length, set, take, drop, length-set}
+use lib.ListN.{length, set, take, drop}
 use lib.Seq.{getD-set-same, getD-set-other, take-suc-set, drop-set-lt, drop-drop}
 use Rattle.graph.specs.Route.{delay}
 use Rattle.graph.proofs.Build.{delay-snoc}
 use Rattle.graph.proofs.Repeat.{pigeonhole}
-use Rattle.search.specs.Arrays.{at, FinalIn, UnfinishedIn, finalMark, Ends, Leaves}
-use Rattle.search.specs.Route.{Accounts, along, Steps, Leading, Traced}
+use Rattle.search.specs.Arrays.{Arrays, at, FinalIn, UnfinishedIn, finalMark, Leaves}
+use Rattle.search.specs.Route.{Accounts, along, Steps, Readable, Traced}
 use Rattle.arrays.proofs.Lists.{same-or-not}
 
 -- a store at place k leaves the first k + 1 states, and the next one is where the stored transition leads
@@ -35,138 +35,128 @@ later-more k t before walk e =
     let q : k + 1 ≡ suc k = add-one k in
     drop-set-lt (suc k) walk k t (le-refl (suc k)) ∙ rw (← q) (sym (drop-drop 1 k walk) ∙ ap (λ (l : List ℕ). drop 1 l) e ∙ drop-drop 1 k before)
 
-module _ (n m : ℕ) (marks from to : List ℕ) where
+module _ (A : Arrays) where
   -- a walk of k transitions through states that differ has fewer than n
-  pub steps-fit : (s k : ℕ) (ts : List ℕ) → Steps n m marks from to s ts k → k < n
-  steps-fit s k ts w = pigeonhole n (along to s ts) (suc k) (λ i j l h e. w .apart i j l (omega arith) e) (λ i h. w .below i (omega arith))
+  pub steps-fit : (s k : ℕ) (ts : List ℕ) → Steps A s ts k → k < A .n
+  steps-fit s k ts w = pigeonhole (A .n) (along (A .to) s ts) (suc k) (λ i j l h e. w .apart i j l (omega arith) e) (λ i h. w .below i (omega arith))
 
   -- one transition more, to a state that is new
-  pub steps-more : (s k t : ℕ) (walk : List ℕ) → k < length walk → Steps n m marks from to s walk k → UnfinishedIn marks (along to s walk k)
-      → Leaves m from (along to s walk k) t → at to t < n → ((i : ℕ) → i ≤ k → along to s walk i ≡ at to t → ⊥)
-      → Steps n m marks from to s (set walk k t) (suc k)
+  pub steps-more : (s k t : ℕ) (walk : List ℕ) → k < length walk → Steps A s walk k → UnfinishedIn (A .marks) (along (A .to) s walk k)
+      → Leaves A (along (A .to) s walk k) t → at (A .to) t < A .n → ((i : ℕ) → i ≤ k → along (A .to) s walk i ≡ at (A .to) t → ⊥)
+      → Steps A s (set walk k t) (suc k)
   steps-more s k t walk h w u l b new = record { below = below; unfinished = unfinished; leaves = leaves; apart = apart }
     where
       here : at (set walk k t) k ≡ t
       here = getD-set-same walk k t 0 h
 
-      below : (i : ℕ) → i ≤ suc k → along to s (set walk k t) i < n
+      below : (i : ℕ) → i ≤ suc k → along (A .to) s (set walk k t) i < A .n
       below i q = go (same-or-not i (suc k))
         where
-          go : (i ≡ suc k) ⊎ (i ≢ suc k) → along to s (set walk k t) i < n
-          go (inl e) = rw (e, along-next to s k t walk h) b
-          go (inr d) = rw (along-before to s k t walk i (omega (arith, d))) (w .below i (omega (arith, d)))
+          go : (i ≡ suc k) ⊎ (i ≢ suc k) → along (A .to) s (set walk k t) i < A .n
+          go (inl e) = rw (e, along-next (A .to) s k t walk h) b
+          go (inr d) = rw (along-before (A .to) s k t walk i (omega (arith, d))) (w .below i (omega (arith, d)))
 
-      unfinished : (i : ℕ) → i < suc k → UnfinishedIn marks (along to s (set walk k t) i)
-      unfinished i q = rw (along-before to s k t walk i (omega arith)) (go (same-or-not i k))
+      unfinished : (i : ℕ) → i < suc k → UnfinishedIn (A .marks) (along (A .to) s (set walk k t) i)
+      unfinished i q = rw (along-before (A .to) s k t walk i (omega arith)) (go (same-or-not i k))
         where
-          go : (i ≡ k) ⊎ (i ≢ k) → UnfinishedIn marks (along to s walk i)
+          go : (i ≡ k) ⊎ (i ≢ k) → UnfinishedIn (A .marks) (along (A .to) s walk i)
           go (inl e) = rw e u
           go (inr d) = w .unfinished i (omega (arith, d))
 
-      leaves : (i : ℕ) → i < suc k → Leaves m from (along to s (set walk k t) i) (at (set walk k t) i)
-      leaves i q = rw (along-before to s k t walk i (omega arith)) (go (same-or-not i k))
+      leaves : (i : ℕ) → i < suc k → Leaves A (along (A .to) s (set walk k t) i) (at (set walk k t) i)
+      leaves i q = rw (along-before (A .to) s k t walk i (omega arith)) (go (same-or-not i k))
         where
-          go : (i ≡ k) ⊎ (i ≢ k) → Leaves m from (along to s walk i) (at (set walk k t) i)
+          go : (i ≡ k) ⊎ (i ≢ k) → Leaves A (along (A .to) s walk i) (at (set walk k t) i)
           go (inl e) = rw (e, here) l
           go (inr d) = rw (getD-set-other walk k i t 0 d) (w .leaves i (omega (arith, d)))
 
-      apart : (i j : ℕ) → i < j → j ≤ suc k → along to s (set walk k t) i ≡ along to s (set walk k t) j → ⊥
+      apart : (i j : ℕ) → i < j → j ≤ suc k → along (A .to) s (set walk k t) i ≡ along (A .to) s (set walk k t) j → ⊥
       apart i j l q e = go (same-or-not j (suc k))
         where
-          first : along to s walk i ≡ along to s (set walk k t) j
-          first = sym (along-before to s k t walk i (omega arith)) ∙ e
+          first : along (A .to) s walk i ≡ along (A .to) s (set walk k t) j
+          first = sym (along-before (A .to) s k t walk i (omega arith)) ∙ e
 
           go : (j ≡ suc k) ⊎ (j ≢ suc k) → ⊥
-          go (inl p) = new i (omega arith) (first ∙ ap (along to s (set walk k t)) p ∙ along-next to s k t walk h)
-          go (inr d) = w .apart i j l (omega (arith, d)) (first ∙ along-before to s k t walk j (omega (arith, d)))
+          go (inl p) = new i (omega arith) (first ∙ ap (along (A .to) s (set walk k t)) p ∙ along-next (A .to) s k t walk h)
+          go (inr d) = w .apart i j l (omega (arith, d)) (first ∙ along-before (A .to) s k t walk j (omega (arith, d)))
 
-  module _ (weight close value : List ℕ) where
-    pub record Tracing (s x k : ℕ) (before walk : List ℕ) : Type 0 where
-      pub inside : ℕ → Bool
-      pub rank : ℕ → ℕ
-      pub leading : Leading n m marks from to weight close value inside rank
-      pub last : along to s walk k ≡ x
-      pub within : UnfinishedIn marks x → inside x ≡ true
-      pub falls : UnfinishedIn marks x → (i : ℕ) → i ≤ k → rank x ≤ rank (along to s walk i)
-      pub steps : Steps n m marks from to s walk k
-      pub costs : delay (at weight) (take k walk) + at value x ≡ at value s
-      pub later : drop k walk ≡ drop k before
+module _ {A : Arrays} {head link weight close value : List ℕ} {s : ℕ} (r : Readable A head link weight close value s) where
+  -- the route as far as it is written: k transitions from s to x
+  pub record Tracing (x k : ℕ) (before walk : List ℕ) : Type 0 where
+    pub last : along (A .to) s walk k ≡ x
+    pub within : UnfinishedIn (A .marks) x → r .inside x ≡ true
+    pub falls : UnfinishedIn (A .marks) x → (i : ℕ) → i ≤ k → r .rank x ≤ r .rank (along (A .to) s walk i)
+    pub steps : Steps A s walk k
+    pub costs : delay (at weight) (take k walk) + at value x ≡ at value s
+    pub later : drop k walk ≡ drop k before
 
-    pub traced-first : (inside : ℕ → Bool) (rank : ℕ → ℕ) (s : ℕ) (walk : List ℕ) → s < n → Leading n m marks from to weight close value inside rank
-        → (UnfinishedIn marks s → inside s ≡ true) → Tracing s s 0 walk walk
-    traced-first inside rank s walk h leading within = record {
-      inside = inside;
-      rank = rank;
-      leading = leading;
-      last = refl;
-      within = within;
-      falls = falls;
-      steps = record {
-        below = below;
-        unfinished = λ i q. absurd (omega arith);
-        leaves = λ i q. absurd (omega arith);
-        apart = λ i j l q e. omega arith;
-      };
-      costs = omega arith;
-      later = refl;
+  pub traced-first : (walk : List ℕ) → Tracing s 0 walk walk
+  traced-first walk = record {
+    last = refl;
+    within = r .within;
+    falls = falls;
+    steps = record {
+      below = below;
+      unfinished = λ i q. absurd (omega arith);
+      leaves = λ i q. absurd (omega arith);
+      apart = λ i j l q e. omega arith;
+    };
+    costs = omega arith;
+    later = refl;
+  }
+    where
+      below : (i : ℕ) → i ≤ 0 → along (A .to) s walk i < A .n
+      below zero q = r .below
+      below (suc i) q = absurd (omega arith)
+
+      falls : UnfinishedIn (A .marks) s → (i : ℕ) → i ≤ 0 → r .rank s ≤ r .rank (along (A .to) s walk i)
+      falls u zero q = le-refl (r .rank s)
+      falls u (suc i) q = absurd (omega arith)
+
+  module _ {x k : ℕ} {before walk : List ℕ} (a : Tracing x k before walk) where
+    pub traced-fits : k < A .n
+    traced-fits = steps-fit A s k walk (a .steps)
+
+    pub traced-below : x < A .n
+    traced-below = rw (a .last) at (a .steps .below k (le-refl k))
+
+    pub traced-all : FinalIn (A .marks) x → Traced A weight close value s k before walk
+    traced-all f = record {
+      steps = a .steps;
+      ends = rw (a .last) f;
+      costs = rw (a .last, ← r .leading .at-final x traced-below f) (a .costs);
+      fits = traced-fits;
+      later = a .later;
     }
-      where
-        below : (i : ℕ) → i ≤ 0 → along to s walk i < n
-        below zero q = h
-        below (suc i) q = absurd (omega arith)
 
-        falls : UnfinishedIn marks s → (i : ℕ) → i ≤ 0 → rank s ≤ rank (along to s walk i)
-        falls u zero q = le-refl (rank s)
-        falls u (suc i) q = absurd (omega arith)
+    module _ (t : ℕ) (room : k < length walk) (u : UnfinishedIn (A .marks) x) (l : Leaves A x t) (q : Accounts (A .to) weight value x t) where
+      onward : UnfinishedIn (A .marks) (at (A .to) t) → (r .inside (at (A .to) t) ≡ true) × (r .rank (at (A .to) t) < r .rank x)
+      onward = r .leading .onward x traced-below (a .within u) u t l q
 
-    module _ (s x k : ℕ) (before walk : List ℕ) (a : Tracing s x k before walk) where
-      pub traced-fits : k < n
-      traced-fits = steps-fit s k walk (a .steps)
+      new : (i : ℕ) → i ≤ k → along (A .to) s walk i ≡ at (A .to) t → ⊥
+      new i h e = go (finalMark (at (A .marks) (at (A .to) t))) refl
+        where
+          all-unfinished : (i ≡ k) ⊎ (i ≢ k) → UnfinishedIn (A .marks) (along (A .to) s walk i)
+          all-unfinished (inl p) = rw (p, a .last) u
+          all-unfinished (inr d) = a .steps .unfinished i (omega (arith, d))
 
-      pub traced-below : x < n
-      traced-below = rw (a .last) at (a .steps .below k (le-refl k))
+          go : (f : Bool) → finalMark (at (A .marks) (at (A .to) t)) ≡ f → ⊥
+          go true p = true≢false (sym p ∙ ap (λ (y : ℕ). finalMark (at (A .marks) y)) (sym e) ∙ all-unfinished (same-or-not i k))
+          go false p = omega (arith, onward p .1, a .falls u i h, ap (r .rank) e)
 
-      pub traced-all : FinalIn marks x → Traced n m marks from to weight close value s k before walk
-      traced-all f = record {
-        steps = a .steps;
-        ends = rw (a .last) f;
-        costs = rw (a .last, ← a .leading .at-final x traced-below f) (a .costs);
-        fits = traced-fits;
-        later = a .later;
+      pub traced-turn : Tracing (at (A .to) t) (suc k) before (set walk k t)
+      traced-turn = record {
+        last = along-next (A .to) s k t walk room;
+        within = λ v. onward v .0;
+        falls = falls;
+        steps = steps-more A s k t walk room (a .steps) (rw (a .last) u) (rw (a .last) l) (r .linked .bounded .arrives t (l .listed)) new;
+        costs = rw (take-suc-set walk k t room, delay-snoc (at weight) (take k walk) t) (omega (arith, a .costs, q));
+        later = later-more k t before walk (a .later);
       }
-
-      module _ (t : ℕ) (room : k < length walk) (u : UnfinishedIn marks x) (l : Leaves m from x t) (b : at to t < n)
-          (q : Accounts to weight value x t) where
-        onward : UnfinishedIn marks (at to t) → (a .inside (at to t) ≡ true) × (a .rank (at to t) < a .rank x)
-        onward = a .leading .onward x traced-below (a .within u) u t l q
-
-        new : (i : ℕ) → i ≤ k → along to s walk i ≡ at to t → ⊥
-        new i h e = go (finalMark (at marks (at to t))) refl
-          where
-            all-unfinished : (same-or-not : (i ≡ k) ⊎ (i ≢ k)) → UnfinishedIn marks (along to s walk i)
-            all-unfinished (inl p) = rw (p, a .last) u
-            all-unfinished (inr d) = a .steps .unfinished i (omega (arith, d))
-
-            go : (f : Bool) → finalMark (at marks (at to t)) ≡ f → ⊥
-            go true p = true≢false (sym p ∙ ap (λ (y : ℕ). finalMark (at marks y)) (sym e) ∙ all-unfinished (same-or-not i k))
-            go false p = omega (arith, onward p .1, a .falls u i h, ap (a .rank) e)
-
-        pub traced-turn : Tracing s (at to t) (suc k) before (set walk k t)
-        traced-turn = record {
-          inside = a .inside;
-          rank = a .rank;
-          leading = a .leading;
-          last = along-next to s k t walk room;
-          within = λ v. onward v .0;
-          falls = falls;
-          steps = steps-more s k t walk room (a .steps) (rw (a .last) u) (rw (a .last) l) b new;
-          costs = rw (take-suc-set walk k t room, delay-snoc (at weight) (take k walk) t) (omega (arith, a .costs, q));
-          later = later-more k t before walk (a .later);
-        }
-          where
-            falls : UnfinishedIn marks (at to t) → (i : ℕ) → i ≤ suc k → a .rank (at to t) ≤ a .rank (along to s (set walk k t) i)
-            falls v i h = go (same-or-not i (suc k))
-              where
-                go : (i ≡ suc k) ⊎ (i ≢ suc k) → a .rank (at to t) ≤ a .rank (along to s (set walk k t) i)
-                go (inl p) = rw (p, along-next to s k t walk room) (le-refl (a .rank (at to t)))
-                go (inr d) = rw (along-before to s k t walk i (omega (arith, d))) (omega (arith, onward v .1, a .falls u i (omega (arith, d))))
+        where
+          falls : UnfinishedIn (A .marks) (at (A .to) t) → (i : ℕ) → i ≤ suc k → r .rank (at (A .to) t) ≤ r .rank (along (A .to) s (set walk k t) i)
+          falls v i h = go (same-or-not i (suc k))
+            where
+              go : (i ≡ suc k) ⊎ (i ≢ suc k) → r .rank (at (A .to) t) ≤ r .rank (along (A .to) s (set walk k t) i)
+              go (inl p) = rw (p, along-next (A .to) s k t walk room) (le-refl (r .rank (at (A .to) t)))
+              go (inr d) = rw (along-before (A .to) s k t walk i (omega (arith, d))) (omega (arith, onward v .1, a .falls u i (omega (arith, d))))

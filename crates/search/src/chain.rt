@@ -1,16 +1,23 @@
 // Transitions by state, as chains: the first transition of each state, and after each transition the next one of the same state.
 ghost use Prim.Native.Nat.{ℕ, _≤_, _<_};
-ghost use lib.ListN.{length};
 ghost use Rattle.search.specs.Arrays.{at};
-ghost use Rattle.search.specs.Chain.{Chains, Empty};
+ghost use Rattle.search.specs.Chain.{Chains};
+use crate::NONE;
 use arrays::limits::wide;
 
-// Chains the first m transitions by their keys, the states that they leave or those that they lead to. 2,048 ends a chain.
-pub fn chains(keys: &[u16; 2048], m: usize, head: &mut [u16; 512], link: &mut [u16; 2048])
+// The chains of the states. NONE ends a chain.
+pub struct Chain {
+    pub head: [u16; 512],
+    pub link: [u16; 2048],
+}
+
+// Chains the first m transitions by their keys, the states that they leave or those that they lead to.
+pub fn chains(keys: &[u16; 2048], m: usize) -> Chain
     requires { ⌜ (m ≤ 2048) × ((t : ℕ) → t < m → at (now keys) t < 512) ⌝ }
-    requires { ⌜ Empty (now head) × (512 ≤ length (now head)) × (2048 ≤ length (now link)) ⌝ }
-    ensures { λ r. ⌜ Chains (now (keys .entry)) m (now (head .exit)) (now (link .exit)) ⌝ }
+    ensures { λ r. ⌜ Chains (now (keys .entry)) m (r .head) (r .link) ⌝ }
 {
+    let mut head = [NONE as u16; 512];
+    let mut link = [0u16; 2048];
     let mut i = m;
     while 0 < i {
         i -= 1;
@@ -18,4 +25,5 @@ pub fn chains(keys: &[u16; 2048], m: usize, head: &mut [u16; 512], link: &mut [u
         link[i] = head[s];
         head[s] = i as u16;
     }
+    Chain { head, link }
 }

@@ -1,10 +1,13 @@
-// What the searches over lent arrays share: marks, transitions by state, and routes read off values. A graph is lent as its marks values and its
+// What the searches over arrays share: marks, transitions by state, and routes read off values. A graph is lent as its marks values and its
 // transitions' ends, a cost as a weight for each transition and a close for each state.
 pub mod chain;
 pub mod route;
 
 ghost use mathlib.Core.Path.{_≡_};
-ghost use Rattle.search.specs.Arrays.{startMark, finalMark};
+ghost use Rattle.search.specs.Arrays.{startMark, finalMark, countedMark};
+
+// No transition: the number after the last that a plan may have.
+pub const NONE: usize = 2048;
 
 // Whether a marks value has the start mark.
 pub fn is_start(mark: u8) -> bool
@@ -18,4 +21,11 @@ pub fn is_final(mark: u8) -> bool
     ensures { λ r. ⌜ r ≡ finalMark mark ⌝ }
 {
     mark / 2 % 2 == 1
+}
+
+// Whether a marks value has the counted mark.
+pub fn is_counted(mark: u8) -> bool
+    ensures { λ r. ⌜ r ≡ countedMark mark ⌝ }
+{
+    mark % 2 == 1
 }

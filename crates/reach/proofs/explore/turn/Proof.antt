@@ -1,52 +1,59 @@
--- `reach::explore::turn` meets its contract: each way through it is a turn of the search, as Searched.antt has them. Assumes nothing.
+-- `reach::explore::turn` meets its contract: each way through it is a turn of the search, as Turns.antt has them, in whatever graph the search is underway. Assumes nothing.
 use Prim.Native.Nat.{ℕ, _-_, _<_}
+use mathlib.Core.List.{List}
 use mathlib.Core.Logic.{_⊎_, inl, inr, ⊎-elim}
 use mathlib.Core.Path.{_≡_, sym, _∙_}
 use native.Mathlib.Omega.{arith}
 use borrow.Author.Needs.{needs}
 use borrow.Author.Tests.{not-true, not-false}
-use Rattle.search.specs.Arrays.{at, finalMark}
-use Rattle.reach.specs.Explored.{Table, table}
-use Rattle.reach.proofs.Searched.{AtTop, AtStep, top-below, leave-count, turn-leave, at-step, turn-pass, step-below, turn-enter, loop, turn-depth}
+use Rattle.search.specs.Arrays.{Arrays, arrays, at, finalMark}
+use Rattle.reach.specs.Explored.{Table, table, Underway}
+use Rattle.reach.proofs.Stack.{AtTop, AtStep}
+use Rattle.reach.proofs.Leaving.{top-below, leave-count}
+use Rattle.reach.proofs.Passing.{loop}
+use Rattle.reach.proofs.Turns.{turn-leave, at-step, turn-pass, step-below, turn-enter, turn-depth}
 use Rattle.reach.proofs.explore.turn.Statement.{statement}
 use Rattle.reach.proofs.explore.turn.Tie as tie
 
--- the arrays of the search
-abbrev arrays : tie.Start → Table
-arrays c = table (c .args .rank .now) (c .args .cursor .now) (c .args .stack .now) (c .args .order .now) (c .args .via .now)
+-- the arrays of the search, and of a graph
+abbrev searched : tie.Start → Table
+searched c = table (c .args .rank .now) (c .args .cursor .now) (c .args .stack .now) (c .args .order .now) (c .args .via .now)
 
--- the state on top of the stack, and its cursor
-abbrev Topped : tie.Start → ℕ → Type 0
-Topped c s = AtTop (c .args .n) (c .args .m) (c .args .marks .now) (c .args .from .now) (c .args .to .now) (c .args .head .now) (c .args .link .now) (arrays c)
-    (c .args .d) (c .args .done) (c .args .d - 1) s
+abbrev graph : tie.Start → ℕ → ℕ → List ℕ → Arrays
+graph c n m from = arrays n m (c .args .marks .now) from (c .args .to .now)
 
-abbrev Stepped : tie.Start → ℕ → ℕ → Type 0
-Stepped c s t = AtStep (c .args .n) (c .args .m) (c .args .marks .now) (c .args .from .now) (c .args .to .now) (c .args .head .now) (c .args .link .now) (arrays c)
-    (c .args .d) (c .args .done) (c .args .d - 1) s t
+-- the search there, with the state on top of the stack, and with its cursor
+abbrev Going : tie.Start → ℕ → ℕ → List ℕ → Type 0
+Going c n m from = Underway (graph c n m from) (c .args .head .now) (c .args .link .now) (searched c) (c .args .d) (c .args .done)
 
-topped : (c : tie.After-wide) → Topped (c .before .before) (c .wide .result)
-topped c =
-    let p = c .before .before .pre in
-    record {
-      under = record { ends = p .0 .0; chains = p .0 .1; sized = p .1 .0; search = p .1 .1 };
-      some = omega arith;
-      top = sym (c .wide .ensures);
-    }
+abbrev Topped : tie.Start → ℕ → ℕ → List ℕ → ℕ → Type 0
+Topped c n m from s = AtTop (graph c n m from) (c .args .head .now) (c .args .link .now) (searched c) (c .args .d) (c .args .done) (c .args .d - 1) s
 
-stepped : (c : tie.Else1) → Stepped (c .before .before .before .before .before) (c .before .before .before .wide .result) (c .before .wide2 .result)
-stepped c = at-step (topped (c .before .before .before)) (sym (c .before .wide2 .ensures)) (c .if1 .left)
+abbrev Stepped : tie.Start → ℕ → ℕ → List ℕ → ℕ → ℕ → Type 0
+Stepped c n m from s t = AtStep (graph c n m from) (c .args .head .now) (c .args .link .now) (searched c) (c .args .d) (c .args .done) (c .args .d - 1) s t
+
+topped : (c : tie.After-wide) {n m : ℕ} {from : List ℕ} → Going (c .before .before) n m from → Topped (c .before .before) n m from (c .wide .result)
+topped c u = record { under = u; some = omega (arith, c .before .before .pre .3); top = sym (c .wide .ensures) }
+
+stepped : (c : tie.Else1) {n m : ℕ} {from : List ℕ} → Going (c .before .before .before .before .before) n m from
+    → Stepped (c .before .before .before .before .before) n m from (c .before .before .before .wide .result) (c .before .wide2 .result)
+stepped c u = at-step (topped (c .before .before .before) u) (sym (c .before .wide2 .ensures)) (c .if1 .left)
 
 -- the numbers that are read are below their bounds
+
 s-below : (c : tie.After-wide) → c .wide .result < 512
-s-below c = let o = topped c in omega (arith, top-below o)
+s-below c = let u = c .before .before .pre .4 in omega (arith, top-below (topped c u), u .linked .bounded .states)
 
 t-below : (c : tie.Else1) → c .before .wide2 .result < 2048
-t-below c = stepped c .more
+t-below c = stepped c (c .before .before .before .before .before .pre .4) .more
 
 v-below : (c : tie.After-wide3) → c .wide3 .result < 512
-v-below c = let g = stepped (c .before .before) in let b = step-below g in omega (arith, c .wide3 .ensures)
+v-below c =
+    let u = c .before .before .before .before .before .before .before .pre .4 in
+    omega (arith, step-below (stepped (c .before .before) u), c .wide3 .ensures, u .linked .bounded .states)
 
 -- the state that the transition leads to, its rank and its mark
+
 v-is : (c : tie.After-wide3) → c .wide3 .result ≡ at (c .before .before .before .before .before .before .before .args .to .now) (c .before .before .before .wide2 .result)
 v-is c = c .wide3 .ensures
 
@@ -88,7 +95,9 @@ mul-order : tie.Need-mul-order
 mul-order c = search needs
 
 element-write-order : tie.Need-element-write-order
-element-write-order c = let o = topped (c .before .before .before) in omega (arith, leave-count o)
+element-write-order c =
+    let u = c .before .before .before .before .before .pre .4 in
+    omega (arith, leave-count (topped (c .before .before .before) u), u .linked .bounded .states)
 
 add-rank : tie.Need-add-rank
 add-rank c = search needs
@@ -102,14 +111,14 @@ mul-rank c = omega (arith, s-below (c .before .before .before))
 element-write-rank : tie.Need-element-write-rank
 element-write-rank c = omega (arith, s-below (c .before .before .before))
 
-sub-t28 : tie.Need-sub-t28
-sub-t28 c = search needs
+sub-t25 : tie.Need-sub-t25
+sub-t25 c = search needs
 
-add-t31 : tie.Need-add-t31
-add-t31 c = search needs
+add-t28 : tie.Need-add-t28
+add-t28 c = search needs
 
 returns : tie.Need-returns
-returns c = turn-leave (topped (c .before .before .before)) (sym (c .before .wide2 .ensures) ∙ c .if1 .taken)
+returns c = λ n m from u. turn-leave (topped (c .before .before .before) u) (sym (c .before .wide2 .ensures) ∙ c .if1 .taken)
 
 mul-wide-3 : tie.Need-mul-wide-3
 mul-wide-3 c = omega (arith, t-below c)
@@ -129,14 +138,13 @@ element-copy-out-wide-4 c = omega (arith, v-below c)
 wide-requires-4 : tie.Need-wide-requires-4
 wide-requires-4 c κs = search needs
 
-sub-t38 : tie.Need-sub-t38
-sub-t38 c = search needs
+sub-t35 : tie.Need-sub-t35
+sub-t35 c = search needs
 
 returns-2 : tie.Need-returns-2
 returns-2 c =
     let k = c .before in
-    let g = stepped (k .before .before .before .before) in
-    loop g _ (sym (r-is k) ∙ omega arith)
+    λ n m from u. loop (stepped (k .before .before .before .before) u) _ (sym (r-is k) ∙ omega arith)
 
 element-copy-out-is-final : tie.Need-element-copy-out-is-final
 element-copy-out-is-final c = omega (arith, v-below (c .before .before .before))
@@ -150,20 +158,21 @@ cast-enter c = omega (arith, t-below (c .before .before .before .before .before 
 enter-requires : tie.Need-enter-requires
 enter-requires c κs =
     let k = c .before .before .before .before .before .before .before .before .before in
-    let g = stepped (k .before .before .before .before) in
+    let u = k .before .before .before .before .before .before .before .before .before .pre .4 in
+    let g = stepped (k .before .before .before .before) u in
     let e = turn-depth g (sym (r-is k) ∙ c .before .before .before .before .if4 .taken) in
-    (v-below (k .before .before), omega (arith, g .on .under .ends .states))
+    (v-below (k .before .before), omega (arith, u .linked .bounded .states))
 
-add-t50 : tie.Need-add-t50
-add-t50 c = search needs
+add-t47 : tie.Need-add-t47
+add-t47 c = search needs
 
 returns-3 : tie.Need-returns-3
 returns-3 c =
     let k = c .before .before .before .before .before .before .before .before .before .before in
     let i = c .before .before .before .before .before in
-    let g = stepped (k .before .before .before .before) in
     let e = c .enter .ensures in
-    let q = turn-enter g (sym (r-is k) ∙ i .if4 .taken) (sym (final-is (i .before .before)) ∙ not-true _ (i .before .if3 .taken)) in
+    λ n m from u.
+    let q = turn-enter (stepped (k .before .before .before .before) u) (sym (r-is k) ∙ i .if4 .taken) (sym (final-is (i .before .before)) ∙ not-true _ (i .before .if3 .taken)) in
     rw (e .0, e .1, e .2, e .3, v-is (k .before .before)) q
 
 mul-cursor : tie.Need-mul-cursor
@@ -181,9 +190,8 @@ element-write-cursor c = omega (arith, s-below (c .before .before .before .befor
 returns-4 : tie.Need-returns-4
 returns-4 c =
     let k = c .before .before .before .before .before in
-    let g = stepped (k .before .before .before .before) in
     let r = r-is k in
-    turn-pass g (⊎-elim (λ x. inr (omega (arith, x .1 .left), omega arith)) (λ x. inl (sym (final-is (c .before .before)) ∙ not-false _ (x .left))) (c .before .if3 .came))
+    λ n m from u. turn-pass (stepped (k .before .before .before .before) u) (⊎-elim (λ x. inr (omega (arith, x .1 .left), omega arith)) (λ x. inl (sym (final-is (c .before .before)) ∙ not-false _ (x .left))) (c .before .if3 .came))
 
 pub turn-spec : {M : Type 1} → statement M
 turn-spec =
@@ -203,8 +211,8 @@ turn-spec =
     cast-rank
     mul-rank
     element-write-rank
-    sub-t28
-    add-t31
+    sub-t25
+    add-t28
     returns
     mul-wide-3
     element-copy-out-wide-3
@@ -212,13 +220,13 @@ turn-spec =
     mul-wide-4
     element-copy-out-wide-4
     wide-requires-4
-    sub-t38
+    sub-t35
     returns-2
     element-copy-out-is-final
     is-final-requires
     cast-enter
     enter-requires
-    add-t50
+    add-t47
     returns-3
     mul-cursor
     element-copy-out-cursor

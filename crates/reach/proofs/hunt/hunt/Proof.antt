@@ -1,161 +1,162 @@
--- `reach::hunt::hunt` meets its contract. The invariant of the state loop: no dead end is known, and every state passed was looked at; of the
--- transition loop: every transition of the state that was passed leads to a final state, or to one that has a transition.
+-- `reach::hunt::hunt` meets its contract, in whatever graph the states were entered. The invariant of the state loop: no dead end is known, and every state passed was
+-- looked at; of the transition loop: every transition of the state that was passed leads to a final state, or to one that has a transition.
 -- Assumes nothing.
-use Prim.Native.Nat.{ℕ, zero, suc, _+_, _-_, _*_, _≤_, _<_}
-use mathlib.Core.Bool.{Bool, true, false, not}
-use mathlib.Core.List.{List, [], _∷_, _++_}
-use mathlib.Core.Logic.{_⊎_, inl, inr, ⊎-elim}
+use Prim.Native.Nat.{ℕ, _-_, _≤_, _<_}
+use mathlib.Core.Bool.{true≢false}
+use mathlib.Core.List.{List}
+use mathlib.Core.Logic.{inl, inr, ⊎-elim}
 use mathlib.Core.Path.{_≡_, refl, sym, ap, _∙_}
 use native.Mathlib.Omega.{arith}
 use borrow.Author.Count.{below-none, below-more}
 use borrow.Author.Needs.{needs}
-use borrow.Author.Tests.{lt-ltb, le-ltb, le-leb, lt-leb, eq-eqb, ne-eqb, not-true, not-false, eqb-true, eqb-false}
-use lib.Dec.{ltb, leb, eqb}
-use lib.ListN.{length, getD, set, take, drop, length-set}
-use lib.Seq.{getD-set-same, getD-set-other}
-use mathlib.Core.Bool.{true≢false}
-use Rattle.search.proofs.Chained.{Passed, passed-none, first-passed, first-leaves, chain-rises, all-passed, head-below}
-use Rattle.search.specs.Arrays.{finalMark}
-use Rattle.reach.proofs.Hunting.{Onward, Looked, none-leaves, hunted-none}
-use Rattle.search.specs.Arrays.{at, UnfinishedIn}
+use borrow.Author.Tests.{not-true, not-false}
+use Rattle.search.specs.Arrays.{Arrays, arrays, at, finalMark, UnfinishedIn}
+use Rattle.search.proofs.Chained.{Followed, followed-first, followed-rises, followed-next, followed-all}
+use Rattle.reach.specs.Explored.{Entered}
+use Rattle.reach.proofs.Hunting.{Onward, Looked, none-leaves, head-below, hunted-none}
 use Rattle.reach.proofs.hunt.hunt.Statement.{statement}
 use Rattle.reach.proofs.hunt.hunt.Tie as tie
-use Rattle.reach.proofs.hunt.hunt.Reads as reads
-use Rattle.reach.proofs.hunt.hunt.Lts as lts
-use Rattle.arrays.proofs.limits.wide.Reads as wide-reads
-use Rattle.search.proofs.is_final.Reads as is-final-reads
 
 abbrev Inv-transitions : tie.InvT-transitions
-Inv-transitions n m marks from to head link rank via dead₀ s t₀ dead t = (dead ≡ 512) × (t ≤ 2048) × (t < 2048 → (t < m) × (at from t ≡ s)) × Passed from m (Onward m marks from to head via) s t
+Inv-transitions n marks to head link rank via dead₀ s t₀ dead t = (dead ≡ 512)
+    × ((m : ℕ) (from : List ℕ) → Entered (arrays n m marks from to) head link rank via → Followed from m (Onward (arrays n m marks from to) head) s t)
 
 abbrev μ-transitions : tie.MeasureT-transitions
-μ-transitions n m marks from to head link rank via dead₀ s t₀ dead t = 2048 - t
+μ-transitions n marks to head link rank via dead₀ s t₀ dead t = 2048 - t
 
 abbrev Inv-states : tie.InvT-states
-Inv-states n m marks from to head link rank via dead₀ s₀ dead s = (s ≤ n) × (dead ≡ 512) × ((x : ℕ) → x < s → 0 < at rank x → Looked m marks from to head via x)
+Inv-states n marks to head link rank via dead₀ s₀ dead s = (s ≤ n) × (dead ≡ 512)
+    × ((x : ℕ) → x < s → (m : ℕ) (from : List ℕ) → Entered (arrays n m marks from to) head link rank via → 0 < at rank x → Looked (arrays n m marks from to) head via x)
 
 abbrev μ-states : tie.MeasureT-states
-μ-states n m marks from to head link rank via dead₀ s₀ dead s = n - s
+μ-states n marks to head link rank via dead₀ s₀ dead s = n - s
+
+abbrev Start : Type 0
+Start = tie.Start Inv-transitions μ-transitions Inv-states μ-states
+
+abbrev graph : Start → ℕ → List ℕ → Arrays
+graph c m from = arrays (c .args .n) m (c .args .marks .now) from (c .args .to .now)
+
+abbrev Known : Start → ℕ → List ℕ → Type 0
+Known c m from = Entered (graph c m from) (c .args .head .now) (c .args .link .now) (c .args .rank .now) (c .args .via .now)
+
+few : (c : Start) → c .args .n ≤ 512
+few c = c .pre .2 .linked .bounded .states
+
+-- the transition looked at is one of the state, in each graph
+listed : (c : tie.In-transitions Inv-transitions μ-transitions Inv-states μ-states) (m : ℕ) (from : List ℕ)
+    → Known (c .before .before .before .before .before .before .before .before .before) m from
+    → (c .before .transitions .t < m) × (at from (c .before .transitions .t) ≡ c .before .before .before .before .before .before .before .before .states .s)
+listed c m from e = c .before .transitions .inv .1 m from e .here (c .transitions-test .taken)
+
+-- the state that it leads to
+target : (c : tie.After-wide2 Inv-transitions μ-transitions Inv-states μ-states)
+    → c .wide2 .result ≡ at (c .before .before .before .before .before .before .before .before .before .before .before .args .to .now) (c .before .before .before .transitions .t)
+target c = c .wide2 .ensures
+
+arrives : (c : tie.After-wide2 Inv-transitions μ-transitions Inv-states μ-states) (m : ℕ) (from : List ℕ)
+    → Known (c .before .before .before .before .before .before .before .before .before .before .before) m from
+    → c .wide2 .result < c .before .before .before .before .before .before .before .before .before .before .before .args .n
+arrives c m from e = omega (arith, target c, e .linked .bounded .arrives (c .before .before .before .transitions .t) (listed (c .before .before) m from e .0))
+
+target-below : (c : tie.After-wide2 Inv-transitions μ-transitions Inv-states μ-states) → c .wide2 .result < 512
+target-below c =
+    let s = c .before .before .before .before .before .before .before .before .before .before .before in
+    omega (arith, arrives c (s .pre .0) (s .pre .1) (s .pre .2), few s)
 
 states-holds : tie.Need-states-holds Inv-transitions μ-transitions Inv-states μ-states
 states-holds c = (omega arith, refl, below-none _)
 
 mul-if1 : tie.Need-mul-if1 Inv-transitions μ-transitions Inv-states μ-states
-mul-if1 c = omega (arith, c .before .before .pre .0 .0 .states)
+mul-if1 c = omega (arith, few (c .before .before))
 
 element-copy-out-if1 :
     tie.Need-element-copy-out-if1 Inv-transitions μ-transitions Inv-states μ-states
-element-copy-out-if1 c = omega (arith, c .before .before .pre .0 .0 .states)
+element-copy-out-if1 c = omega (arith, few (c .before .before))
 
 mul-wide : tie.Need-mul-wide Inv-transitions μ-transitions Inv-states μ-states
-mul-wide c = omega (arith, c .before .before .before .before .pre .0 .0 .states)
+mul-wide c = omega (arith, few (c .before .before .before .before))
 
 element-copy-out-wide :
     tie.Need-element-copy-out-wide Inv-transitions μ-transitions Inv-states μ-states
-element-copy-out-wide c = omega (arith, c .before .before .before .before .pre .0 .0 .states)
+element-copy-out-wide c = omega (arith, few (c .before .before .before .before))
 
 wide-requires : tie.Need-wide-requires Inv-transitions μ-transitions Inv-states μ-states
 wide-requires c κs = search needs
 
 mul-if3 : tie.Need-mul-if3 Inv-transitions μ-transitions Inv-states μ-states
-mul-if3 c = omega (arith, c .before .before .before .before .before .before .before .pre .0 .0 .states)
+mul-if3 c = omega (arith, few (c .before .before .before .before .before .before .before))
 
 element-copy-out-if3 :
     tie.Need-element-copy-out-if3 Inv-transitions μ-transitions Inv-states μ-states
-element-copy-out-if3 c = omega (arith, c .before .before .before .before .before .before .before .pre .0 .0 .states)
+element-copy-out-if3 c = omega (arith, few (c .before .before .before .before .before .before .before))
+
+cast-if3 : tie.Need-cast-if3 Inv-transitions μ-transitions Inv-states μ-states
+cast-if3 c = search needs
 
 transitions-holds : tie.Need-transitions-holds Inv-transitions μ-transitions Inv-states μ-states
 transitions-holds c =
-    let a = c .before .before .before .before .before .before .before .args in
-    let f = rw (← c .before .wide .ensures) at (c .before .before .before .before .before .before .before .pre .0 .1 .heads (c .before .before .before .before .before .before .states .s) (omega (arith, c .before .before .before .before .before .before .before .pre .0 .0 .states))) in
-    (c .before .before .before .before .before .before .states .inv .1, f .most, first-leaves (a .from .now) (a .m) f, passed-none (a .from .now) (a .m) _ f)
+    let o = c .before .before .before .before .before .before in (
+      o .states .inv .1,
+      λ m from e. followed-first (e .linked .chains) _ (omega (arith, few (o .before))) (c .before .wide .ensures),
+    )
 
 mul-wide-2 : tie.Need-mul-wide-2 Inv-transitions μ-transitions Inv-states μ-states
-mul-wide-2 c =
-    let a = c .before .before .before .before .before .before .before .before .before .args in
-    let l = c .before .transitions in
-    let q = l .inv .2 (c .transitions-test .taken) in
-    omega arith
+mul-wide-2 c = search needs
 
 element-copy-out-wide-2 :
     tie.Need-element-copy-out-wide-2 Inv-transitions μ-transitions Inv-states μ-states
-element-copy-out-wide-2 c =
-    let a = c .before .before .before .before .before .before .before .before .before .args in
-    let l = c .before .transitions in
-    let q = l .inv .2 (c .transitions-test .taken) in
-    omega arith
+element-copy-out-wide-2 c = search needs
 
 wide-requires-2 : tie.Need-wide-requires-2 Inv-transitions μ-transitions Inv-states μ-states
 wide-requires-2 c κs = search needs
 
 mul-if4 : tie.Need-mul-if4 Inv-transitions μ-transitions Inv-states μ-states
-mul-if4 c =
-    let a = c .before .before .before .before .before .before .before .before .before .before .before .args in
-    let l = c .before .before .before .transitions in
-    let q = l .inv .2 (c .before .before .transitions-test .taken) in
-    let e : c .wide2 .result ≡ at (a .to .now) (l .t) = c .wide2 .ensures in
-    omega (arith, c .before .before .before .before .before .before .before .before .before .before .before .pre .0 .0 .arrives (l .t) (q .0), c .before .before .before .before .before .before .before .before .before .before .before .pre .0 .0 .states)
+mul-if4 c = omega (arith, target-below c)
 
 element-copy-out-if4 :
     tie.Need-element-copy-out-if4 Inv-transitions μ-transitions Inv-states μ-states
-element-copy-out-if4 c =
-    let a = c .before .before .before .before .before .before .before .before .before .before .before .args in
-    let l = c .before .before .before .transitions in
-    let q = l .inv .2 (c .before .before .transitions-test .taken) in
-    let e : c .wide2 .result ≡ at (a .to .now) (l .t) = c .wide2 .ensures in
-    omega (arith, c .before .before .before .before .before .before .before .before .before .before .before .pre .0 .0 .arrives (l .t) (q .0), c .before .before .before .before .before .before .before .before .before .before .before .pre .0 .0 .states)
+element-copy-out-if4 c = omega (arith, target-below c)
+
+cast-if4 : tie.Need-cast-if4 Inv-transitions μ-transitions Inv-states μ-states
+cast-if4 c = search needs
 
 element-copy-out-is-final :
     tie.Need-element-copy-out-is-final Inv-transitions μ-transitions Inv-states μ-states
-element-copy-out-is-final c =
-    let a = c .before .before .before .before .before .before .before .before .before .before .before .before .before .args in
-    let l = c .before .before .before .before .before .transitions in
-    let q = l .inv .2 (c .before .before .before .before .transitions-test .taken) in
-    let e : c .before .before .wide2 .result ≡ at (a .to .now) (l .t) = c .before .before .wide2 .ensures in
-    omega (arith, c .before .before .before .before .before .before .before .before .before .before .before .before .before .pre .0 .0 .arrives (l .t) (q .0), c .before .before .before .before .before .before .before .before .before .before .before .before .before .pre .0 .0 .states)
+element-copy-out-is-final c = omega (arith, target-below (c .before .before))
 
 is-final-requires : tie.Need-is-final-requires Inv-transitions μ-transitions Inv-states μ-states
 is-final-requires c κs = search needs
 
 mul-wide-3 : tie.Need-mul-wide-3 Inv-transitions μ-transitions Inv-states μ-states
-mul-wide-3 c =
-    let a = c .before .before .before .before .before .before .before .before .before .before .before .before .before .args in
-    let l = c .before .before .before .before .before .transitions in
-    let q = l .inv .2 (c .before .before .before .before .transitions-test .taken) in
-    omega arith
+mul-wide-3 c = search needs
 
 element-copy-out-wide-3 :
     tie.Need-element-copy-out-wide-3 Inv-transitions μ-transitions Inv-states μ-states
-element-copy-out-wide-3 c =
-    let a = c .before .before .before .before .before .before .before .before .before .before .before .before .before .args in
-    let l = c .before .before .before .before .before .transitions in
-    let q = l .inv .2 (c .before .before .before .before .transitions-test .taken) in
-    omega arith
+element-copy-out-wide-3 c = search needs
 
 wide-requires-3 : tie.Need-wide-requires-3 Inv-transitions μ-transitions Inv-states μ-states
 wide-requires-3 c κs = search needs
 
 transitions-less : tie.Need-transitions-less Inv-transitions μ-transitions Inv-states μ-states
 transitions-less c =
-    let a = c .before .before .before .before .before .before .before .before .before .before .before .before .before .before .before .args in
-    let l = c .before .before .before .before .before .before .before .transitions in
-    let q = l .inv .2 (c .before .before .before .before .before .before .transitions-test .taken) in
-    let f = c .before .before .before .before .before .before .before .before .before .before .before .before .before .before .before .pre .0 .1 .links (l .t) (q .0) in
-    let e : c .wide3 .result ≡ at (a .link .now) (l .t) = c .wide3 .ensures in
-    omega (arith, chain-rises (a .from .now) (a .m) f (c .before .before .before .before .before .before .transitions-test .taken))
+    let l = c .before .before .before .before .before .before in
+    let p = l .before .before .before .before .before .before .before .before .before .pre in
+    omega (arith, c .wide3 .ensures, followed-rises (p .2 .linked .chains) _ (l .before .transitions .inv .1 (p .0) (p .1) (p .2)) (l .transitions-test .taken))
 
 transitions-again : tie.Need-transitions-again Inv-transitions μ-transitions Inv-states μ-states
 transitions-again c =
-    let a = c .before .before .before .before .before .before .before .before .before .before .before .before .before .before .before .args in
-    let l = c .before .before .before .before .before .before .before .transitions in
-    let q = l .inv .2 (c .before .before .before .before .before .before .transitions-test .taken) in
-    let f = rw (q .1, ← c .wide3 .ensures) at (c .before .before .before .before .before .before .before .before .before .before .before .before .before .before .before .pre .0 .1 .links (l .t) (q .0)) in (
-      l .inv .0,
-      f .most,
-      first-leaves (a .from .now) (a .m) f,
-      first-passed (a .from .now) (a .m) _ f (l .inv .3)
-          (⊎-elim (λ w v. absurd (true≢false (sym (not-false _ (w .3 .left)) ∙ w .2 .ensures ∙ ap (λ (x : ℕ). finalMark (at (a .marks .now) x)) (c .before .before .before .before .wide2 .ensures) ∙ v)))
-          (λ w v. rw (← c .before .before .before .before .wide2 .ensures) (head-below (a .from .now) (a .m) (c .before .before .before .before .before .before .before .before .before .before .before .before .before .before .before .pre .0 .1 .heads (c .before .before .before .before .wide2 .result) (omega (arith, c .before .before .before .before .before .before .before .before .before .before .before .before .before .before .before .pre .0 .0 .states, c .before .before .before .before .before .before .before .before .before .before .before .before .before .before .before .pre .0 .0 .arrives (l .t) (q .0), c .before .before .before .before .wide2 .ensures))) (w .left))) (c .before .before .if4 .came)),
+    let l = c .before .before .before .before .before .before in
+    let w = c .before .before .before .before in
+    let a = l .before .before .before .before .before .before .before .before .before .args in (
+      l .before .transitions .inv .0,
+      λ m from e.
+          followed-next (e .linked .chains) _ (l .before .transitions .inv .1 m from e) (l .transitions-test .taken)
+          (⊎-elim
+          (λ x v. absurd (true≢false (sym (not-false _ (x .3 .left)) ∙ x .2 .ensures ∙ ap (λ (y : ℕ). finalMark (at (a .marks .now) y)) (target w) ∙ v)))
+          (λ x v. rw (← target w) (head-below e (w .wide2 .result) (arrives w m from e) (x .left)))
+          (c .before .before .if4 .came))
+          (c .wide3 .ensures),
     )
 
 add-s : tie.Need-add-s Inv-transitions μ-transitions Inv-states μ-states
@@ -166,59 +167,44 @@ states-less c = omega arith
 
 states-again : tie.Need-states-again Inv-transitions μ-transitions Inv-states μ-states
 states-again c =
-    let a = c .before .before .before .before .args in
     let s = c .before .before .before .states .s in
     let i = c .before .before .before .states .inv in
-    let f = c .before .before .before .before .pre .0 .1 .heads s (omega (arith, c .before .before .before .before .pre .0 .0 .states)) in
+    let l = c .before .before .states-test .taken in
     ⊎-elim
     (λ w. (
-      omega (arith, c .before .before .states-test .taken),
+      omega (arith, l),
       w .6 ∙ w .4 .inv .0,
-      below-more _ s (i .2) (λ r. record {
-        itself = λ e. ⊎-elim (λ q. absurd (q .2 .left e)) (λ q. head-below (a .from .now) (a .m) f (λ p. q .left (w .2 .ensures ∙ p))) (w .3 .came);
-        behind = all-passed (a .from .now) (a .m) _ (omega (arith, w .5 .left, c .before .before .before .before .pre .0 .0 .count)) (w .4 .inv .3);
+      below-more _ s (i .2) (λ m from e r. record {
+        itself = λ q. ⊎-elim (λ x. absurd (x .2 .left q)) (λ x. head-below e s l (λ p. x .left (w .2 .ensures ∙ p))) (w .3 .came);
+        behind = followed-all (w .4 .inv .1 m from e) (e .linked .bounded .count) (w .5 .left);
       }),
     ))
-    (λ w. (omega (arith, c .before .before .states-test .taken), w .1 ∙ i .1, below-more _ s (i .2) (λ r. absurd (omega (arith, w .0 .left)))))
+    (λ w. (omega (arith, l), w .1 ∙ i .1, below-more _ s (i .2) (λ m from e r. absurd (omega (arith, w .0 .left)))))
     (c .if1 .came)
 
 returns : tie.Need-returns Inv-transitions μ-transitions Inv-states μ-states
-returns c =
-    let a = c .before .before .args in
-    let l = c .before .states in
-    inr (
-      l .inv .1,
-      hunted-none (a .n) (a .m) (a .marks .now) (a .from .now) (a .to .now) (a .head .now) (a .link .now) (a .rank .now) (a .via .now)
-          (c .before .before .pre .0 .0) (c .before .before .pre .0 .1) (c .before .before .pre .1 .0) (λ x h r. l .inv .2 x (omega arith) r),
-    )
+returns c = let l = c .before .states in λ m from e. inr (l .inv .1, hunted-none e (λ x h r. l .inv .2 x (omega arith) m from e r))
 
 returns-2 : tie.Need-returns-2 Inv-transitions μ-transitions Inv-states μ-states
 returns-2 c =
-    let a = c .before .before .before .before .before .before .before .before .before .args in
-    let s = c .before .before .before .before .before .before .before .before .states .s in
-    let f = c .before .before .before .before .before .before .before .before .before .pre .0 .1 .heads s (omega (arith, c .before .before .before .before .before .before .before .before .before .pre .0 .0 .states)) in
-    inl (
-      c .before .before .before .before .before .before .before .states-test .taken,
-      c .before .before .before .before .before .if1 .taken,
-      none-leaves (a .from .now) (a .m) s (at (a .head .now) s) f (c .before .before .before .before .before .before .before .before .before .pre .0 .0 .count) (sym (c .before .before .before .wide .ensures) ∙ c .before .before .if2 .taken),
-    )
+    let l = c .before .before .before .before .before .before .before .states-test .taken in
+    λ m from e. inl (l, c .before .before .before .before .before .if1 .taken, none-leaves e _ l (sym (c .before .before .before .wide .ensures) ∙ c .before .before .if2 .taken))
 
 returns-3 : tie.Need-returns-3 Inv-transitions μ-transitions Inv-states μ-states
 returns-3 c =
-    let a = c .before .before .before .before .before .before .before .before .before .before .before .before .before .before .before .before .args in
-    let l = c .before .before .before .before .before .before .before .before .transitions in
-    let q = l .inv .2 (c .before .before .before .before .before .before .before .transitions-test .taken) in
-    let v = at (a .to .now) (l .t) in
-    let e : c .before .before .before .before .before .wide2 .result ≡ v = c .before .before .before .before .before .wide2 .ensures in
-    let h = c .before .before .before .before .before .before .before .before .before .before .before .before .before .before .before .before .pre .0 .0 .arrives (l .t) (q .0) in
-    let u : UnfinishedIn (a .marks .now) v = ap (λ (x : ℕ). finalMark (at (a .marks .now) x)) (sym e) ∙ sym (c .before .is-final .ensures) ∙ not-true _ (c .if5 .taken) in
-    let f = c .before .before .before .before .before .before .before .before .before .before .before .before .before .before .before .before .pre .0 .1 .heads v (omega (arith, c .before .before .before .before .before .before .before .before .before .before .before .before .before .before .before .before .pre .0 .0 .states)) in
-    let d : at (a .head .now) v ≡ 2048 = ap (at (a .head .now)) (sym e) ∙ c .before .before .before .if4 .taken in
-    rw e (inl (
-      h,
-      c .before .before .before .before .before .before .before .before .before .before .before .before .before .before .before .before .pre .1 .1 (c .before .before .before .before .before .before .before .before .before .before .before .before .before .before .before .states .s) (l .t) (c .before .before .before .before .before .before .before .before .before .before .before .before .before .before .states-test .taken) (c .before .before .before .before .before .before .before .before .before .before .before .before .if1 .taken) (q .0) (q .1) u,
-      none-leaves (a .from .now) (a .m) v (at (a .head .now) v) f (c .before .before .before .before .before .before .before .before .before .before .before .before .before .before .before .before .pre .0 .0 .count) d,
-    ))
+    let w = c .before .before .before .before .before in
+    let l = w .before .before in
+    let o = l .before .before .before .before .before .before .before in
+    let a = o .before .before .args in
+    let u : UnfinishedIn (a .marks .now) (at (a .to .now) (l .before .transitions .t)) =
+    ap (λ (x : ℕ). finalMark (at (a .marks .now) x)) (sym (target w)) ∙ sym (c .before .is-final .ensures) ∙ not-true _ (c .if5 .taken) in
+    λ m from e.
+    let q = listed l m from e in
+    inl (
+      arrives w m from e,
+      rw (target w) (e .onward (o .before .states .s) (l .before .transitions .t) (o .states-test .taken) (l .before .before .before .before .before .if1 .taken) (record { listed = q .0; source = q .1 }) u),
+      none-leaves e _ (arrives w m from e) (c .before .before .before .if4 .taken),
+    )
 
 pub hunt-spec : {M : Type 1} → statement M
 hunt-spec =
@@ -236,12 +222,14 @@ hunt-spec =
     wide-requires
     mul-if3
     element-copy-out-if3
+    cast-if3
     transitions-holds
     mul-wide-2
     element-copy-out-wide-2
     wide-requires-2
     mul-if4
     element-copy-out-if4
+    cast-if4
     element-copy-out-is-final
     is-final-requires
     mul-wide-3

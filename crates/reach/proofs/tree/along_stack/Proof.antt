@@ -1,24 +1,16 @@
 -- `reach::tree::along_stack` meets its contract. The invariant: the places before i hold the cursors of the states there, and those past d stay.
 -- Assumes nothing.
-use Prim.Native.Nat.{ℕ, zero, suc, _+_, _-_, _*_, _≤_, _<_}
-use mathlib.Core.Bool.{Bool, true, false, not}
-use mathlib.Core.List.{List, [], _∷_, _++_}
-use mathlib.Core.Logic.{_⊎_, inl, inr, ⊎-elim}
-use mathlib.Core.Path.{_≡_, refl, sym, ap, _∙_}
+use Prim.Native.Nat.{ℕ, _-_, _≤_, _<_}
+use mathlib.Core.Path.{_≡_, refl, ap, _∙_}
 use native.Mathlib.Omega.{arith}
 use borrow.Author.Count.{below-none, below-more}
 use borrow.Author.Needs.{needs}
-use borrow.Author.Tests.{lt-ltb, le-ltb, le-leb, lt-leb, eq-eqb, ne-eqb, not-true, not-false, eqb-true, eqb-false}
-use lib.Dec.{ltb, leb, eqb}
-use lib.ListN.{length, getD, set, take, drop, length-set}
+use lib.ListN.{length, drop, length-set}
 use lib.Seq.{getD-set-same, getD-set-other}
 use lib.Seq.{drop-set-lt}
 use Rattle.search.specs.Arrays.{at}
 use Rattle.reach.proofs.tree.along_stack.Statement.{statement}
 use Rattle.reach.proofs.tree.along_stack.Tie as tie
-use Rattle.reach.proofs.tree.along_stack.Reads as reads
-use Rattle.reach.proofs.tree.along_stack.Lts as lts
-use Rattle.arrays.proofs.limits.wide.Reads as wide-reads
 
 abbrev Inv-loop : tie.InvT-loop
 Inv-loop d stack cursor walk₀ i₀ walk i = (i ≤ d) × (length walk ≡ length walk₀) × ((j : ℕ) → j < i → at walk j ≡ at cursor (at stack j)) × (drop d walk ≡ drop d walk₀)

@@ -1,36 +1,57 @@
--- `reach::tree::climb` meets its contract. The invariant: x is k - i transitions up from s, and the places from i on hold those transitions.
+-- `reach::tree::climb` meets its contract. The invariant: x is k - i transitions up from s, and the places from i on hold those transitions (`Writing`). The measure is i.
 -- Assumes nothing.
-use Prim.Native.Nat.{ℕ, zero, suc, _+_, _-_, _*_, _≤_, _<_}
-use mathlib.Core.Bool.{Bool, true, false, not}
-use mathlib.Core.List.{List, [], _∷_, _++_}
-use mathlib.Core.Logic.{_⊎_, inl, inr, ⊎-elim}
-use mathlib.Core.Path.{_≡_, refl, sym, ap, _∙_}
+use Prim.Native.Nat.{ℕ, suc, _-_, _≤_, _<_}
+use mathlib.Core.Path.{_≡_, refl, ap, _∙_}
 use native.Mathlib.Omega.{arith}
-use borrow.Author.Count.{below-none, below-more}
 use borrow.Author.Needs.{needs}
-use borrow.Author.Tests.{lt-ltb, le-ltb, le-leb, lt-leb, eq-eqb, ne-eqb, not-true, not-false, eqb-true, eqb-false}
-use lib.Dec.{ltb, leb, eqb}
-use lib.ListN.{length, getD, set, take, drop, length-set}
-use lib.Seq.{getD-set-same, getD-set-other}
+use lib.ListN.{length, drop, length-set}
 use lib.Seq.{drop-set-lt}
-use Rattle.reach.proofs.Climbing.{Writing, writing-turn}
-use Rattle.reach.specs.Tree.{up}
 use Rattle.search.specs.Arrays.{at}
+use Rattle.reach.specs.Tree.{up, Climbs}
+use Rattle.reach.proofs.Climbing.{Writing, writing-turn}
 use Rattle.reach.proofs.tree.climb.Statement.{statement}
 use Rattle.reach.proofs.tree.climb.Tie as tie
-use Rattle.reach.proofs.tree.climb.Reads as reads
-use Rattle.reach.proofs.tree.climb.Lts as lts
-use Rattle.arrays.proofs.limits.wide.Reads as wide-reads
-use Rattle.reach.proofs.tree.height.Reads as height-reads
 
 abbrev Inv-loop : tie.InvT-loop
-Inv-loop s n m from rank via walk₀ k x₀ i₀ walk x i = (i ≤ k) × (length walk ≡ length walk₀) × (x ≡ up from via s (k - i)) × Writing from via s k i walk × (drop k walk ≡ drop k walk₀)
+Inv-loop s from via walk₀ k x₀ i₀ walk x i = (i ≤ k) × (length walk ≡ length walk₀) × (x ≡ up from via s (k - i)) × Writing from via s k i walk × (drop k walk ≡ drop k walk₀)
 
 abbrev μ-loop : tie.MeasureT-loop
-μ-loop s n m from rank via walk₀ k x₀ i₀ walk x i = i
+μ-loop s from via walk₀ k x₀ i₀ walk x i = i
+
+-- the way up, by the ranks that the caller speaks of
+way : (c : tie.After-height Inv-loop μ-loop)
+    → Climbs (c .before .before .pre .0) (c .before .before .pre .1) (c .before .before .args .from .now) (c .before .before .pre .2) (c .before .before .args .via .now) (c .before .before .args .s) (c .height .result)
+way c = let p = c .before .before .pre in c .height .ensures (p .0) (p .1) (p .2) (p .4)
+
+-- how far up x is, and that it is a state
+abbrev height : tie.In-loop Inv-loop μ-loop → ℕ
+height c = c .before .before .height .result - c .before .loop .i
+
+x-below : (c : tie.In-loop Inv-loop μ-loop) → c .before .loop .x < 512
+x-below c =
+    let k = c .before .before in
+    omega (arith, c .before .loop .inv .2, way k .below (height c) (omega arith) .0, k .before .before .pre .4 .states)
+
+i-below : (c : tie.In-loop Inv-loop μ-loop) → (c .before .loop .i ≤ 512) × (c .before .loop .i ≤ length (c .before .loop .walk))
+i-below c =
+    let p = c .before .before .before .before .pre in
+    let f = way (c .before .before) .fits in
+    (omega (arith, p .4 .states), omega (arith, p .3, c .before .loop .inv .1))
+
+-- the transition that led to x
+via-is : (c : tie.After-wide Inv-loop μ-loop) → c .wide .result
+    ≡ at (c .before .before .before .before .before .before .before .args .via .now)
+    (up (c .before .before .before .before .before .before .before .args .from .now) (c .before .before .before .before .before .before .before .args .via .now)
+    (c .before .before .before .before .before .before .before .args .s) (height (c .before .before .before)))
+via-is c = let l = c .before .before .before in c .wide .ensures ∙ ap (at (l .before .before .before .before .args .via .now)) (l .before .loop .inv .2)
+
+via-below : (c : tie.After-wide Inv-loop μ-loop) → c .wide .result < 2048
+via-below c =
+    let l = c .before .before .before in
+    omega (arith, via-is c, way (l .before .before) .listed (height l) (omega arith) .0, l .before .before .before .before .pre .4 .count)
 
 height-requires : tie.Need-height-requires Inv-loop μ-loop
-height-requires c κs = (c .before .pre .0, c .before .pre .1, c .before .pre .2, c .before .pre .4, c .before .pre .5)
+height-requires c κs = let p = c .before .pre in (p .0, p .1, p .2, p .4)
 
 loop-holds : tie.Need-loop-holds Inv-loop μ-loop
 loop-holds c =
@@ -42,69 +63,31 @@ sub-i : tie.Need-sub-i Inv-loop μ-loop
 sub-i c = search needs
 
 mul-walk : tie.Need-mul-walk Inv-loop μ-loop
-mul-walk c =
-    let a = c .before .before .before .before .args in
-    let l = c .before .loop in
-    let h = c .before .before .height .ensures in
-    let u : ℕ = c .before .before .height .result - l .i in
-    let e : l .x ≡ up (a .from .now) (a .via .now) (a .s) u = l .inv .2 in
-    omega (arith, h .below u (omega arith) .0)
+mul-walk c = omega (arith, x-below c)
 
 element-copy-out-walk : tie.Need-element-copy-out-walk Inv-loop μ-loop
-element-copy-out-walk c =
-    let a = c .before .before .before .before .args in
-    let l = c .before .loop in
-    let h = c .before .before .height .ensures in
-    let u : ℕ = c .before .before .height .result - l .i in
-    let e : l .x ≡ up (a .from .now) (a .via .now) (a .s) u = l .inv .2 in
-    omega (arith, h .below u (omega arith) .0)
+element-copy-out-walk c = omega (arith, x-below c)
 
 mul-walk-2 : tie.Need-mul-walk-2 Inv-loop μ-loop
-mul-walk-2 c = omega (arith, c .before .before .before .height .ensures .fits)
+mul-walk-2 c = omega (arith, i-below (c .before) .0)
 
 slice-write-walk : tie.Need-slice-write-walk Inv-loop μ-loop
-slice-write-walk c = omega (arith, c .before .before .before .height .ensures .fits)
+slice-write-walk c = omega (arith, i-below (c .before) .1)
 
 mul-wide : tie.Need-mul-wide Inv-loop μ-loop
-mul-wide c =
-    let a = c .before .before .before .before .before .args in
-    let l = c .before .before .loop in
-    let h = c .before .before .before .height .ensures in
-    let u : ℕ = c .before .before .before .height .result - l .i in
-    let e : l .x ≡ up (a .from .now) (a .via .now) (a .s) u = l .inv .2 in
-    omega (arith, h .below u (omega arith) .0)
+mul-wide c = omega (arith, x-below (c .before))
 
 element-copy-out-wide : tie.Need-element-copy-out-wide Inv-loop μ-loop
-element-copy-out-wide c =
-    let a = c .before .before .before .before .before .args in
-    let l = c .before .before .loop in
-    let h = c .before .before .before .height .ensures in
-    let u : ℕ = c .before .before .before .height .result - l .i in
-    let e : l .x ≡ up (a .from .now) (a .via .now) (a .s) u = l .inv .2 in
-    omega (arith, h .below u (omega arith) .0)
+element-copy-out-wide c = omega (arith, x-below (c .before))
 
 wide-requires : tie.Need-wide-requires Inv-loop μ-loop
 wide-requires c κs = search needs
 
 mul-wide-2 : tie.Need-mul-wide-2 Inv-loop μ-loop
-mul-wide-2 c =
-    let a = c .before .before .before .before .before .before .before .args in
-    let l = c .before .before .before .before .loop in
-    let h = c .before .before .before .before .before .height .ensures in
-    let u : ℕ = c .before .before .before .before .before .height .result - l .i in
-    let e : l .x ≡ up (a .from .now) (a .via .now) (a .s) u = l .inv .2 in
-    let v : c .wide .result ≡ at (a .via .now) (up (a .from .now) (a .via .now) (a .s) u) = c .wide .ensures ∙ ap (at (a .via .now)) e in
-    omega (arith, h .listed u (omega arith) .0)
+mul-wide-2 c = omega (arith, via-below c)
 
 element-copy-out-wide-2 : tie.Need-element-copy-out-wide-2 Inv-loop μ-loop
-element-copy-out-wide-2 c =
-    let a = c .before .before .before .before .before .before .before .args in
-    let l = c .before .before .before .before .loop in
-    let h = c .before .before .before .before .before .height .ensures in
-    let u : ℕ = c .before .before .before .before .before .height .result - l .i in
-    let e : l .x ≡ up (a .from .now) (a .via .now) (a .s) u = l .inv .2 in
-    let v : c .wide .result ≡ at (a .via .now) (up (a .from .now) (a .via .now) (a .s) u) = c .wide .ensures ∙ ap (at (a .via .now)) e in
-    omega (arith, h .listed u (omega arith) .0)
+element-copy-out-wide-2 c = omega (arith, via-below c)
 
 wide-requires-2 : tie.Need-wide-requires-2 Inv-loop μ-loop
 wide-requires-2 c κs = search needs
@@ -114,19 +97,18 @@ loop-less c = search needs
 
 loop-again : tie.Need-loop-again Inv-loop μ-loop
 loop-again c =
-    let a = c .before .before .before .before .before .before .before .before .before .args in
-    let l = c .before .before .before .before .before .before .loop in
-    let h = c .before .before .before .before .before .before .before .height .ensures in
-    let u : ℕ = c .before .before .before .before .before .before .before .height .result - l .i in
+    let o = c .before .before .before .before .before in
+    let a = o .before .before .before .before .args in
+    let l = o .before .loop in
+    let k : ℕ = o .before .before .height .result in
+    let u : ℕ = k - l .i in
     let e : l .x ≡ up (a .from .now) (a .via .now) (a .s) u = l .inv .2 in
-    let k : ℕ = c .before .before .before .before .before .before .before .height .result in
-    let v : c .before .before .wide .result ≡ at (a .via .now) (up (a .from .now) (a .via .now) (a .s) u) = c .before .before .wide .ensures ∙ ap (at (a .via .now)) e in
     let p : suc (l .i - 1) ≡ l .i = omega arith in
     let q : k - (l .i - 1) ≡ suc u = omega arith in
-    let w = writing-turn (a .from .now) (a .via .now) (a .s) k (l .i - 1) u (l .walk) (omega (arith, h .fits)) (omega arith) (rw p (l .inv .3)) in (
+    let w = writing-turn (a .from .now) (a .via .now) (a .s) k (l .i - 1) u (l .walk) (omega (arith, i-below o .1)) (omega arith) (rw p (l .inv .3)) in (
       omega arith,
       length-set (l .walk) _ _ ∙ l .inv .1,
-      rw q (c .wide2 .ensures ∙ ap (at (a .from .now)) v),
+      rw q (c .wide2 .ensures ∙ ap (at (a .from .now)) (via-is (c .before .before))),
       rw e w,
       drop-set-lt k (l .walk) (l .i - 1) _ (omega arith) ∙ l .inv .4,
     )

@@ -1,116 +1,92 @@
--- `reach::tree::height` meets its contract. The invariant: x is k transitions up from s, and the rank has risen at each.
--- Assumes nothing.
-use Prim.Native.Nat.{ℕ, zero, suc, _+_, _-_, _*_, _≤_, _<_}
-use mathlib.Core.Bool.{Bool, true, false, not}
-use mathlib.Core.List.{List, [], _∷_, _++_}
-use mathlib.Core.Logic.{_⊎_, inl, inr, ⊎-elim}
-use mathlib.Core.Path.{_≡_, refl, sym, ap, _∙_}
-use native.Mathlib.Omega.{arith}
-use borrow.Author.Count.{below-none, below-more}
-use borrow.Author.Needs.{needs}
-use borrow.Author.Tests.{lt-ltb, le-ltb, le-leb, lt-leb, eq-eqb, ne-eqb, not-true, not-false, eqb-true, eqb-false}
-use lib.Dec.{ltb, leb, eqb}
-use lib.ListN.{length, getD, set, take, drop, length-set}
-use lib.Seq.{getD-set-same, getD-set-other}
+-- `reach::tree::height` meets its contract. The invariant: x is k transitions up from s, and by whatever ranks s can be climbed from, they have risen at each (`Climbing`). Fewer than
+-- 512 lead up, so the measure is what is left of 512. Assumes nothing.
+use Prim.Native.Nat.{ℕ, _-_, _<_}
+use mathlib.Core.List.{List}
+use mathlib.Core.Path.{_≡_, refl, ap, _∙_}
 use native.Mathlib.Nat.{le-refl}
 use native.Mathlib.Numerals.{add-one}
-use Rattle.reach.proofs.Climbing.{Climbing, climbing-first, climbing-via, climbing-fits, climbing-turn, climbs}
-use Rattle.reach.specs.Tree.{up}
+use native.Mathlib.Omega.{arith}
+use borrow.Author.Needs.{needs}
 use Rattle.search.specs.Arrays.{at}
+use Rattle.reach.specs.Tree.{up, Climbable}
+use Rattle.reach.proofs.Climbing.{Climbing, climbing-first, climbing-via, climbing-fits, climbing-turn, climbs}
 use Rattle.reach.proofs.tree.height.Statement.{statement}
 use Rattle.reach.proofs.tree.height.Tie as tie
-use Rattle.reach.proofs.tree.height.Reads as reads
-use Rattle.reach.proofs.tree.height.Lts as lts
-use Rattle.arrays.proofs.limits.wide.Reads as wide-reads
 
 abbrev Inv-loop : tie.InvT-loop
-Inv-loop s n m from rank via x₀ k₀ x k = (x ≡ up from via s k) × Climbing n m from rank via s k
+Inv-loop s from via x₀ k₀ x k = (x ≡ up from via s k) × ((n m : ℕ) (rank : List ℕ) → Climbable n m from rank via s → Climbing n m from rank via s k)
 
 abbrev μ-loop : tie.MeasureT-loop
-μ-loop s n m from rank via x₀ k₀ x k = n - k
+μ-loop s from via x₀ k₀ x k = 512 - k
+
+-- the ranks that the caller speaks of
+climbing : (c : tie.At-loop Inv-loop μ-loop) → Climbing (c .before .pre .0) (c .before .pre .1) (c .before .args .from .now) (c .before .pre .2) (c .before .args .via .now) (c .before .args .s) (c .loop .k)
+climbing c = let p = c .before .pre in c .loop .inv .1 (p .0) (p .1) (p .2) (p .3)
+
+x-below : (c : tie.At-loop Inv-loop μ-loop) → c .loop .x < 512
+x-below c = omega (arith, c .loop .inv .0, climbing c .below (c .loop .k) (le-refl (c .loop .k)) .0, c .before .pre .3 .states)
+
+k-below : (c : tie.At-loop Inv-loop μ-loop) → c .loop .k < 512
+k-below c = omega (arith, climbing-fits (c .before .pre .3) (climbing c), c .before .pre .3 .states)
+
+-- the transition that led to x
+via-is : (c : tie.After-wide Inv-loop μ-loop) → c .wide .result
+    ≡ at (c .before .before .before .before .before .args .via .now)
+    (up (c .before .before .before .before .before .args .from .now) (c .before .before .before .before .before .args .via .now) (c .before .before .before .before .before .args .s) (c .before .before .before .before .loop .k))
+via-is c = let l = c .before .before .before .before in c .wide .ensures ∙ ap (at (l .before .args .via .now)) (l .loop .inv .0)
+
+via-below : (c : tie.After-wide Inv-loop μ-loop) → c .wide .result < 2048
+via-below c =
+    let l = c .before .before .before .before in
+    let v = climbing-via (l .before .pre .3) (climbing l) (rw (l .loop .inv .0) at (c .before .before .if1 .taken)) in
+    omega (arith, via-is c, v .0, l .before .pre .3 .count)
 
 loop-holds : tie.Need-loop-holds Inv-loop μ-loop
-loop-holds c =
-    let a = c .args in
-    (refl, climbing-first (a .n) (a .m) (a .from .now) (a .rank .now) (a .via .now) (a .s) (c .pre .0) (c .pre .3))
+loop-holds c = (refl, λ n m rank p. climbing-first p)
 
 mul-if1 : tie.Need-mul-if1 Inv-loop μ-loop
-mul-if1 c =
-    let a = c .before .args in
-    let b = c .loop .inv .1 .below (c .loop .k) (le-refl (c .loop .k)) .0 in
-    let e : c .loop .x ≡ up (a .from .now) (a .via .now) (a .s) (c .loop .k) = c .loop .inv .0 in
-    omega arith
+mul-if1 c = omega (arith, x-below c)
 
 element-copy-out-if1 : tie.Need-element-copy-out-if1 Inv-loop μ-loop
-element-copy-out-if1 c =
-    let a = c .before .args in
-    let b = c .loop .inv .1 .below (c .loop .k) (le-refl (c .loop .k)) .0 in
-    let e : c .loop .x ≡ up (a .from .now) (a .via .now) (a .s) (c .loop .k) = c .loop .inv .0 in
-    omega arith
+element-copy-out-if1 c = omega (arith, x-below c)
+
+cast-if1 : tie.Need-cast-if1 Inv-loop μ-loop
+cast-if1 c = search needs
 
 mul-wide : tie.Need-mul-wide Inv-loop μ-loop
-mul-wide c =
-    let a = c .before .before .before .args in
-    let l = c .before .before .loop in
-    let b = l .inv .1 .below (l .k) (le-refl (l .k)) .0 in
-    let e : l .x ≡ up (a .from .now) (a .via .now) (a .s) (l .k) = l .inv .0 in
-    omega arith
+mul-wide c = omega (arith, x-below (c .before .before))
 
 element-copy-out-wide : tie.Need-element-copy-out-wide Inv-loop μ-loop
-element-copy-out-wide c =
-    let a = c .before .before .before .args in
-    let l = c .before .before .loop in
-    let b = l .inv .1 .below (l .k) (le-refl (l .k)) .0 in
-    let e : l .x ≡ up (a .from .now) (a .via .now) (a .s) (l .k) = l .inv .0 in
-    omega arith
+element-copy-out-wide c = omega (arith, x-below (c .before .before))
 
 wide-requires : tie.Need-wide-requires Inv-loop μ-loop
 wide-requires c κs = search needs
 
 mul-wide-2 : tie.Need-mul-wide-2 Inv-loop μ-loop
-mul-wide-2 c =
-    let a = c .before .before .before .before .before .args in
-    let l = c .before .before .before .before .loop in
-    let v = climbing-via (a .n) (a .m) (a .from .now) (a .rank .now) (a .via .now) (a .s) (c .before .before .before .before .before .pre .4) (c .before .before .before .before .before .pre .3) (l .k) (l .inv .1) (rw (l .inv .0) at (c .before .before .if1 .taken)) in
-    let e : c .wide .result ≡ at (a .via .now) (up (a .from .now) (a .via .now) (a .s) (l .k)) = c .wide .ensures ∙ ap (at (a .via .now)) (l .inv .0) in
-    omega (arith, v .0)
+mul-wide-2 c = omega (arith, via-below c)
 
 element-copy-out-wide-2 : tie.Need-element-copy-out-wide-2 Inv-loop μ-loop
-element-copy-out-wide-2 c =
-    let a = c .before .before .before .before .before .args in
-    let l = c .before .before .before .before .loop in
-    let v = climbing-via (a .n) (a .m) (a .from .now) (a .rank .now) (a .via .now) (a .s) (c .before .before .before .before .before .pre .4) (c .before .before .before .before .before .pre .3) (l .k) (l .inv .1) (rw (l .inv .0) at (c .before .before .if1 .taken)) in
-    let e : c .wide .result ≡ at (a .via .now) (up (a .from .now) (a .via .now) (a .s) (l .k)) = c .wide .ensures ∙ ap (at (a .via .now)) (l .inv .0) in
-    omega (arith, v .0)
+element-copy-out-wide-2 c = omega (arith, via-below c)
 
 wide-requires-2 : tie.Need-wide-requires-2 Inv-loop μ-loop
 wide-requires-2 c κs = search needs
 
 add-k : tie.Need-add-k Inv-loop μ-loop
-add-k c =
-    let a = c .before .before .before .before .before .before .before .args in
-    let l = c .before .before .before .before .before .before .loop in
-    omega (arith, climbing-fits (a .n) (a .m) (a .from .now) (a .rank .now) (a .via .now) (a .s) (c .before .before .before .before .before .before .before .pre .4) (c .before .before .before .before .before .before .before .pre .3) (l .k) (l .inv .1))
+add-k c = omega (arith, k-below (c .before .before .before .before .before .before))
 
 loop-less : tie.Need-loop-less Inv-loop μ-loop
-loop-less c =
-    let a = c .before .before .before .before .before .before .before .args in
-    let l = c .before .before .before .before .before .before .loop in
-    omega (arith, climbing-fits (a .n) (a .m) (a .from .now) (a .rank .now) (a .via .now) (a .s) (c .before .before .before .before .before .before .before .pre .4) (c .before .before .before .before .before .before .before .pre .3) (l .k) (l .inv .1))
+loop-less c = omega (arith, k-below (c .before .before .before .before .before .before))
 
 loop-again : tie.Need-loop-again Inv-loop μ-loop
 loop-again c =
-    let a = c .before .before .before .before .before .before .before .args in
-    let l = c .before .before .before .before .before .before .loop in
-    let e : c .before .before .wide .result ≡ at (a .via .now) (up (a .from .now) (a .via .now) (a .s) (l .k)) = c .before .before .wide .ensures ∙ ap (at (a .via .now)) (l .inv .0) in
-    let n = climbing-turn (a .n) (a .m) (a .from .now) (a .rank .now) (a .via .now) (a .s) (c .before .before .before .before .before .before .before .pre .4) (c .before .before .before .before .before .before .before .pre .3) (l .k) (l .inv .1) (rw (l .inv .0) at (c .before .before .before .before .if1 .taken)) in
-    rw add-one (c .wide2 .ensures ∙ ap (at (a .from .now)) e, n)
+    let l = c .before .before .before .before .before .before in
+    rw add-one (
+      c .wide2 .ensures ∙ ap (at (l .before .args .from .now)) (via-is (c .before .before)),
+      λ n m rank p. climbing-turn p (l .loop .inv .1 n m rank p) (rw (l .loop .inv .0) at (c .before .before .before .before .if1 .taken)),
+    )
 
 returns : tie.Need-returns Inv-loop μ-loop
-returns c =
-    let a = c .before .before .before .args in
-    let l = c .before .before .loop in
-    climbs (a .n) (a .m) (a .from .now) (a .rank .now) (a .via .now) (a .s) (c .before .before .before .pre .4) (c .before .before .before .pre .3) (l .k) (l .inv .1) (c .before .before .before .pre .2) (rw (l .inv .0) at (c .if1 .left))
+returns c = let l = c .before .before in λ n m rank p. climbs p (l .loop .inv .1 n m rank p) (rw (l .loop .inv .0) at (c .if1 .left))
 
 pub height-spec : {M : Type 1} → statement M
 height-spec =
@@ -121,6 +97,7 @@ height-spec =
     loop-holds
     mul-if1
     element-copy-out-if1
+    cast-if1
     mul-wide
     element-copy-out-wide
     wide-requires

@@ -1,128 +1,110 @@
--- `search::route::trace` meets its contract. The invariant is `Tracing`; each turn is `traced-turn`, and at a final state it is the route.
--- Assumes nothing.
-use Prim.Native.Nat.{ℕ, zero, suc, _+_, _-_, _*_, _≤_, _<_}
-use mathlib.Core.Bool.{Bool, true, false, not}
-use mathlib.Core.List.{List, [], _∷_, _++_}
-use mathlib.Core.Logic.{_⊎_, inl, inr, ⊎-elim}
-use mathlib.Core.Path.{_≡_, refl, sym, ap, _∙_}
-use native.Mathlib.Omega.{arith}
-use borrow.Author.Count.{below-none, below-more}
-use borrow.Author.Needs.{needs}
-use borrow.Author.Tests.{lt-ltb, le-ltb, le-leb, lt-leb, eq-eqb, ne-eqb, not-true, not-false, eqb-true, eqb-false}
-use lib.Dec.{ltb, leb, eqb}
-use lib.ListN.{length, getD, set, take, drop, length-set}
-use lib.Seq.{getD-set-same, getD-set-other}
+-- `search::route::trace` meets its contract. The invariant: of whatever arrays and closes a route from s can be read off, what is written is `Tracing`; each turn is
+-- `traced-turn`, and at a final state it is the route. A route is shorter than the places, so the measure is what is left of them. Assumes nothing.
+use Prim.Native.Nat.{ℕ, _-_, _<_}
+use mathlib.Core.List.{List}
+use mathlib.Core.Path.{_≡_, sym, _∙_}
 use native.Mathlib.Numerals.{add-one}
+use native.Mathlib.Omega.{arith}
+use borrow.Author.Needs.{needs}
+use borrow.Author.Tests.{not-true, not-false}
+use lib.ListN.{length, length-set}
+use Rattle.search.specs.Arrays.{arrays, UnfinishedIn}
+use Rattle.search.specs.Route.{Readable}
 use Rattle.search.proofs.Tracing.{Tracing, traced-first, traced-fits, traced-below, traced-turn, traced-all}
-use Rattle.search.specs.Sizes.{far, heaviest}
-use Rattle.search.specs.Arrays.{at, UnfinishedIn}
 use Rattle.search.proofs.route.trace.Statement.{statement}
 use Rattle.search.proofs.route.trace.Tie as tie
-use Rattle.search.proofs.route.trace.Reads as reads
-use Rattle.search.proofs.route.trace.Lts as lts
-use Rattle.arrays.proofs.limits.wide.Reads as wide-reads
-use Rattle.search.proofs.is_final.Reads as is-final-reads
-use Rattle.search.proofs.route.accounting.Reads as accounting-reads
 
 abbrev Inv-loop : tie.InvT-loop
-Inv-loop s n m marks from to head link weight close value walk₀ x₀ k₀ walk x k = (length walk ≡ length walk₀) × Tracing n m marks from to weight close value s x k walk₀ walk
+Inv-loop s marks to head link weight value walk₀ x₀ k₀ walk x k = (length walk ≡ length walk₀)
+    × ((n m : ℕ) (from close : List ℕ) (r : Readable (arrays n m marks from to) head link weight close value s) → Tracing r x k walk₀ walk)
 
 abbrev μ-loop : tie.MeasureT-loop
-μ-loop s n m marks from to head link weight close value walk₀ x₀ k₀ walk x k = n - k
+μ-loop s marks to head link weight value walk₀ x₀ k₀ walk x k = length walk₀ - k
+
+-- the arrays and closes that the caller speaks of
+traced : (c : tie.At-loop Inv-loop μ-loop) → Tracing (c .before .before .pre .5) (c .loop .x) (c .loop .k) (c .before .before .args .walk .now) (c .loop .walk)
+traced c = let p = c .before .before .pre in c .loop .inv .1 (p .0) (p .1) (p .2) (p .3) (p .5)
+
+x-below : (c : tie.At-loop Inv-loop μ-loop) → c .loop .x < 512
+x-below c = let p = c .before .before .pre in omega (arith, traced-below (p .5) (traced c), p .5 .linked .bounded .states)
+
+k-below : (c : tie.At-loop Inv-loop μ-loop) → (c .loop .k < 512) × (c .loop .k < length (c .loop .walk))
+k-below c =
+    let p = c .before .before .pre in
+    let f = traced-fits (p .5) (traced c) in
+    (omega (arith, p .5 .linked .bounded .states), omega (arith, p .4, c .loop .inv .0))
+
+-- the state reached is unfinished in the loop
+unfinished : (c : tie.Then1 Inv-loop μ-loop) → UnfinishedIn (c .before .before .before .before .before .args .marks .now) (c .before .before .before .loop .x)
+unfinished c = sym (c .before .is-final .ensures) ∙ not-true _ (c .if1 .taken)
+
+-- the transition that is written
+t-below : (c : tie.After-accounting Inv-loop μ-loop) → c .accounting .result < 2048
+t-below c =
+    let a = c .before .before .before .before .before .before .args in
+    let p = c .before .before .before .before .before .before .pre in
+    omega (arith, c .accounting .ensures .1 (arrays (p .0) (p .1) (a .marks .now) (p .2) (a .to .now)) (p .5 .linked .chains) .listed, p .5 .linked .bounded .count)
 
 loop-holds : tie.Need-loop-holds Inv-loop μ-loop
-loop-holds c =
-    let a = c .before .args in
-    let p = c .before .pre .1 .1 in
-    (search needs, traced-first (a .n) (a .m) (a .marks .now) (a .from .now) (a .to .now) (a .weight .now) (a .close .now) (a .value .now) (p .0) (p .1) (a .s) (a .walk .now) (c .before .pre .0 .0) (p .2) (p .3))
+loop-holds c = (search needs, λ n m from close r. traced-first r (c .before .args .walk .now))
 
 element-copy-out-is-final : tie.Need-element-copy-out-is-final Inv-loop μ-loop
-element-copy-out-is-final c =
-    let a = c .before .before .args in
-    let l = c .loop in
-    let h = traced-below _ _ _ _ _ _ _ _ (a .s) (l .x) (l .k) (a .walk .now) (l .walk) (l .inv .1) in
-    omega (arith, c .before .before .pre .0 .2 .states)
+element-copy-out-is-final c = omega (arith, x-below c)
 
 is-final-requires : tie.Need-is-final-requires Inv-loop μ-loop
 is-final-requires c κs = search needs
 
 accounting-requires : tie.Need-accounting-requires Inv-loop μ-loop
 accounting-requires c κs =
-    let a = c .before .before .before .before .before .args in
-    let l = c .before .before .before .loop in
-    let i = l .inv .1 in
-    let u : UnfinishedIn (a .marks .now) (l .x) = sym (c .before .is-final .ensures) ∙ not-true _ (c .if1 .taken) in
-    let h = traced-below _ _ _ _ _ _ _ _ (a .s) (l .x) (l .k) (a .walk .now) (l .walk) i in
-    let p = c .before .before .before .before .before .pre in
-    let e = p .0 .2 in (
-      (omega (arith, e .states), e .count, p .0 .3),
-      (
-        (λ t q. (omega (arith, e .arrives t q, e .states), p .1 .0 t q .0, p .1 .0 t q .1)),
-        i .leading .accounted (l .x) h (i .within u) u,
-      ),
+    let o = c .before .before .before in
+    let r = o .before .before .pre .5 in
+    let u = unfinished c in (
+      _,
+      x-below o,
+      r .linked .bounded .count,
+      r .linked .chains,
+      (λ t q. (omega (arith, r .linked .bounded .arrives t q, r .linked .bounded .states), r .weights t q, r .values _ (r .linked .bounded .arrives t q))),
+      r .leading .accounted (o .loop .x) (traced-below r (traced o)) (traced o .within u) u,
     )
 
 cast-walk : tie.Need-cast-walk Inv-loop μ-loop
-cast-walk c = omega (arith, c .accounting .ensures .0 .listed, c .before .before .before .before .before .before .pre .0 .2 .count)
+cast-walk c = omega (arith, t-below c)
 
 mul-walk : tie.Need-mul-walk Inv-loop μ-loop
-mul-walk c =
-    let a = c .before .before .before .before .before .before .args in
-    let l = c .before .before .before .before .loop in
-    let h = traced-fits _ _ _ _ _ _ _ _ (a .s) (l .x) (l .k) (a .walk .now) (l .walk) (l .inv .1) in
-    omega (arith, c .before .before .before .before .before .before .pre .0 .2 .states)
+mul-walk c = omega (arith, k-below (c .before .before .before .before) .0)
 
 slice-write-walk : tie.Need-slice-write-walk Inv-loop μ-loop
-slice-write-walk c =
-    let a = c .before .before .before .before .before .before .args in
-    let l = c .before .before .before .before .loop in
-    let h = traced-fits _ _ _ _ _ _ _ _ (a .s) (l .x) (l .k) (a .walk .now) (l .walk) (l .inv .1) in
-    omega (arith, l .inv .0, c .before .before .before .before .before .before .pre .0 .1)
+slice-write-walk c = omega (arith, k-below (c .before .before .before .before) .1)
 
 add-k : tie.Need-add-k Inv-loop μ-loop
-add-k c =
-    let a = c .before .before .before .before .before .before .args in
-    let l = c .before .before .before .before .loop in
-    let h = traced-fits _ _ _ _ _ _ _ _ (a .s) (l .x) (l .k) (a .walk .now) (l .walk) (l .inv .1) in
-    omega (arith, c .before .before .before .before .before .before .pre .0 .2 .states)
+add-k c = omega (arith, k-below (c .before .before .before .before) .0)
 
 mul-wide : tie.Need-mul-wide Inv-loop μ-loop
-mul-wide c = omega (arith, c .accounting .ensures .0 .listed, c .before .before .before .before .before .before .pre .0 .2 .count)
+mul-wide c = omega (arith, t-below c)
 
 element-copy-out-wide : tie.Need-element-copy-out-wide Inv-loop μ-loop
-element-copy-out-wide c = omega (arith, c .accounting .ensures .0 .listed, c .before .before .before .before .before .before .pre .0 .2 .count)
+element-copy-out-wide c = omega (arith, t-below c)
 
 wide-requires : tie.Need-wide-requires Inv-loop μ-loop
 wide-requires c κs = search needs
 
 loop-less : tie.Need-loop-less Inv-loop μ-loop
-loop-less c =
-    let a = c .before .before .before .before .before .before .before .before .args in
-    let l = c .before .before .before .before .before .before .loop in
-    let h = traced-fits _ _ _ _ _ _ _ _ (a .s) (l .x) (l .k) (a .walk .now) (l .walk) (l .inv .1) in
-    omega arith
+loop-less c = let l = c .before .before .before .before .before .before in omega (arith, k-below l .1, l .loop .inv .0)
 
 loop-again : tie.Need-loop-again Inv-loop μ-loop
 loop-again c =
-    let a = c .before .before .before .before .before .before .before .before .args in
-    let l = c .before .before .before .before .before .before .loop in
-    let i = l .inv .1 in
-    let t = c .before .before .accounting .result in
-    let q = c .before .before .accounting .ensures in
-    let u : UnfinishedIn (a .marks .now) (l .x) = sym (c .before .before .before .before .is-final .ensures) ∙ not-true _ (c .before .before .before .if1 .taken) in
-    let h = traced-fits _ _ _ _ _ _ _ _ (a .s) (l .x) (l .k) (a .walk .now) (l .walk) i in
-    let b = c .before .before .before .before .before .before .before .before .pre .0 .2 .arrives t (q .0 .listed) in
-    let r = traced-turn _ _ _ _ _ _ _ _ (a .s) (l .x) (l .k) (a .walk .now) (l .walk) i t (omega (arith, l .inv .0, c .before .before .before .before .before .before .before .before .pre .0 .1)) u (q .0) b (q .1) in
-    (length-set (l .walk) _ _ ∙ l .inv .0, rw (c .wide .ensures, add-one) r)
+    let l = c .before .before .before .before .before .before in
+    let q = c .before .before .accounting .ensures in (
+      length-set (l .loop .walk) _ _ ∙ l .loop .inv .0,
+      λ n m from close r. rw (c .wide .ensures, add-one)
+          (traced-turn r (l .loop .inv .1 n m from close r) _ (k-below l .1) (unfinished (c .before .before .before)) (q .1 _ (r .linked .chains)) (q .0)),
+    )
 
 same-length : tie.Need-same-length Inv-loop μ-loop
 same-length c = c .before .before .before .loop .inv .0
 
 returns : tie.Need-returns Inv-loop μ-loop
-returns c =
-    let a = c .before .before .before .before .before .args in
-    let l = c .before .before .before .loop in
-    traced-all _ _ _ _ _ _ _ _ (a .s) (l .x) (l .k) (a .walk .now) (l .walk) (l .inv .1) (sym (c .before .is-final .ensures) ∙ not-false _ (c .if1 .left))
+returns c = λ n m from close r. traced-all r (c .before .before .before .loop .inv .1 n m from close r) (sym (c .before .is-final .ensures) ∙ not-false _ (c .if1 .left))
 
 pub trace-spec : {M : Type 1} → statement M
 trace-spec =
