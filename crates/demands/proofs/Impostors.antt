@@ -35,6 +35,7 @@ use Rattle.rules.specs.Table.{first}
 use Rattle.rules.proofs.Basic.{octets, image-of-plan, read-known}
 use Rattle.rules.proofs.ReadWrite.{image-octets, length-image}
 use Rattle.rules.proofs.Results.{never}
+use Rattle.rules.proofs.Sizes.{figure-said}
 use Rattle.plan.specs.declared.Edited.{Edited}
 use Rattle.plan.specs.declared.Plan.{Plan}
 use Rattle.plan.specs.View.{view}
@@ -42,14 +43,6 @@ use Rattle.demands.specs.Calculator.{Calculator}
 use Rattle.demands.specs.Demands.{Demand1, Demand2, OneClaim, Session, edit}
 
 -- ---- demand 3: the figures
-
--- the figure of an accepted quotation is the one by computation
-figure-said : (which : Which) (g : Graph) (f : Figure) (k j : ℕ) (before after : List ℕ) → says which g f k j before after → f ≡ figureFor which g
-unfolding figureFor
-figure-said LeastDelay g f k j before after x = x .figure
-figure-said GreatestDelay g f k j before after x = x .figure
-figure-said LeastCount g f k j before after x = x .figure
-figure-said GreatestCount g f k j before after x = x .figure
 
 -- beside P1, a plan with another figure: P2, and for the least count P6
 other : Which → Row

@@ -14,7 +14,8 @@ use lib.Seq.{length-take-le, getD-take}
 use Rattle.graph.specs.Graph.{Graph, states, count, from, low, high, Final, Unfinished, DeadEnd, Closed}
 use Rattle.graph.specs.Walk.{visits}
 use Rattle.graph.specs.Route.{Cost, lows, highs, counts}
-use Rattle.graph.specs.Figure.{Figure, number, NONE, STRANDED, ENDLESS, IsLeast, IsGreatest, Shown}
+use Rattle.graph.specs.declared.Which.the-variants.{LeastDelay, GreatestDelay, LeastCount, GreatestCount}
+use Rattle.graph.specs.Figure.{Figure, number, NONE, STRANDED, ENDLESS, IsLeast, IsGreatest, Shown, most}
 use Rattle.graph.proofs.Repeat.{nth, different-length}
 use Rattle.graph.proofs.Walks.{start-below, length-visits, visits-below}
 use Rattle.graph.proofs.Simple.{simple-length}
@@ -65,15 +66,15 @@ module _ (g : Graph) (closed : Closed g) (c : Cost) (small : states g ≤ 512)
 
 module _ (g : Graph) (closed : Closed g) (small : states g ≤ 512) (k : ℕ) where
   -- a delay, of 511 transitions of 2,047 seconds
-  pub least-delay-le : ((t : ℕ) → t < count g → low g t ≤ 2047) → IsLeast g (lows g) (number k) → k ≤ 1_046_017
+  pub least-delay-le : ((t : ℕ) → t < count g → low g t ≤ 2047) → IsLeast g (lows g) (number k) → k ≤ most LeastDelay
   least-delay-le h u = least-number-le g closed (lows g) small 2047 0 h (λ s. zero-le) k u
 
-  pub greatest-delay-le : ((t : ℕ) → t < count g → high g t ≤ 2047) → IsGreatest g (highs g) (number k) → k ≤ 1_046_017
+  pub greatest-delay-le : ((t : ℕ) → t < count g → high g t ≤ 2047) → IsGreatest g (highs g) (number k) → k ≤ most GreatestDelay
   greatest-delay-le h u = greatest-number-le g closed (highs g) small 2047 0 h (λ s. zero-le) k u
 
   -- and a count, over any yes-or-no on states
-  pub least-count-le : (p : ℕ → Bool) → IsLeast g (counts g p) (number k) → k ≤ 512
+  pub least-count-le : (p : ℕ → Bool) → IsLeast g (counts g p) (number k) → k ≤ most LeastCount
   least-count-le p u = least-number-le g closed (counts g p) small 1 1 (λ t h. one-le (p (from g t))) (λ s. one-le (p s)) k u
 
-  pub greatest-count-le : (p : ℕ → Bool) → IsGreatest g (counts g p) (number k) → k ≤ 512
+  pub greatest-count-le : (p : ℕ → Bool) → IsGreatest g (counts g p) (number k) → k ≤ most GreatestCount
   greatest-count-le p u = greatest-number-le g closed (counts g p) small 1 1 (λ t h. one-le (p (from g t))) (λ s. one-le (p s)) k u

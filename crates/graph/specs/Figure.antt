@@ -83,6 +83,13 @@ IsFigure GreatestDelay g = IsGreatest g (costFor GreatestDelay g)
 IsFigure LeastCount g = IsLeast g (costFor LeastCount g)
 IsFigure GreatestCount g = IsGreatest g (costFor GreatestCount g)
 
+-- the most that its number can be, of a plan within the limits: 511 transitions of 2,047 seconds, and 512 counted states (proofs/Bound.antt)
+abbrev pub most : Which → ℕ
+most LeastDelay = 1046017
+most GreatestDelay = 1046017
+most LeastCount = 512
+most GreatestCount = 512
+
 -- ---- what is shown
 
 -- the walk of transition numbers ts, k of them, with the place j, is as 01 asks for the figure. "Only ENDLESS has a j":

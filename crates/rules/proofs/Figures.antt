@@ -8,9 +8,12 @@ use mathlib.Core.Path.{_≡_}
 use Prim.Native.Nat.{ℕ, _≤_, _<_}
 use lib.ListN.{length}
 use native.Mathlib.Omega.{arith}
-use Rattle.graph.specs.Compute.{least, greatest}
-use Rattle.graph.specs.Figure.{Figure, number, IsLeast, IsGreatest, Shown}
-use Rattle.graph.specs.Graph.{Graph, states, count, Closed, transition, to, low, high}
+use Rattle.graph.specs.declared.Which.{Which}
+use Rattle.graph.specs.declared.Which.the-variants.{LeastDelay, GreatestDelay, LeastCount, GreatestCount}
+use Rattle.graph.specs.Compute.{least, greatest, figureFor}
+use Rattle.graph.specs.Figure.{Figure, number, IsLeast, IsGreatest, IsFigure, Shown, most}
+use Rattle.graph.proofs.Figures.{figure-is}
+use Rattle.graph.specs.Graph.{Graph, states, count, Closed, transition, to, low, high, counted}
 use Rattle.graph.specs.Route.{Cost, lows, highs, counts}
 use Rattle.graph.proofs.Bound.{least-within, greatest-within, least-delay-le, greatest-delay-le, least-count-le, greatest-count-le}
 use Rattle.graph.proofs.Greatest.{greatest-is, greatest-unique}
@@ -61,18 +64,22 @@ module _ (g : Graph) (w : within g ≡ true) where
   pub greatest-showable : (c : Cost) → (ts : List ℕ) × (j : ℕ) × Shown g c (greatest g c) ts j × (length ts ≤ states g)
   greatest-showable c = greatest-within g within-closed c (greatest g c) (greatest-exists c)
 
-  -- a number is at most 1,046,017 for a delay, and at most 512 for a count
-  pub least-delay-bound : (k : ℕ) → IsLeast g (lows g) (number k) → k ≤ 1046017
-  least-delay-bound k h = least-delay-le g within-closed within-states k within-lows h
-
-  pub greatest-delay-bound : (k : ℕ) → IsGreatest g (highs g) (number k) → k ≤ 1046017
-  greatest-delay-bound k h = greatest-delay-le g within-closed within-states k within-highs h
-
-  pub least-count-bound : (p : ℕ → Bool) (k : ℕ) → IsLeast g (counts g p) (number k) → k ≤ 512
+  -- and is no more than its bound; a count over any yes-or-no on states
+  pub least-count-bound : (p : ℕ → Bool) (k : ℕ) → IsLeast g (counts g p) (number k) → k ≤ most LeastCount
   least-count-bound p k h = least-count-le g within-closed within-states k p h
 
-  pub greatest-count-bound : (p : ℕ → Bool) (k : ℕ) → IsGreatest g (counts g p) (number k) → k ≤ 512
+  pub greatest-count-bound : (p : ℕ → Bool) (k : ℕ) → IsGreatest g (counts g p) (number k) → k ≤ most GreatestCount
   greatest-count-bound p k h = greatest-count-le g within-closed within-states k p h
+
+  pub figure-bound : (which : Which) (k : ℕ) → IsFigure which g (number k) → k ≤ most which
+  figure-bound LeastDelay k h = least-delay-le g within-closed within-states k within-lows h
+  figure-bound GreatestDelay k h = greatest-delay-le g within-closed within-states k within-highs h
+  figure-bound LeastCount k h = least-count-bound (counted g) k h
+  figure-bound GreatestCount k h = greatest-count-bound (counted g) k h
+
+  -- the figure that is computed is each of the four
+  pub figure-exists : (which : Which) → IsFigure which g (figureFor which g)
+  figure-exists which = figure-is which g within-closed
 
 -- every plan that a list of calls from a fresh plan comes to is within the limits
 pub listed-within : (n : ℕ) (calls : List Call) → stateCountOk n ≡ true → within (runFresh n calls .last) ≡ true

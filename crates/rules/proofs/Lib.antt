@@ -11,4 +11,5 @@ pub mod Vectors
 -- What every call keeps, the figures of a plan within the limits, and the record.
 pub mod Kept
 pub mod Figures
+pub mod Sizes
 pub mod Record
