@@ -1,18 +1,16 @@
--- Lists that a function tabulates: their elements, their parts, and a test of them all. Assumes nothing.
-use mathlib.Core.Bool.{Bool, true, false, _&&_}
+-- Lists that a function tabulates, as arrays hold them: their parts, an element set, added and taken out, and the places past them. Assumes nothing.
 use mathlib.Core.List.{List, [], _∷_, _++_, map, map-append}
 use mathlib.Core.Logic.{_≢_, _⊎_, inl, inr}
 use mathlib.Core.Path.{_≡_, refl, sym, ap, ap₂, _∙_}
 use Prim.Native.Nat.{ℕ, zero, suc, _+_, _-_, _≤_, _<_}
-use native.Mathlib.Nat.{not-suc-le-zero, eq-or-lt-of-le, le-of-suc-le-suc}
 use native.Mathlib.Omega.{arith}
 use lib.ListN.{length, getD, take, drop, set, length-append, length-drop, length-set, take-append-drop, List·getD-append}
-use lib.Seq.{ext-getD, getD-at, getD-set-same, getD-set-other, getD-take, getD-drop, getD-append-add, length-take-le, drop-set-lt, paste, paste-suc, length-paste-head}
+use lib.Seq.{getD-set-same, getD-set-other, getD-take, getD-drop, getD-append-add, length-take-le, drop-set-lt, paste, paste-suc, length-paste-head}
 use native.Mathlib.Decide.{decLt, ℕ-discrete}
 use native.Mathlib.Numerals.{add-one}
-use Rattle.rules.specs.Limits.{all}
-use Rattle.rules.proofs.Results.{all-append}
-use Rattle.arrays.specs.Tables.{tabulate, transition, transitionOf, Later, over}
+use Rattle.rules.specs.Image.{tabulate}
+use Rattle.rules.proofs.Tabulated.{length-tabulate, getD-tabulate, tabulate-of, tabulate-same}
+use Rattle.arrays.specs.Tables.{transition, transitionOf, Later, over}
 
 -- two numbers are the same or not, and one is below the other or not
 pub same-or-not : (a b : ℕ) → (a ≡ b) ⊎ (a ≢ b)

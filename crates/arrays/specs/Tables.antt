@@ -1,15 +1,11 @@
 -- The lists that arrays hold: a plan's states by their marks values, and its transitions by their four fields. Assumes nothing.
-use mathlib.Core.List.{List, [], _∷_, _++_}
-use Prim.Native.Nat.{ℕ, zero, suc, _≤_}
+use mathlib.Core.List.{List, _++_}
+use Prim.Native.Nat.{ℕ, _≤_}
 use mathlib.Core.Path.{_≡_}
 use lib.ListN.{length, getD, drop}
 use Rattle.graph.specs.Graph.{State, Transition, marked}
 use Rattle.graph.specs.Route.{Cost}
-
--- the list of f 0 up to f (n - 1)
-unfoldable pub tabulate : {A : Type 0} → ℕ → (ℕ → A) → List A
-tabulate zero f = []
-tabulate (suc n) f = tabulate n f ++ (f n ∷ [])
+use Rattle.rules.specs.Image.{tabulate}
 
 -- the state at place i of an array of marks values
 abbrev pub stateOf : List ℕ → ℕ → State

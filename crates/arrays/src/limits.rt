@@ -4,9 +4,10 @@ ghost use mathlib.Core.Bool.{_&&_};
 ghost use Prim.Native.Nat.{_≤_, _<_};
 ghost use lib.Dec.{leb, ltb};
 ghost use Rattle.arrays.specs.Tables.{statesOf, transition, transitionOf, transitionsOf};
-ghost use Rattle.rules.specs.Image.{checked as checkedRule};
+ghost use Rattle.rules.specs.Image.{transitionRows};
 ghost use Rattle.rules.specs.Limits.{all, stateCountOk, stateOk, transitionOk};
-ghost use Rattle.rules.specs.Refusal.{outcome};
+ghost use Rattle.rules.specs.Refusal.{said};
+ghost use Rattle.rules.specs.Table.{first};
 use rules::Answer;
 use rules::Refusal;
 
@@ -33,7 +34,7 @@ fn durations_ok(low: usize, high: usize) -> bool
 
 // The grounds of a transition of a plan with n states, in their order: for every call that is given transitions.
 pub fn checked(n: usize, from: usize, to: usize, low: usize, high: usize) -> Answer
-    ensures { λ r. ⌜ outcome r (transition from to low high) ≡ checkedRule n (transition from to low high) ⌝ }
+    ensures { λ r. ⌜ said r ≡ first (transitionRows n (transition from to low high)) ⌝ }
 {
     let ends = ends_ok(n, from, to);
     let durations = durations_ok(low, high);

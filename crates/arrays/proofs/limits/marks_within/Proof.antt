@@ -1,16 +1,16 @@
 -- `arrays::limits::marks_within` meets its contract. The invariant: every marks value passed is at most 7.
 -- Assumes nothing.
-use Prim.Native.Nat.{ℕ, _+_, _-_, _≤_, _<_}
-use mathlib.Core.Bool.{true, false, _&&_, not}
-use mathlib.Core.Path.{_≡_, refl, sym, ap, ap₂, _∙_, subst}
+use Prim.Native.Nat.{ℕ, _-_, _≤_, _<_}
+use mathlib.Core.Bool.{true}
+use mathlib.Core.Path.{_≡_, sym}
 use native.Mathlib.Omega.{arith}
 use borrow.Author.Count.{below-none, below-more}
 use borrow.Author.Needs.{needs}
 use borrow.Author.Tests.{le-leb, lt-leb}
 use lib.ListN.{getD}
-use Rattle.rules.specs.Limits.{all, marksOk, stateOk}
+use Rattle.rules.specs.Limits.{marksOk, stateOk}
 use Rattle.arrays.specs.Tables.{stateOf}
-use Rattle.arrays.proofs.Lists.{all-tabulate, not-all-tabulate}
+use Rattle.rules.proofs.Tabulated.{all-tabulate, not-all-tabulate}
 use Rattle.arrays.proofs.limits.marks_within.Statement.{statement}
 use Rattle.arrays.proofs.limits.marks_within.Tie as tie
 use Rattle.arrays.proofs.limits.marks_within.Reads as reads

@@ -1,12 +1,13 @@
 -- `arrays::limits::transitions_within` meets its contract. The invariant: sound says whether every transition passed is within the limits.
 -- Assumes nothing.
-use Prim.Native.Nat.{ℕ, _+_, _-_, _≤_}
+use Prim.Native.Nat.{ℕ, _-_, _≤_}
 use mathlib.Core.Bool.{Bool, _&&_}
-use mathlib.Core.Path.{_≡_, refl, sym, ap, ap₂, _∙_}
+use mathlib.Core.Path.{_≡_, refl, ap, ap₂, _∙_}
 use native.Mathlib.Omega.{arith}
 use Rattle.rules.specs.Limits.{all, transitionOk}
-use Rattle.arrays.specs.Tables.{tabulate, transitionOf, transitionsOf}
-use Rattle.arrays.proofs.Lists.{all-more}
+use Rattle.rules.specs.Image.{tabulate}
+use Rattle.arrays.specs.Tables.{transitionOf, transitionsOf}
+use Rattle.rules.proofs.Tabulated.{all-more}
 use Rattle.arrays.proofs.limits.transitions_within.Statement.{statement}
 use Rattle.arrays.proofs.limits.transitions_within.Tie as tie
 use Rattle.arrays.proofs.limits.transitions_within.Reads as reads

@@ -1,11 +1,10 @@
 -- `arrays::places::without` meets its contract. The invariant: the places from number up to i hold what stood one place later.
 -- Assumes nothing.
-use Prim.Native.Nat.{ℕ, suc, _+_, _-_, _≤_, _<_}
-use mathlib.Core.List.{List}
-use mathlib.Core.Path.{_≡_, refl, sym, ap, ap₂, _∙_}
+use Prim.Native.Nat.{ℕ, suc, _+_, _-_, _≤_}
+use mathlib.Core.Path.{_≡_, ap, _∙_}
 use native.Mathlib.Omega.{arith}
 use borrow.Author.Needs.{needs}
-use lib.ListN.{length, getD, drop, set, length-set}
+use lib.ListN.{length, drop, length-set}
 use lib.Seq.{paste, paste-zero}
 use Rattle.arrays.proofs.Lists.{moved-turn}
 use Rattle.arrays.proofs.places.without.Statement.{statement}
