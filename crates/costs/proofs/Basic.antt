@@ -8,7 +8,7 @@ use Rattle.graph.specs.Graph.{transition, to}
 use Rattle.graph.specs.Route.{Cost, total}
 use Rattle.graph.specs.Figure.{number, ENDLESS}
 use Rattle.graph.specs.Known.{P1}
-use Rattle.arrays.specs.Tables.{tabulate}
+use Rattle.rules.specs.Image.{tabulate}
 use Rattle.costs.specs.Arrays.{delayWeight, countWeight, countClose, graphOf}
 use Rattle.arrays.specs.Tables.{costOf}
 use Rattle.costs.specs.Scaled.{divided}

@@ -9,7 +9,7 @@ use lib.ListN.{getD}
 use Rattle.graph.specs.Graph.{Graph, State, Transition, marked, states, count, marksOf, counted, transition, from, to, low, high}
 use Rattle.graph.specs.Route.{lows, highs, counts, one}
 use Rattle.arrays.specs.Tables.{stateOf, transitionOf}
-use Rattle.arrays.proofs.Lists.{length-tabulate, getD-tabulate}
+use Rattle.rules.proofs.Tabulated.{length-tabulate, getD-tabulate}
 use Rattle.costs.specs.Arrays.{countedMark, delayWeight, countWeight, countClose, graphOf}
 use Rattle.arrays.specs.Tables.{costOf}
 use Rattle.costs.specs.Scaled.{Scaled}

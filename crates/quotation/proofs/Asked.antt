@@ -24,7 +24,7 @@ use Rattle.rules.specs.Rules.{givenPlan}
 use Rattle.rules.proofs.ReadWrite.{Limited, limited, Bounded, bounded}
 use Rattle.rules.proofs.Results.{never, then-accepted, holds, ground-false}
 use Rattle.arrays.specs.Tables.{stateOf, transitionOf}
-use Rattle.arrays.proofs.Lists.{length-tabulate, all-at}
+use Rattle.rules.proofs.Tabulated.{length-tabulate, all-at}
 use Rattle.plan.specs.declared.Plan.{Plan}
 use Rattle.plan.specs.View.{view}
 use Rattle.search.specs.Arrays.{at, Ends}

@@ -7,7 +7,7 @@ use borrow.Author.Count.{below-none, below-more}
 use borrow.Author.Needs.{needs}
 use borrow.Author.Tests.{not-true, not-false}
 use lib.ListN.{length}
-use Rattle.arrays.proofs.Lists.{all-tabulate, not-all-tabulate}
+use Rattle.rules.proofs.Tabulated.{all-tabulate, not-all-tabulate}
 use Rattle.replay.specs.Slices.{isCall, itemAt}
 use Rattle.replay.proofs.each_call.Statement.{statement}
 use Rattle.replay.proofs.each_call.Tie as tie

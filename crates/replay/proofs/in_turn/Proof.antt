@@ -9,7 +9,8 @@ use Rattle.replay.specs.Applied.{runValue}
 use Rattle.plan.specs.View.{view}
 use Rattle.rules.specs.Refusal.{code}
 use Rattle.rules.specs.Calls.{Call, run}
-use Rattle.arrays.specs.Tables.{over, tabulate}
+use Rattle.arrays.specs.Tables.{over}
+use Rattle.rules.specs.Image.{tabulate}
 use Rattle.replay.proofs.Runs.{After, after-none, after-more}
 use Rattle.replay.specs.Slices.{callIn, itemAt, callsIn}
 use Rattle.replay.proofs.in_turn.Statement.{statement}
