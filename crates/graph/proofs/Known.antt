@@ -20,7 +20,7 @@ use Rattle.graph.specs.declared.Which.the-variants.{LeastDelay, Greatest
 use Rattle.graph.specs.Which.{every}
 use Rattle.graph.specs.Figure.{Figure, number, NONE, STRANDED, ENDLESS, IsFigure, Shown, kind, value, costFor}
 use Rattle.graph.specs.Compute.{closed, figureFor}
-use Rattle.graph.specs.Known.{Row, Holds, known, misleading, P1, P4, P7, P8, unreached-dead-end, reached-dead-end}
+use Rattle.graph.specs.Known.{Row, RowRight, known, misleading, P1, P4, P7, P8, unreached-dead-end, reached-dead-end}
 use Rattle.graph.specs.Known.{counted-ends}
 use Rattle.graph.proofs.Listed.{of-closed}
 use Rattle.graph.proofs.Figures.{figure-is}
@@ -66,7 +66,7 @@ every-one p e GreatestDelay = both (p GreatestDelay) _ (both (p LeastDelay) _ e 
 every-one p e LeastCount = both (p LeastCount) _ (both (p GreatestDelay) _ (both (p LeastDelay) _ e .1) .1) .0
 every-one p e GreatestCount = both (p LeastCount) _ (both (p GreatestDelay) _ (both (p LeastDelay) _ e .1) .1) .1
 
-holds : (r : Row) → right r ≡ true → Holds r
+holds : (r : Row) → right r ≡ true → RowRight r
 unfolding right
 holds r e which =
     let (c, rest) = both (closed (r .plan)) _ e in
@@ -81,7 +81,7 @@ unfolding right
 all-right [] = true
 all-right (r ∷ rs) = right r && all-right rs
 
-all-hold : (rs : List Row) → all-right rs ≡ true → (i : ℕ) → i < length rs → Holds (getD rs i P1)
+all-hold : (rs : List Row) → all-right rs ≡ true → (i : ℕ) → i < length rs → RowRight (getD rs i P1)
 unfolding all-right
 all-hold [] e i h = absurd (not-suc-le-zero h)
 all-hold (r ∷ rs) e zero h = holds r (both (right r) (all-right rs) e .0)
@@ -89,7 +89,7 @@ all-hold (r ∷ rs) e (suc i) h = all-hold rs (both (right r) (all-right rs) e .
 
 -- "P1 to P9 are shown to hold of the rules themselves, gathered into a table with one proof for the lot"; and so are
 -- the plans that mislead
-pub known-hold : (i : ℕ) → i < length (known ++ misleading) → Holds (getD (known ++ misleading) i P1)
+pub known-hold : (i : ℕ) → i < length (known ++ misleading) → RowRight (getD (known ++ misleading) i P1)
 unfolding all-right start final counted from to low high
 known-hold = all-hold (known ++ misleading) refl
 

@@ -1,7 +1,7 @@
 -- The state graph of a call plan, as the lists that a plan value stands for: its states by number, its transitions by
 -- number. Document 01, "The plan and its edits" and the first paragraph of "Routes and figures". Assumes
 -- nothing.
-use Prim.Native.Nat.{ℕ, _/_, _%_, _<_}
+use Prim.Native.Nat.{ℕ, _/_, _%_, _<_, _+_, _*_}
 use mathlib.Core.Path.{_≡_}
 use mathlib.Core.Bool.{Bool, true, false}
 use mathlib.Core.List.{List}
@@ -14,6 +14,28 @@ pub record Transition : Type 0 where
   pub to : ℕ
   pub low : ℕ
   pub high : ℕ
+
+-- "A marks value is 0 to 7: 4 for start, 2 for final (a person has answered), 1 for counted, added together."
+abbrev pub startBit : ℕ → ℕ
+startBit v = v / 4 % 2
+
+abbrev pub finalBit : ℕ → ℕ
+finalBit v = v / 2 % 2
+
+abbrev pub countedBit : ℕ → ℕ
+countedBit v = v % 2
+
+abbrev pub marksFrom : ℕ → ℕ → ℕ → ℕ
+marksFrom start final counted = 4 * start + 2 * final + counted
+
+abbrev pub startMark : ℕ → Bool
+startMark v = eqb (startBit v) 1
+
+abbrev pub finalMark : ℕ → Bool
+finalMark v = eqb (finalBit v) 1
+
+abbrev pub countedMark : ℕ → Bool
+countedMark v = eqb (countedBit v) 1
 
 -- "a marks value for each state": what a plan keeps of a state (E4 adds a team)
 pub record State : Type 0 where
@@ -47,17 +69,17 @@ marksOf g s = (state g s) .marks
 -- "4 for start"
 unfoldable pub start : Graph → ℕ → Bool
 unfolding marksOf
-start g s = eqb (marksOf g s / 4 % 2) 1
+start g s = startMark (marksOf g s)
 
 -- "2 for final (a person has answered)"
 unfoldable pub final : Graph → ℕ → Bool
 unfolding marksOf
-final g s = eqb (marksOf g s / 2 % 2) 1
+final g s = finalMark (marksOf g s)
 
 -- "1 for counted": which states count (E4 adds others, and the counts are over any yes-or-no on states)
 unfoldable pub counted : Graph → ℕ → Bool
 unfolding marksOf
-counted g s = eqb (marksOf g s % 2) 1
+counted g s = countedMark (marksOf g s)
 
 -- the transition numbered t: "Transitions are numbered from 0 by place in the list"
 unfoldable pub transition : Graph → ℕ → Transition

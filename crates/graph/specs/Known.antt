@@ -1,5 +1,5 @@
 -- The plans with known figures, P1 to P9, and the plans that mislead: document 01, "Plans with known figures" and "What
--- misleads people here". proofs/Known.antt proves `Holds` of every row. Assumes nothing.
+-- misleads people here". proofs/Known.antt proves `RowRight` of every row. Assumes nothing.
 use Prim.Native.Nat.{ℕ}
 use mathlib.Core.List.{List, [], _∷_, map}
 use Rattle.graph.specs.Graph.{Graph, Transition, marked}
@@ -24,8 +24,8 @@ abbrev pub row : List ℕ → List Transition → Figure → Figure → Figure �
 row ms ts ld gd lc gc = record { plan = plan ms ts; figures = four ld gd lc gc }
 
 -- the row's figures are the plan's, by the rules of Figure.antt
-abbrev pub Holds : Row → Type 0
-Holds r = (which : Which) → IsFigure which (r .plan) (r .figures which)
+abbrev pub RowRight : Row → Type 0
+RowRight r = (which : Which) → IsFigure which (r .plan) (r .figures which)
 
 -- the 28 octets of "Plans with known figures": four states, the first a start, two counted ones, and the last final
 abbrev pub P1-transitions : List Transition

@@ -89,7 +89,13 @@ fn four(quotes: FourQuotes, walks: &[u16], buffer: &mut [u8]) -> usize
     let one = line(buffer, 0, Which::LeastDelay, first, &walks[0..512]);
     let two = line(buffer, one, Which::GreatestDelay, second, &walks[512..1024]);
     let three = line(buffer, two, Which::LeastCount, third, &walks[1024..1536]);
-    line(buffer, three, Which::GreatestCount, fourth, &walks[1536..2048])
+    line(
+        buffer,
+        three,
+        Which::GreatestCount,
+        fourth,
+        &walks[1536..2048],
+    )
 }
 
 // Puts the line of a refusal.

@@ -103,8 +103,8 @@ pub replayed : (n : ℕ) (kinds arguments octets before after : List ℕ) (lent 
 replayed n kinds arguments octets before after lent left r x ld gd lc gc =
     let f = each-of (λ which. Quotes which (view (r .applied .plan)) (lent which) (left which) (quotationOf r which)) ld gd lc gc in
     record {
-  list = x;
-  quoted = λ are which. subst (λ (g : Graph). Quotes which g (lent which) (left which) (quotationOf r which)) (x .plan are) (f which);
-  none-quoted = λ are-not which.
-      none-quoted (subst (λ (p : Plan). Quotes which (view p) (lent which) (left which) (quotationOf r which)) (x .no-calls are-not .1) (f which));
-}
+      list = x;
+      quoted = λ are which. subst (λ (g : Graph). Quotes which g (lent which) (left which) (quotationOf r which)) (x .plan are) (f which);
+      none-quoted = λ are-not which.
+          none-quoted (subst (λ (p : Plan). Quotes which (view p) (lent which) (left which) (quotationOf r which)) (x .no-calls are-not .1) (f which));
+    }

@@ -14,7 +14,7 @@ use Rattle.graph.specs.Compute.{least, greatest, figureFor}
 use Rattle.graph.specs.Figure.{Figure, number, IsLeast, IsGreatest, IsFigure, Shown, most}
 use Rattle.graph.proofs.Figures.{figure-is}
 use Rattle.graph.specs.Graph.{Graph, states, count, Closed, transition, to, low, high, counted}
-use Rattle.graph.specs.Route.{Cost, lows, highs, counts}
+use Rattle.graph.specs.Route.{Cost, counts}
 use Rattle.graph.proofs.Bound.{least-within, greatest-within, least-delay-le, greatest-delay-le, least-count-le, greatest-count-le}
 use Rattle.graph.proofs.Greatest.{greatest-is, greatest-unique}
 use Rattle.graph.proofs.Least.{least-is, least-unique}

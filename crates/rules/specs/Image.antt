@@ -1,10 +1,10 @@
 -- The image of a plan, and the plan that octets hold. Document 01, "The image", and the order of read's refusals. Assumes nothing.
 use mathlib.Core.Bool.{not}
 use mathlib.Core.List.{List, [], _∷_, _++_}
-use Prim.Native.Nat.{ℕ, zero, suc, _+_, _*_, _/_, _%_}
+use Prim.Native.Nat.{ℕ, zero, suc, _+_, _*_}
 use lib.Dec.{ltb, eqb}
 use lib.ListN.{length}
-use Rattle.graph.specs.Graph.{Graph, State, Transition, marked, states, count}
+use Rattle.graph.specs.Graph.{Graph, State, Transition, marked, states, count, startBit, finalBit, countedBit, marksFrom}
 use Rattle.field.specs.Field.{Field, fieldAt, pack}
 use Rattle.rules.specs.declared.Refusal.the-variants.{ImageShort, ImageLong, Version, StateCount, TransitionCount}
 use Rattle.rules.specs.declared.Refusal.the-variants.{SpareBits, StateNumber, Duration}
@@ -23,17 +23,37 @@ tabulate (suc n) f = tabulate n f ++ (f n ∷ [])
 abbrev pub field : ℕ → ℕ → Field
 field w v = record { width = w; value = v }
 
--- "version, 4 bits, the value 1; state count, 10 bits; transition count, 12 bits; pad, 6 bits, zero"
-abbrev pub headerFields : ℕ → ℕ → List Field
-headerFields n m = field 4 1 ∷ field 10 n ∷ field 12 m ∷ field 6 0 ∷ []
+-- the widths of the four fields of the header, of a state and of a transition: "version, 4 bits, the value 1; state count, 10 bits; transition count,
+-- 12 bits; pad, 6 bits, zero"
+pub record Widths : Type 0 where
+  pub first : ℕ
+  pub second : ℕ
+  pub third : ℕ
+  pub fourth : ℕ
 
--- "for each state, one octet: start, final, counted, one bit each; then 5 spare bits, zero" ("4 for start, 2 for final, 1 for counted")
-abbrev pub stateFields : State → List Field
-stateFields s = field 1 (s .marks / 4 % 2) ∷ field 1 (s .marks / 2 % 2) ∷ field 1 (s .marks % 2) ∷ field 5 0 ∷ []
+abbrev pub header : Widths
+header = record { first = 4; second = 10; third = 12; fourth = 6 }
+
+-- "for each state, one octet: start, final, counted, one bit each; then 5 spare bits, zero"
+abbrev pub stateItem : Widths
+stateItem = record { first = 1; second = 1; third = 1; fourth = 5 }
 
 -- "for each transition, 40 bits: from, 9; to, 9; low, 11; high, 11"
+abbrev pub transitionItem : Widths
+transitionItem = record { first = 9; second = 9; third = 11; fourth = 11 }
+
+-- four values as fields of these widths, one after another
+abbrev pub fieldsOf : Widths → ℕ → ℕ → ℕ → ℕ → List Field
+fieldsOf w a b c d = field (w .first) a ∷ field (w .second) b ∷ field (w .third) c ∷ field (w .fourth) d ∷ []
+
+abbrev pub headerFields : ℕ → ℕ → List Field
+headerFields n m = fieldsOf header 1 n m 0
+
+abbrev pub stateFields : State → List Field
+stateFields s = fieldsOf stateItem (startBit (s .marks)) (finalBit (s .marks)) (countedBit (s .marks)) 0
+
 abbrev pub transitionFields : Transition → List Field
-transitionFields t = field 9 (t .from) ∷ field 9 (t .to) ∷ field 11 (t .low) ∷ field 11 (t .high) ∷ []
+transitionFields t = fieldsOf transitionItem (t .from) (t .to) (t .low) (t .high)
 
 -- the fields of one item after another
 unfoldable pub fieldsOfEach : {A : Type 0} → (A → List Field) → List A → List Field
@@ -55,18 +75,31 @@ imageLength n m = 4 + n + 5 * m
 
 -- ---- reading
 
--- the header's fields: version at bit position 0, state count at 4, transition count at 14, pad at 26
+-- the field of an item that begins at a bit position, by its place among the four: "one after another"
+abbrev pub firstOf : Widths → List ℕ → ℕ → ℕ
+firstOf w os at = fieldAt os at (w .first)
+
+abbrev pub secondOf : Widths → List ℕ → ℕ → ℕ
+secondOf w os at = fieldAt os (at + w .first) (w .second)
+
+abbrev pub thirdOf : Widths → List ℕ → ℕ → ℕ
+thirdOf w os at = fieldAt os (at + (w .first + w .second)) (w .third)
+
+abbrev pub fourthOf : Widths → List ℕ → ℕ → ℕ
+fourthOf w os at = fieldAt os (at + (w .first + w .second + w .third)) (w .fourth)
+
+-- the header's, from bit position 0 on
 abbrev pub versionOf : List ℕ → ℕ
-versionOf os = fieldAt os 0 4
+versionOf os = firstOf header os 0
 
 abbrev pub stateCountOf : List ℕ → ℕ
-stateCountOf os = fieldAt os 4 10
+stateCountOf os = secondOf header os 0
 
 abbrev pub transitionCountOf : List ℕ → ℕ
-transitionCountOf os = fieldAt os 14 12
+transitionCountOf os = thirdOf header os 0
 
 abbrev pub padOf : List ℕ → ℕ
-padOf os = fieldAt os 26 6
+padOf os = fourthOf header os 0
 
 -- the bit positions of state i, and of transition i of an image with n states
 abbrev pub statePlace : ℕ → ℕ
@@ -77,14 +110,20 @@ transitionPlace n i = 32 + 8 * n + 40 * i
 
 -- the state at a bit position, and its spare bits
 abbrev pub stateAt : List ℕ → ℕ → State
-stateAt os at = marked (4 * fieldAt os at 1 + 2 * fieldAt os (at + 1) 1 + fieldAt os (at + 2) 1)
+stateAt os at = marked (marksFrom (firstOf stateItem os at) (secondOf stateItem os at) (thirdOf stateItem os at))
 
 abbrev pub spareAt : List ℕ → ℕ → ℕ
-spareAt os at = fieldAt os (at + 3) 5
+spareAt os at = fourthOf stateItem os at
 
 -- the transition at a bit position
 abbrev pub transitionAt : List ℕ → ℕ → Transition
-transitionAt os at = record { from = fieldAt os at 9; to = fieldAt os (at + 9) 9; low = fieldAt os (at + 18) 11; high = fieldAt os (at + 29) 11 }
+transitionAt os at =
+    record {
+      from = firstOf transitionItem os at;
+      to = secondOf transitionItem os at;
+      low = thirdOf transitionItem os at;
+      high = fourthOf transitionItem os at;
+    }
 
 -- the plan that octets hold "by the layout"
 unfoldable pub graphIn : List ℕ → Graph
