@@ -5,13 +5,13 @@ use mathlib.Core.Bool.{true≢false}
 use mathlib.Core.List.{List}
 use mathlib.Core.Logic.{_⊎_, inl, inr, ⊎-elim}
 use mathlib.Core.Path.{_≡_, refl, sym, _∙_}
-use Prim.Native.Nat.{ℕ, _<_}
+use Prim.Native.Nat.{ℕ, _≤_, _<_}
 use native.Mathlib.Omega.{arith}
-use Rattle.search.specs.Arrays.{Arrays, at, UnfinishedIn, Leaves}
+use Rattle.search.specs.Arrays.{Arrays, at, StartIn, UnfinishedIn, Leaves}
 use Rattle.search.specs.Chain.{none, First, Linked}
 use Rattle.reach.specs.declared.Reach.{Reach}
 use Rattle.reach.specs.declared.Reach.the-variants.{NoStart, Looped, DeadEnd, Ends}
-use Rattle.reach.specs.Explored.{Table, Rooted, Entered, NoDeadEnd, Explored, Ranked, Reached}
+use Rattle.reach.specs.Explored.{Table, Rooted, Entered, NoDeadEnd, Explored, Hunted, Ranked, Reached}
 
 module _ {A : Arrays} {a : Table} {done : ℕ} (r : Ranked A a done) where
   -- where an entered state's transition leads: a final state, or an entered one of lower rank
@@ -22,6 +22,15 @@ module _ {A : Arrays} {a : Table} {done : ℕ} (r : Ranked A a done) where
   -- so the hunt can go by what the search left behind
   pub ranked-entered : {head link : List ℕ} → Linked A head link → Entered A head link (a .rank) (a .via)
   ranked-entered w = record { linked = w; rooted = λ s h q. (r .unfinished s h q, r .origin s h q); onward = λ s t h q l u. onward-lower s t h q l u .0 }
+
+  -- and what it found is what the starts reach: a dead end, or none
+  pub reached-dead : {x : ℕ} → Hunted A (a .rank) x → x < 512 → Reached A a (DeadEnd x)
+  reached-dead (inl w) l = ((done, r), w)
+  reached-dead (inr w) l = absurd (omega (arith, w .0))
+
+  pub reached-end : {x : ℕ} → A .n ≤ 512 → (s : ℕ) × (s < A .n) × StartIn (A .marks) s → Hunted A (a .rank) x → 512 ≤ x → Reached A a (Ends done)
+  reached-end few started (inl w) l = absurd (omega (arith, w .0))
+  reached-end few started (inr w) l = (r, started, w .1)
 
 -- a transition to an unfinished state that has a transition
 abbrev pub Onward : Arrays → List ℕ → ℕ → Type 0

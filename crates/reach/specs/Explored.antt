@@ -10,6 +10,7 @@ use mathlib.Core.Path.{_≡_}
 use Prim.Native.Nat.{ℕ, suc, _+_, _-_, _≤_, _<_}
 use lib.Dec.{eqb, ltb}
 use lib.ListN.{length}
+use Rattle.reach.specs.declared.Searched.{Searched}
 use Rattle.reach.specs.declared.Turn.{Turn}
 use Rattle.reach.specs.declared.Turn.the-variants.{On, Back}
 use Rattle.reach.specs.declared.Reach.{Reach}
@@ -39,6 +40,9 @@ Grown a a′ = (s : ℕ) → 0 < at (a .rank) s → 0 < at (a′ .rank) s
 
 abbrev pub table : List ℕ → List ℕ → List ℕ → List ℕ → List ℕ → Table
 table rank cursor stack order via = record { rank = rank; cursor = cursor; stack = stack; order = order; via = via }
+
+abbrev pub tableOf : Searched → Table
+tableOf s = table (s .rank) (s .cursor) (s .stack) (s .order) (s .via)
 
 -- where a state stands: not entered, left as the i-th, or the i-th on the stack
 abbrev pub Placed : Table → ℕ → ℕ → ℕ → Type 0

@@ -8,7 +8,7 @@ ghost use Prim.Native.Nat.{ℕ, _+_, _<_};
 ghost use lib.ListN.{set};
 ghost use Rattle.search.specs.Arrays.{arrays, at, StartIn, UnfinishedIn};
 ghost use Rattle.search.specs.Chain.{Linked};
-ghost use Rattle.reach.specs.Explored.{table, Sized, Underway, Explored, Turned, Descended, Reached};
+ghost use Rattle.reach.specs.Explored.{table, tableOf, Sized, Underway, Explored, Turned, Descended, Reached};
 use crate::Reach;
 use crate::Searched;
 use crate::Turn;
@@ -213,7 +213,7 @@ pub fn reach<'a>(
 ) -> Searched
     requires { ⌜ ((m : ℕ) × (from : List ℕ) × Linked (arrays n m (now marks) from (now to)) (now head) (now link)) ⌝ }
     ensures { λ r. ⌜ ((m : ℕ) (from : List ℕ) → Linked (arrays n m (now (marks .entry)) from (now (to .entry))) (now (head .entry)) (now (link .entry))
-        → Reached (arrays n m (now (marks .entry)) from (now (to .entry))) (table (r .rank) (r .cursor) (r .stack) (r .order) (r .via)) (r .found)) ⌝ }
+        → Reached (arrays n m (now (marks .entry)) from (now (to .entry))) (tableOf r) (r .found)) ⌝ }
 {
     let mut rank = [0u16; 512];
     let mut cursor = [0u16; 512];

@@ -9,7 +9,7 @@ use arrays::limits::wide;
 use search::NONE;
 
 // Writes the cursors of the d states on the stack to the front of the places.
-pub fn along_stack(d: usize, stack: &[u16; 512], cursor: &[u16; 512], walk: &mut [u16])
+pub fn along_stack<'a>(d: usize, stack: &'a [u16; 512], cursor: &'a [u16; 512], walk: &mut [u16])
     requires { ⌜ (d ≤ 512) × (d ≤ length (now walk)) × ((i : ℕ) → i < d → at (now stack) i < 512) ⌝ }
     ensures { λ r. ⌜ ((i : ℕ) → i < d → at (now (walk .exit)) i ≡ at (now (cursor .entry)) (at (now (stack .entry)) i))
         × (drop d (now (walk .exit)) ≡ drop d (now (walk .entry))) ⌝ }

@@ -3,3 +3,4 @@ pub mod Chain
 pub mod Sizes
 pub mod Route
 pub mod Quoted
+pub mod Weights

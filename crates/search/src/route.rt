@@ -36,12 +36,12 @@ fn accounting(
 }
 
 // Writes the route from a state to the front of the places, and returns how many transitions it has.
-pub fn trace(
+pub fn trace<'a>(
     s: usize,
     marks: &[u8; 512],
     to: &[u16; 2048],
-    head: &[u16; 512],
-    link: &[u16; 2048],
+    head: &'a [u16; 512],
+    link: &'a [u16; 2048],
     weight: &[u32; 2048],
     value: &[u32; 512],
     walk: &mut [u16],

@@ -10,7 +10,7 @@ use borrow.Author.Needs.{needs}
 use borrow.Author.Tests.{not-true, not-false}
 use Rattle.search.specs.Arrays.{arrays, StartIn}
 use Rattle.search.specs.Chain.{Linked}
-use Rattle.reach.specs.Explored.{table}
+use Rattle.reach.specs.Explored.{Table, table}
 use Rattle.reach.specs.declared.Reach.the-variants.{Ends}
 use Rattle.reach.proofs.Exploring.{Exploring, exploring-none, exploring-more, explored-ends, explored-early}
 use Rattle.reach.proofs.explore.explore.Statement.{statement}
@@ -27,6 +27,11 @@ abbrev μ-loop : tie.MeasureT-loop
 -- the states are within the arrays
 few : (c : tie.Start Inv-loop μ-loop) → c .args .n ≤ 512
 few c = c .pre .0 .2 .bounded .states
+
+-- what a search from a start left behind
+abbrev behind : tie.After-descend Inv-loop μ-loop → Table
+behind c = table (c .descend .last .1 .1 .1 .1 .1 .1 .0) (c .descend .last .1 .1 .1 .1 .1 .1 .1 .0) (c .descend .last .1 .1 .1 .1 .1 .1 .1 .1 .0) (c .descend .last .1 .1 .1 .1 .1 .1 .1 .1 .1 .0)
+    (c .descend .last .1 .1 .1 .1 .1 .1 .1 .1 .1 .1 .0)
 
 loop-holds : tie.Need-loop-holds Inv-loop μ-loop
 loop-holds c = λ m from w. exploring-none _ (c .pre .1 .0) (c .pre .1 .1)
@@ -68,7 +73,8 @@ returns c =
     let l = c .before .before .before .before .before .before .before .before .before .before .before .before .before .before .before .before in
     λ m from w.
     let x = l .loop .inv m from w in
-    explored-early _ _ _ _ (c .before .descend .result) not-over
+    explored-early (arrays (l .before .args .n) m (l .before .args .marks .now) from (l .before .args .to .now))
+    (table (l .loop .rank) (l .loop .cursor) (l .loop .stack) (l .loop .order) (l .loop .via)) (behind (c .before)) (l .loop .s) (c .before .descend .result) not-over
     (c .before .descend .ensures (l .before .args .n) m from (c .before .before .before .before .before .before .before .before .before .before .before .before .before .before .before .loop-test .taken) (record { linked = w; sized = x .sized; search = x .search }))
   where
     not-over : (k : ℕ) → c .before .descend .result ≡ Ends k → ⊥

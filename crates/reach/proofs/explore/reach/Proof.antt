@@ -7,10 +7,11 @@ use native.Mathlib.Nat.{le-refl}
 use native.Mathlib.Omega.{arith}
 use borrow.Author.Needs.{needs}
 use Rattle.search.specs.Arrays.{Arrays, arrays}
-use Rattle.reach.specs.Explored.{Table, table}
+use Rattle.search.specs.Chain.{Linked}
+use Rattle.reach.specs.Explored.{Table, table, Explored}
 use Rattle.search.proofs.Places.{zeros}
 use Rattle.reach.specs.declared.Reach.the-variants.{Ends}
-use Rattle.reach.proofs.Hunting.{ranked-entered, reached-early}
+use Rattle.reach.proofs.Hunting.{ranked-entered, reached-dead, reached-end, reached-early}
 use Rattle.reach.proofs.explore.reach.Statement.{statement}
 use Rattle.reach.proofs.explore.reach.Tie as tie
 
@@ -31,27 +32,31 @@ explore-requires c κs = (
 enum-known-found : tie.Need-enum-known-found
 enum-known-found c = search needs
 
+-- where it came to its end
+ranked : (c : tie.After-found) (m : ℕ) (from : List ℕ)
+    → Linked (graph (c .before .before .before .before .before .before .before .before) m from) (c .before .before .before .before .before .before .before .before .args .head .now) (c .before .before .before .before .before .before .before .before .args .link .now)
+    → Explored (graph (c .before .before .before .before .before .before .before .before) m from) (behind (c .before .before)) (Ends (c .found .given .0 .0))
+ranked c m from w = rw (c .found .given .1) at (c .before .before .explore .ensures m from w)
+
 hunt-requires : tie.Need-hunt-requires
 hunt-requires c κs =
-    let e = c .before .before .before .before .before in
-    let p = e .before .before .before .before .before .before .pre in
-    let r = (rw (c .before .before .before .found .given .1) at (e .explore .ensures (p .0) (p .1) (p .2))) .0 in
-    (p .0, p .1, ranked-entered r (p .2))
+    let f = c .before .before .before in
+    let p = f .before .before .before .before .before .before .before .before .pre in
+    (p .0, p .1, ranked-entered {a = behind (f .before .before)} (ranked f (p .0) (p .1) (p .2) .0) (p .2))
 
 returns : tie.Need-returns
 returns c =
-    let e = c .before .before .before .before .before .before .before in
+    let f = c .before .before .before .before .before in
     λ m from w.
-    let r = (rw (c .before .before .before .before .before .found .given .1) at (e .explore .ensures m from w)) .0 in
-    ((_, r), ⊎-elim (λ x. x) (λ x. absurd (omega (arith, c .if1 .taken, x .0))) (c .before .hunt .ensures m from (ranked-entered r w)))
+    let r = ranked f m from w .0 in
+    reached-dead {a = behind (f .before .before)} r (c .before .hunt .ensures m from (ranked-entered {a = behind (f .before .before)} r w)) (c .if1 .taken)
 
 returns-2 : tie.Need-returns-2
 returns-2 c =
-    let e = c .before .before .before .before .before .before .before in
-    let g = c .before .before .before .before .before .found .given .1 in
+    let f = c .before .before .before .before .before in
     λ m from w.
-    let (r, started) = rw g at (e .explore .ensures m from w) in
-    (r, started, ⊎-elim (λ x. absurd (omega (arith, c .if1 .left, x .0, w .bounded .states))) (λ x. x .1) (c .before .hunt .ensures m from (ranked-entered r w)))
+    let (r, started) = ranked f m from w in
+    reached-end {a = behind (f .before .before)} r (w .bounded .states) started (c .before .hunt .ensures m from (ranked-entered {a = behind (f .before .before)} r w)) (c .if1 .left)
 
 returns-3 : tie.Need-returns-3
 returns-3 c = λ m from w. reached-early (graph (c .before .before .before .before .before .before .before) m from) (behind (c .before)) (c .before .explore .result) not-over (c .before .explore .ensures m from w)

@@ -1,26 +1,17 @@
--- `greatest_search::greatest::farthest_start` meets its contract. The invariant: the best is a start whose value is the greatest of those passed.
+-- `greatest_search::values::farthest_start` meets its contract. The invariant: the best is a start whose value is the greatest of those passed (`Looking`). The
+-- measure is what is left of the states.
 -- Assumes nothing.
-use Prim.Native.Nat.{ℕ, zero, suc, _+_, _-_, _*_, _≤_, _<_}
-use mathlib.Core.Bool.{Bool, true, false, not}
-use mathlib.Core.List.{List, [], _∷_, _++_}
-use mathlib.Core.Logic.{_⊎_, inl, inr, ⊎-elim}
-use mathlib.Core.Path.{_≡_, refl, sym, ap, _∙_}
+use Prim.Native.Nat.{_-_, _≤_}
+use mathlib.Core.Bool.{true, false}
+use mathlib.Core.Logic.{_⊎_, ⊎-elim}
+use mathlib.Core.Path.{refl, sym, _∙_}
 use native.Mathlib.Omega.{arith}
-use borrow.Author.Count.{below-none, below-more}
 use borrow.Author.Needs.{needs}
-use borrow.Author.Tests.{lt-ltb, le-ltb, le-leb, lt-leb, eq-eqb, ne-eqb, not-true, not-false, eqb-true, eqb-false}
-use lib.Dec.{ltb, leb, eqb}
-use lib.ListN.{length, getD, set, take, drop, length-set}
-use lib.Seq.{getD-set-same, getD-set-other}
 use native.Mathlib.Numerals.{add-one}
 use mathlib.Core.Bool.{true≢false}
 use Rattle.greatest_search.proofs.Filling.{Looking, looked-taken, looked-kept, looked-all}
-use Rattle.search.specs.Arrays.{at, StartIn}
-use Rattle.greatest_search.proofs.greatest.farthest_start.Statement.{statement}
-use Rattle.greatest_search.proofs.greatest.farthest_start.Tie as tie
-use Rattle.greatest_search.proofs.greatest.farthest_start.Reads as reads
-use Rattle.greatest_search.proofs.greatest.farthest_start.Lts as lts
-use Rattle.search.proofs.is_start.Reads as is-start-reads
+use Rattle.greatest_search.proofs.values.farthest_start.Statement.{statement}
+use Rattle.greatest_search.proofs.values.farthest_start.Tie as tie
 
 abbrev Inv-loop : tie.InvT-loop
 Inv-loop n marks value best₀ most₀ s₀ best most s = (s ≤ n) × Looking n marks value best most s
@@ -57,24 +48,20 @@ loop-less c = search needs
 
 loop-again : tie.Need-loop-again Inv-loop μ-loop
 loop-again c =
-    let a = c .before .before .before .before .before .args in
     let l = c .before .before .before .before .loop in
     let e = c .before .is-start .ensures in (
       omega arith,
       rw add-one (⊎-elim
-          (λ w. rw (w .4, w .5) (looked-taken (a .n) (a .marks .now) (a .value .now) (l .best) (l .most) (l .s) (l .inv .1) (c .before .before .before .loop-test .taken) (sym e ∙ w .0 .taken) (w .2 .taken)))
+          (λ w. rw (w .4, w .5) (looked-taken (l .inv .1) (c .before .before .before .loop-test .taken) (sym e ∙ w .0 .taken) (w .2 .taken)))
           (⊎-elim
-          (λ w. rw (w .3, w .4) (looked-kept (a .n) (a .marks .now) (a .value .now) (l .best) (l .most) (l .s) (l .inv .1) (λ b. w .2 .left)))
-          (λ w. rw (w .1, w .2) (looked-kept (a .n) (a .marks .now) (a .value .now) (l .best) (l .most) (l .s) (l .inv .1)
+          (λ w. rw (w .3, w .4) (looked-kept (l .inv .1) (λ b. w .2 .left)))
+          (λ w. rw (w .1, w .2) (looked-kept (l .inv .1)
           (λ b. absurd (true≢false (sym b ∙ sym e ∙ w .0 .left))))))
           (c .if1 .came)),
     )
 
 returns : tie.Need-returns Inv-loop μ-loop
-returns c =
-    let a = c .before .before .args in
-    let l = c .before .loop in
-    looked-all (a .n) (a .marks .now) (a .value .now) (l .best) (l .most) (l .s) (l .inv .1) (c .loop-test .left)
+returns c = looked-all (c .before .loop .inv .1) (c .loop-test .left)
 
 pub farthest-start-spec : {M : Type 1} → statement M
 farthest-start-spec =

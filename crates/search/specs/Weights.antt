@@ -1,0 +1,16 @@
+-- A cost as the arrays of a search. Assumes nothing.
+use Prim.Native.Nat.{ℕ, _≤_}
+use Rattle.graph.specs.Route.{Cost}
+use Rattle.arrays.specs.Tables.{costOf}
+use Rattle.search.specs.declared.Weights.{Weights}
+use Rattle.search.specs.Arrays.{at}
+use Rattle.search.specs.Sizes.{heaviest}
+
+-- the cost that the arrays hold
+abbrev pub costIn : Weights → Cost
+costIn w = costOf (w .weight) (w .close)
+
+-- small enough to be added up along a route
+pub record Light (w : Weights) : Type 0 where
+  pub weights : (t : ℕ) → at (w .weight) t ≤ heaviest
+  pub closes : (s : ℕ) → at (w .close) s ≤ heaviest
