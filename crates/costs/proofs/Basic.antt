@@ -9,7 +9,7 @@ use Rattle.graph.specs.Route.{Cost, total}
 use Rattle.graph.specs.Figure.{number, ENDLESS}
 use Rattle.graph.specs.Known.{P1}
 use Rattle.rules.specs.Image.{tabulate}
-use Rattle.costs.specs.Arrays.{delayWeight, countWeight, countClose, graphOf}
+use Rattle.costs.specs.Arrays.{delayWeight, countWeight, countClose}
 use Rattle.arrays.specs.Tables.{costOf}
 use Rattle.costs.specs.Scaled.{divided}
 
@@ -20,19 +20,11 @@ marks = 4 ∷ 1 ∷ 1 ∷ 2 ∷ []
 abbrev sources : List ℕ
 sources = 0 ∷ 1 ∷ 1 ∷ 2 ∷ []
 
-abbrev targets : List ℕ
-targets = 1 ∷ 2 ∷ 3 ∷ 3 ∷ []
-
 abbrev lowest : List ℕ
 lowest = 5 ∷ 3 ∷ 2 ∷ 4 ∷ []
 
 abbrev highest : List ℕ
 highest = 20 ∷ 15 ∷ 30 ∷ 25 ∷ []
-
--- the graph in the arrays: transitions lead from their sources to their targets
-pub graph-of-arrays : graphOf 4 4 marks sources targets lowest highest ≡ P1 .plan
-unfolding tabulate
-graph-of-arrays = refl
 
 -- ---- weights and closes
 

@@ -1,5 +1,4 @@
 pub mod Filled
-pub mod Held
 pub mod Scaled
 pub mod Quoted
 pub mod Basic

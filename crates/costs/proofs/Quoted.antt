@@ -13,7 +13,7 @@ use Rattle.graph.specs.Route.{Cost}
 use Rattle.graph.specs.Figure.{Figure, number, NONE, STRANDED, ENDLESS, IsLeast, IsGreatest, Shown}
 use Rattle.graph.proofs.Least.{least-unique, least-computed}
 use Rattle.graph.proofs.Greatest.{greatest-unique, greatest-computed}
-use Rattle.costs.specs.Scaled.{Scaled, divided}
+use Rattle.costs.specs.Scaled.{Scaled, scale, divided}
 use Rattle.costs.proofs.Scaled.{least-scaled, greatest-scaled}
 use Rattle.rules.specs.Quotations.{Shows, Costs, LeastQuoted, GreatestQuoted}
 
@@ -77,7 +77,7 @@ module _ (g : Graph) (closed : Closed g) (c : Cost) (f : Figure) (k j : ℕ) (be
 module _ (g : Graph) (closed : Closed g) (c c′ : Cost) (f : Figure) (k j : ℕ) (before after : List ℕ)
     (shown : Shown g c′ f (take k after) j) (fits : k ≤ states g) (room : states g ≤ length before)
     (later : drop k after ≡ drop k before) (as-long : length after ≡ length before) where
-  pub least-answered : states g ≤ 512 → Scaled 1024 1 g c c′ → IsLeast g c′ f → LeastQuoted g c (divided f) k j before after
+  pub least-answered : states g ≤ 512 → Scaled scale 1 g c c′ → IsLeast g c′ f → LeastQuoted g c (divided f) k j before after
   least-answered small scaled is =
       let (is′, shown′) = least-scaled g closed small c c′ scaled f (take k after) j is shown in
       least-quoted g closed c (divided f) k j before after shown′ fits room later as-long is′

@@ -17,7 +17,7 @@ use Rattle.graph.specs.Route.{Cost, Route, total}
 use Rattle.graph.specs.Figure.{Figure, number, NONE, STRANDED, ENDLESS, Largest, IsLeast, IsGreatest, Shown}
 use Rattle.graph.proofs.Simple.{simple, short-length, simple-length}
 use Rattle.graph.proofs.Walks.{start-below}
-use Rattle.costs.specs.Scaled.{Scaled, divided}
+use Rattle.costs.specs.Scaled.{Scaled, scale, divided}
 
 -- ---- 1
 
@@ -34,25 +34,25 @@ module _ (g : Graph) (closed : Closed g) (c c′ : Cost) (scale extra : ℕ) (sc
 
 -- ---- 2
 
-module _ (g : Graph) (closed : Closed g) (small : states g ≤ 512) (c c′ : Cost) (scaled : Scaled 1024 1 g c c′) where
+module _ (g : Graph) (closed : Closed g) (small : states g ≤ 512) (c c′ : Cost) (scaled : Scaled scale 1 g c c′) where
   -- a route that visits no state twice: its cost times 1,024, and less than 1,024 more
   record Composite (s : ℕ) (ts : List ℕ) : Type 0 where
-    pub over : 1024 * total g c s ts ≤ total g c′ s ts
-    pub under : total g c′ s ts < 1024 * total g c s ts + 1024
+    pub over : scale * total g c s ts ≤ total g c′ s ts
+    pub under : total g c′ s ts < scale * total g c s ts + scale
 
   composite : (s : ℕ) (ts : List ℕ) → Route g s ts → length ts < states g → Composite s ts
   composite s ts r h =
-      let e = route-scaled g closed c c′ 1024 1 scaled s ts r in
+      let e = route-scaled g closed c c′ scale 1 scaled s ts r in
       record { over = omega arith; under = omega arith }
 
-  divides : (s : ℕ) (ts : List ℕ) → Route g s ts → Different (visits g s ts) → total g c s ts ≡ total g c′ s ts / 1024
+  divides : (s : ℕ) (ts : List ℕ) → Route g s ts → Different (visits g s ts) → total g c s ts ≡ total g c′ s ts / scale
   divides s ts r d =
       let k = composite s ts r (simple-length g (Unfinished g) (Final g) closed s ts r d) in
       omega arith
 
   -- no route costs less than one that is least after scaling
   none-less : (k : ℕ) → ((s : ℕ) (ts : List ℕ) → Route g s ts → k ≤ total g c′ s ts) → (s : ℕ) (ts : List ℕ) → Route g s ts
-      → k / 1024 ≤ total g c s ts
+      → k / scale ≤ total g c s ts
   none-less k least s ts r =
       let q = simple g (Unfinished g) (Final g) s ts (r .1) in
       let p : Route g s (q .short) = (r .0, q .walk) in
@@ -62,7 +62,7 @@ module _ (g : Graph) (closed : Closed g) (small : states g ≤ 512) (c c′ : Co
   pub least-scaled : (f : Figure) (ts : List ℕ) (j : ℕ) → IsLeast g c′ f → Shown g c′ f ts j
       → IsLeast g c (divided f) × Shown g c (divided f) ts j
   least-scaled (number k) ts j u (s, r, e, d, z) =
-      let q : total g c s ts ≡ k / 1024 = divides s ts r d ∙ rw e in
+      let q : total g c s ts ≡ k / scale = divides s ts r d ∙ rw e in
       (record { attained = (s, ts, r, q); bound = none-less k (u .bound) }, (s, r, q, d, z))
   least-scaled NONE ts j u shown = (u, shown)
   least-scaled STRANDED ts j u shown = absurd u

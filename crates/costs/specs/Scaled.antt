@@ -5,14 +5,18 @@ use Rattle.graph.specs.Graph.{Graph, states, count}
 use Rattle.graph.specs.Route.{Cost}
 use Rattle.graph.specs.Figure.{Figure, number, NONE, STRANDED, ENDLESS}
 
--- c′ is c times `scale`, and `extra` more for each transition, on the states and transitions of the plan
-pub record Scaled (scale extra : ℕ) (g : Graph) (c c′ : Cost) : Type 0 where
-  pub step : (t : ℕ) → t < count g → c′ .step t ≡ scale * c .step t + extra
-  pub close : (s : ℕ) → s < states g → c′ .close s ≡ scale * c .close s
+-- c′ is c times `times`, and `extra` more for each transition, on the states and transitions of the plan
+pub record Scaled (times extra : ℕ) (g : Graph) (c c′ : Cost) : Type 0 where
+  pub step : (t : ℕ) → t < count g → c′ .step t ≡ times * c .step t + extra
+  pub close : (s : ℕ) → s < states g → c′ .close s ≡ times * c .close s
 
--- the figure with its number divided by 1,024
+-- what the costs of a least figure are multiplied by: more than a route that visits no state twice has transitions
+abbrev pub scale : ℕ
+scale = 1024
+
+-- the figure with its number divided by the scale
 abbrev pub divided : Figure → Figure
-divided (number k) = number (k / 1024)
+divided (number k) = number (k / scale)
 divided NONE = NONE
 divided STRANDED = STRANDED
 divided ENDLESS = ENDLESS

@@ -1,63 +1,94 @@
-// The cost of a figure as two arrays: a weight for each transition, and a close for each state, which the last state of a route adds.
+// The cost of a figure as weights: one for each transition, and a close for each state, which the last state of a route adds.
 //
-// A greatest figure is searched over the costs themselves: scale 1 and extra 0. A least one is searched over scale 1,024 and extra 1, where each
-// transition weighs something: a route that visits no state twice has at most 511 transitions, so the figure is what is found, divided by 1,024.
+// A greatest figure is searched over the costs themselves: scale 1 and extra 0. A least one is searched over SCALE and extra 1, where each
+// transition weighs something: a route that visits no state twice has at most 511 transitions, so the figure is what is found, divided by SCALE.
 ghost use mathlib.Core.Path.{_≡_};
 ghost use Prim.Native.Nat.{ℕ, _≤_, _<_};
-ghost use lib.ListN.{length, getD};
+ghost use lib.ListN.{getD};
+ghost use Rattle.graph.specs.Graph.{countedMark};
 ghost use Rattle.graph.specs.Route.{one};
-ghost use Rattle.costs.specs.Arrays.{countedMark, Filled, delayWeight, countWeight, countClose};
+ghost use Rattle.costs.specs.Arrays.{Filled, delayWeight, countWeight, countClose, noClose};
+ghost use Rattle.costs.specs.Scaled.{scale as scaleOf};
 use arrays::limits::wide;
+use search::Weights;
+
+// What a least figure's costs are multiplied by.
+pub const SCALE: u32 = 1024;
 
 // 1 for the marks value of a counted state, 0 for any other.
 fn counted(marks: u8) -> u32
     ensures { λ r. ⌜ r ≡ one (countedMark marks) ⌝ }
 {
-    (marks % 2) as u32
+    if search::is_counted(marks) { 1 } else { 0 }
 }
 
-// Fills the weights of the first m transitions from their durations, lows or highs.
-pub fn delays(durations: &[u16; 2048], m: usize, scale: u32, extra: u32, weight: &mut [u32; 2048])
-    requires { ⌜ (m ≤ 2048) × (scale ≤ 1024) × (extra ≤ 1) × (2048 ≤ length (now weight))
-        × ((t : ℕ) → t < m → getD (now durations) t 0 ≤ 2047) ⌝ }
-    ensures { λ r. ⌜ Filled m (delayWeight scale extra (now (durations .entry))) (now (weight .entry)) (now (weight .exit)) ⌝ }
+// The weights of the first m transitions from their durations, lows or highs.
+fn durations_of(durations: &[u16; 2048], m: usize, scale: u32, extra: u32) -> [u32; 2048]
+    requires { ⌜ (m ≤ 2048) × (scale ≤ scaleOf) × (extra ≤ 1) × ((t : ℕ) → t < m → getD (now durations) t 0 ≤ 2047) ⌝ }
+    ensures { λ r. ⌜ Filled m (delayWeight scale extra (now (durations .entry))) r ⌝ }
 {
+    let mut weight = [0u32; 2048];
     let mut t = 0;
     while t < m {
         weight[t] = scale * durations[t] as u32 + extra;
         t += 1;
     }
+    weight
 }
 
-// Fills the weights of the first m transitions from the marks of the states that they leave.
-pub fn counts(
-    marks: &[u8; 512],
-    from: &[u16; 2048],
-    m: usize,
-    scale: u32,
-    extra: u32,
-    weight: &mut [u32; 2048],
-)
-    requires { ⌜ (m ≤ 2048) × (scale ≤ 1024) × (extra ≤ 1) × (2048 ≤ length (now weight))
-        × ((t : ℕ) → t < m → getD (now from) t 0 < 512) ⌝ }
-    ensures { λ r. ⌜ Filled m (countWeight scale extra (now (marks .entry)) (now (from .entry))) (now (weight .entry)) (now (weight .exit)) ⌝ }
+// The weights of the first m transitions from the marks of the states that they leave.
+fn leaving(marks: &[u8; 512], from: &[u16; 2048], m: usize, scale: u32, extra: u32) -> [u32; 2048]
+    requires { ⌜ (m ≤ 2048) × (scale ≤ scaleOf) × (extra ≤ 1) × ((t : ℕ) → t < m → getD (now from) t 0 < 512) ⌝ }
+    ensures { λ r. ⌜ Filled m (countWeight scale extra (now (marks .entry)) (now (from .entry))) r ⌝ }
 {
+    let mut weight = [0u32; 2048];
     let mut t = 0;
     while t < m {
         let s = wide(from[t]);
         weight[t] = scale * counted(marks[s]) + extra;
         t += 1;
     }
+    weight
 }
 
-// Fills the closes of the first n states from their marks.
-pub fn closes(marks: &[u8; 512], n: usize, scale: u32, close: &mut [u32; 512])
-    requires { ⌜ (n ≤ 512) × (scale ≤ 1024) × (512 ≤ length (now close)) ⌝ }
-    ensures { λ r. ⌜ Filled n (countClose scale (now (marks .entry))) (now (close .entry)) (now (close .exit)) ⌝ }
+// The closes of the first n states from their marks.
+fn closes(marks: &[u8; 512], n: usize, scale: u32) -> [u32; 512]
+    requires { ⌜ (n ≤ 512) × (scale ≤ scaleOf) ⌝ }
+    ensures { λ r. ⌜ Filled n (countClose scale (now (marks .entry))) r ⌝ }
 {
+    let mut close = [0u32; 512];
     let mut s = 0;
     while s < n {
         close[s] = scale * counted(marks[s]);
         s += 1;
     }
+    close
+}
+
+// The weights of a delay: the durations of the first m transitions, and no closes.
+pub fn delays(durations: &[u16; 2048], m: usize, scale: u32, extra: u32) -> Weights
+    requires { ⌜ (m ≤ 2048) × (scale ≤ scaleOf) × (extra ≤ 1) × ((t : ℕ) → t < m → getD (now durations) t 0 ≤ 2047) ⌝ }
+    ensures { λ r. ⌜ Filled m (delayWeight scale extra (now (durations .entry))) (r .weight) × (r .close ≡ noClose) ⌝ }
+{
+    let weight = durations_of(durations, m, scale, extra);
+    let close = [0u32; 512];
+    Weights { weight, close }
+}
+
+// The weights of a count: the marks of the states that the first m transitions leave, and those of the n states for the last one.
+pub fn counts<'a>(
+    marks: &'a [u8; 512],
+    from: &'a [u16; 2048],
+    n: usize,
+    m: usize,
+    scale: u32,
+    extra: u32,
+) -> Weights
+    requires { ⌜ (n ≤ 512) × (m ≤ 2048) × (scale ≤ scaleOf) × (extra ≤ 1) × ((t : ℕ) → t < m → getD (now from) t 0 < 512) ⌝ }
+    ensures { λ r. ⌜ Filled m (countWeight scale extra (now (marks .entry)) (now (from .entry))) (r .weight)
+        × Filled n (countClose scale (now (marks .entry))) (r .close) ⌝ }
+{
+    let weight = leaving(marks, from, m, scale, extra);
+    let close = closes(marks, n, scale);
+    Weights { weight, close }
 }

@@ -1,12 +1,13 @@
--- `costs::closes` meets its contract. The invariant: the first s closes are filled.
--- Assumes nothing.
-use Prim.Native.Nat.{ℕ, _-_, _*_, _≤_}
-use mathlib.Core.Path.{_≡_, ap}
+-- `costs::closes`: the first s closes are filled, and the products fit a word. Assumes nothing.
+use Prim.Native.Nat.{ℕ, _+_, _-_, _*_, _≤_}
+use mathlib.Core.Path.{_≡_, refl, ap, _∙_}
 use native.Mathlib.Omega.{arith}
 use borrow.Author.Needs.{needs}
-use lib.ListN.{getD}
+use lib.ListN.{length, getD, length-set, length-replicate}
+use Rattle.graph.specs.Graph.{countedMark}
+use Rattle.graph.specs.Route.{one}
+use Rattle.costs.specs.Arrays.{Filled, delayWeight, countWeight, countClose}
 use Rattle.costs.proofs.Filled.{filled-none, filled-more, scaled-le, counted-le}
-use Rattle.costs.specs.Arrays.{Filled, countClose}
 use Rattle.costs.proofs.closes.Statement.{statement}
 use Rattle.costs.proofs.closes.Tie as tie
 use Rattle.costs.proofs.closes.Reads as reads
@@ -14,16 +15,16 @@ use Rattle.costs.proofs.closes.Lts as lts
 use Rattle.costs.proofs.counted.Reads as counted-reads
 
 abbrev Inv-loop : tie.InvT-loop
-Inv-loop marks n scale close₀ s₀ close s = (s ≤ n) × Filled s (countClose scale marks) close₀ close
+Inv-loop marks n scale close₀ s₀ close s = (s ≤ n) × (length close ≡ 512) × Filled s (countClose scale marks) close
 
 abbrev μ-loop : tie.MeasureT-loop
 μ-loop marks n scale close₀ s₀ close s = n - s
 
 loop-holds : tie.Need-loop-holds Inv-loop μ-loop
-loop-holds c = (search needs, filled-none _ _)
+loop-holds c = (search needs, length-replicate {A = ℕ} 512 0, filled-none _ 512)
 
 element-copy-out-counted : tie.Need-element-copy-out-counted Inv-loop μ-loop
-element-copy-out-counted c = search needs
+element-copy-out-counted c = omega arith
 
 counted-requires : tie.Need-counted-requires Inv-loop μ-loop
 counted-requires c κs = search needs
@@ -37,8 +38,8 @@ mul-close c =
 mul-close-2 : tie.Need-mul-close-2 Inv-loop μ-loop
 mul-close-2 c = search needs
 
-element-write-close : tie.Need-element-write-close Inv-loop μ-loop
-element-write-close c = search needs
+array-write-close : tie.Need-array-write-close Inv-loop μ-loop
+array-write-close c = omega arith
 
 add-s : tie.Need-add-s Inv-loop μ-loop
 add-s c = search needs
@@ -50,12 +51,12 @@ loop-again : tie.Need-loop-again Inv-loop μ-loop
 loop-again c =
     let l = c .before .before .before .loop in
     let a = c .before .before .before .before .args in
-    (omega arith, filled-more (l .s) _ _ (l .close) _ (omega arith) (ap (λ (x : ℕ). a .scale * x) (c .counted .ensures)) (l .inv .1))
+    (omega arith, length-set (l .close) _ _ ∙ l .inv .1, filled-more (l .s) _ (l .close) _ (omega arith) (ap (λ (x : ℕ). a .scale * x) (c .counted .ensures)) (l .inv .2))
 
 returns : tie.Need-returns Inv-loop μ-loop
 returns c =
     let e : c .before .loop .s ≡ c .before .before .args .n = omega arith in
-    rw e at (c .before .loop .inv .1)
+    rw e at (c .before .loop .inv .2)
 
 pub closes-spec : {M : Type 1} → statement M
 closes-spec =
@@ -68,7 +69,7 @@ closes-spec =
     counted-requires
     mul-close
     mul-close-2
-    element-write-close
+    array-write-close
     add-s
     loop-less
     loop-again

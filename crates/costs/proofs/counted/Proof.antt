@@ -1,18 +1,22 @@
--- `costs::counted` meets its contract: the low bit is 1 where the marks value is a counted state's.
--- Assumes nothing.
-use native.Mathlib.Omega.{arith}
+-- `costs::counted`: the test is the mark, and 1 stands for yes. Assumes nothing.
+use mathlib.Core.Path.{sym, ap, _∙_}
+use mathlib.Core.Bool.{Bool}
+use Rattle.graph.specs.Route.{one}
 use borrow.Author.Needs.{needs}
-use Rattle.costs.proofs.Filled.{one-of}
 use Rattle.costs.proofs.counted.Statement.{statement}
 use Rattle.costs.proofs.counted.Tie as tie
 use Rattle.costs.proofs.counted.Reads as reads
 use Rattle.costs.proofs.counted.Lts as lts
+use Rattle.search.proofs.is_counted.Reads as is-counted-reads
 
-cast-result : tie.Need-cast-result
-cast-result c = search needs
+is-counted-requires : tie.Need-is-counted-requires
+is-counted-requires c κs = search needs
 
 returns : tie.Need-returns
-returns c = one-of _ (omega arith)
+returns c = rw (sym (c .before .is-counted .ensures) ∙ c .if1 .taken)
+
+returns-2 : tie.Need-returns-2
+returns-2 c = rw (sym (c .before .is-counted .ensures) ∙ c .if1 .left)
 
 pub counted-spec : {M : Type 1} → statement M
-counted-spec = tie.close (tie.spec cast-result returns)
+counted-spec = tie.close (tie.spec is-counted-requires returns returns-2)

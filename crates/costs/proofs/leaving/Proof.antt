@@ -1,28 +1,28 @@
--- `costs::counts` meets its contract. The invariant: the first t weights are filled.
--- Assumes nothing.
+-- `costs::leaving`: the first t weights are filled, and the products fit a word. Assumes nothing.
 use Prim.Native.Nat.{ℕ, _+_, _-_, _*_, _≤_}
-use mathlib.Core.Path.{_≡_, ap, _∙_}
+use mathlib.Core.Path.{_≡_, refl, ap, _∙_}
 use native.Mathlib.Omega.{arith}
 use borrow.Author.Needs.{needs}
-use lib.ListN.{getD}
-use Rattle.costs.proofs.Filled.{filled-none, filled-more, scaled-le, counted-le}
-use Rattle.costs.specs.Arrays.{countedMark, Filled, countWeight}
+use lib.ListN.{length, getD, length-set, length-replicate}
+use Rattle.graph.specs.Graph.{countedMark}
 use Rattle.graph.specs.Route.{one}
-use Rattle.costs.proofs.counts.Statement.{statement}
-use Rattle.costs.proofs.counts.Tie as tie
-use Rattle.costs.proofs.counts.Reads as reads
-use Rattle.costs.proofs.counts.Lts as lts
+use Rattle.costs.specs.Arrays.{Filled, delayWeight, countWeight, countClose}
+use Rattle.costs.proofs.Filled.{filled-none, filled-more, scaled-le, counted-le}
+use Rattle.costs.proofs.leaving.Statement.{statement}
+use Rattle.costs.proofs.leaving.Tie as tie
+use Rattle.costs.proofs.leaving.Reads as reads
+use Rattle.costs.proofs.leaving.Lts as lts
 use Rattle.arrays.proofs.limits.wide.Reads as wide-reads
 use Rattle.costs.proofs.counted.Reads as counted-reads
 
 abbrev Inv-loop : tie.InvT-loop
-Inv-loop marks from m scale extra weight₀ t₀ weight t = (t ≤ m) × Filled t (countWeight scale extra marks from) weight₀ weight
+Inv-loop marks from m scale extra weight₀ t₀ weight t = (t ≤ m) × (length weight ≡ 2048) × Filled t (countWeight scale extra marks from) weight
 
 abbrev μ-loop : tie.MeasureT-loop
 μ-loop marks from m scale extra weight₀ t₀ weight t = m - t
 
 loop-holds : tie.Need-loop-holds Inv-loop μ-loop
-loop-holds c = (search needs, filled-none _ _)
+loop-holds c = (search needs, length-replicate {A = ℕ} 2048 0, filled-none _ 2048)
 
 mul-wide : tie.Need-mul-wide Inv-loop μ-loop
 mul-wide c = search needs
@@ -35,7 +35,7 @@ wide-requires c κs = search needs
 
 element-copy-out-counted : tie.Need-element-copy-out-counted Inv-loop μ-loop
 element-copy-out-counted c =
-    let h = c .before .before .before .before .pre .4 (c .before .before .before .loop .t) (c .before .before .loop-test .taken) in
+    let h = c .before .before .before .before .pre .3 (c .before .before .before .loop .t) (c .before .before .loop-test .taken) in
     omega (arith, c .wide .ensures)
 
 counted-requires : tie.Need-counted-requires Inv-loop μ-loop
@@ -56,8 +56,8 @@ add-weight c =
 mul-weight-2 : tie.Need-mul-weight-2 Inv-loop μ-loop
 mul-weight-2 c = search needs
 
-element-write-weight : tie.Need-element-write-weight Inv-loop μ-loop
-element-write-weight c = search needs
+array-write-weight : tie.Need-array-write-weight Inv-loop μ-loop
+array-write-weight c = omega arith
 
 add-t : tie.Need-add-t Inv-loop μ-loop
 add-t c = search needs
@@ -71,15 +71,15 @@ loop-again c =
     let a = c .before .before .before .before .before .before .args in
     let e : c .counted .result ≡ one (countedMark (getD (a .marks .now) (getD (a .from .now) (l .t) 0) 0)) =
     c .counted .ensures ∙ ap (λ (s : ℕ). one (countedMark (getD (a .marks .now) s 0))) (c .before .before .wide .ensures) in
-    (omega arith, filled-more (l .t) _ _ (l .weight) _ (omega arith) (ap (λ (x : ℕ). a .scale * x + a .extra) e) (l .inv .1))
+    (omega arith, length-set (l .weight) _ _ ∙ l .inv .1, filled-more (l .t) _ (l .weight) _ (omega arith) (ap (λ (x : ℕ). a .scale * x + a .extra) e) (l .inv .2))
 
 returns : tie.Need-returns Inv-loop μ-loop
 returns c =
     let e : c .before .loop .t ≡ c .before .before .args .m = omega arith in
-    rw e at (c .before .loop .inv .1)
+    rw e at (c .before .loop .inv .2)
 
-pub counts-spec : {M : Type 1} → statement M
-counts-spec =
+pub leaving-spec : {M : Type 1} → statement M
+leaving-spec =
     tie.close
     (tie.spec
     Inv-loop
@@ -93,7 +93,7 @@ counts-spec =
     mul-weight
     add-weight
     mul-weight-2
-    element-write-weight
+    array-write-weight
     add-t
     loop-less
     loop-again
