@@ -6,35 +6,53 @@ use mathlib.Core.Logic.{_⊎_}
 use mathlib.Core.Path.{_≡_}
 use Prim.Native.Nat.{ℕ, _+_, _≤_, _<_}
 use lib.ListN.{length, set}
-use Rattle.search.specs.Arrays.{at, StartIn, FinalIn, UnfinishedIn, Leaves}
-use Rattle.search.specs.Sizes.{far, heaviest}
+use Rattle.search.specs.Arrays.{Arrays, at, StartIn, FinalIn, UnfinishedIn, Leaves, Bounded}
+use Rattle.search.specs.Chain.{Chains}
+use Rattle.search.specs.Sizes.{far, heaviest, sumTo}
 
--- the weights and closes of a search: no transition weighs nothing
-pub record Weighed (n m : ℕ) (weight close : List ℕ) : Type 0 where
+-- the weights and closes of a search: none of the m transitions weighs nothing
+pub record Weighed (m : ℕ) (weight close : List ℕ) : Type 0 where
   pub some : (t : ℕ) → t < m → 1 ≤ at weight t
-  pub most : (t : ℕ) → t < m → at weight t ≤ heaviest
-  pub close-most : (s : ℕ) → s < n → at close s ≤ heaviest
+  pub most : (t : ℕ) → at weight t ≤ heaviest
+  pub close-most : (s : ℕ) → at close s ≤ heaviest
 
-module _ (n m : ℕ) (marks from to weight close : List ℕ) where
+module _ (A : Arrays) (weight close : List ℕ) where
   -- a final state has its close for a key; and at an unfinished state with a key some transition accounts for no more than the key
   pub record Keys (key : List ℕ) : Type 0 where
     pub sized : 512 ≤ length key
-    pub most : (s : ℕ) → s < n → at key s ≤ far
-    pub at-final : (s : ℕ) → s < n → FinalIn marks s → at key s ≡ at close s
-    pub accounted : (s : ℕ) → s < n → UnfinishedIn marks s → at key s < far
-        → (t : ℕ) × Leaves m from s t × (at weight t + at key (at to t) ≤ at key s)
+    pub most : (s : ℕ) → s < A .n → at key s ≤ far
+    pub at-final : (s : ℕ) → s < A .n → FinalIn (A .marks) s → at key s ≡ at close s
+    pub accounted : (s : ℕ) → s < A .n → UnfinishedIn (A .marks) s → at key s < far
+        → (t : ℕ) × Leaves A s t × (at weight t + at key (at (A .to) t) ≤ at key s)
 
-  -- no transition can lower a key to less than the bound
-  abbrev pub Settled : ℕ → List ℕ → Type 0
-  Settled bound key = (t : ℕ) → t < m → UnfinishedIn marks (at from t)
-      → (at key (at from t) ≤ at weight t + at key (at to t)) ⊎ (bound ≤ at weight t + at key (at to t))
+  -- keys over a graph within the limits
+  pub record Keyed (key : List ℕ) : Type 0 where
+    pub bounded : Bounded A
+    pub weighed : Weighed (A .m) weight close
+    pub keys : Keys key
 
-  -- none to less than the key of the state r; none at all where r is no state
-  pub record SettledBy (r : ℕ) (key : List ℕ) : Type 0 where
-    pub bound : ℕ
-    pub settled : Settled bound key
-    pub nearest : r < n → bound ≡ at key r
-    pub none : n ≤ r → bound ≡ far
+  -- .. and with the chains of its transitions by the states that they lead to
+  pub record Spreading (head link key : List ℕ) : Type 0 where
+    pub keyed : Keyed key
+    pub chains : Chains (A .to) (A .m) head link
+
+-- none of the first i transitions can lower a key to less than the bound
+abbrev pub Settled : Arrays → List ℕ → ℕ → ℕ → List ℕ → Type 0
+Settled A weight i bound key = (t : ℕ) → t < i → UnfinishedIn (A .marks) (at (A .from) t)
+    → (at key (at (A .from) t) ≤ at weight t + at key (at (A .to) t)) ⊎ (bound ≤ at weight t + at key (at (A .to) t))
+
+-- none of all to less than the key of the state r; none at all where r is no state
+pub record SettledBy (A : Arrays) (weight : List ℕ) (r : ℕ) (key : List ℕ) : Type 0 where
+  pub bound : ℕ
+  pub settled : Settled A weight (A .m) bound key
+  pub nearest : r < A .n → bound ≡ at key r
+  pub none : A .n ≤ r → bound ≡ far
+
+-- a pass over the first i transitions: it lowered a key, as r says, and with it the sum of the keys; or they are as they were, and settled
+pub record Passing (A : Arrays) (weight close : List ℕ) (bound i : ℕ) (before : List ℕ) (r : Bool) (after : List ℕ) : Type 0 where
+  pub keys : Keys A weight close after
+  pub fell : r ≡ true → sumTo (A .n) (at after) < sumTo (A .n) (at before)
+  pub kept : r ≡ false → (after ≡ before) × Settled A weight i bound after
 
 -- the key of an unfinished state lowered to x, or the keys as they were
 abbrev pub Offered : List ℕ → ℕ → ℕ → List ℕ → List ℕ → Type 0
@@ -55,3 +73,9 @@ pub record Nearest (n : ℕ) (marks key : List ℕ) (r : ℕ) : Type 0 where
   pub found : r < n → StartIn marks r × (at key r < far)
   pub least : r < n → (s : ℕ) → s < n → StartIn marks s → at key r ≤ at key s
   pub none : n ≤ r → (s : ℕ) → s < n → StartIn marks s → far ≤ at key s
+
+-- keys that a least figure can be read off: settled by the nearest start r
+pub record Ready (A : Arrays) (weight close : List ℕ) (r : ℕ) (key : List ℕ) : Type 0 where
+  pub keyed : Keyed A weight close key
+  pub near : Nearest (A .n) (A .marks) key r
+  pub by : SettledBy A weight r key

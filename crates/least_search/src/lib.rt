@@ -1,3 +1,69 @@
-// The search for the least cost of a route over lent arrays, any cost, with a route that attains it: nearest first.
-pub mod least;
+// The least cost of a route over lent arrays, any cost, with a route that attains it: nearest first.
+pub mod keys;
 pub mod nearest;
+
+ghost use Prim.Native.Nat.{_≤_, _<_};
+ghost use lib.ListN.{length};
+ghost use Rattle.graph.specs.Graph.{Graph};
+ghost use Rattle.graph.specs.Figure.{IsLeast};
+ghost use Rattle.search.specs.Arrays.{arrays, Bounded, StandsIn};
+ghost use Rattle.search.specs.Chain.{Chains};
+ghost use Rattle.search.specs.Quoted.{Quoted};
+ghost use Rattle.search.specs.Weights.{costIn};
+ghost use Rattle.rules.specs.Quotations.{meant};
+ghost use Rattle.least_search.specs.Keys.{Weighed};
+use rules::Figure;
+use rules::Quote;
+use search::Weights;
+use search::chain::Ways;
+use search::route;
+
+// The least cost of a route, and a route that attains it, with its number of transitions.
+pub fn least<'a>(
+    n: usize,
+    m: usize,
+    marks: &'a [u8; 512],
+    from: &'a [u16; 2048],
+    to: &'a [u16; 2048],
+    ways: Ways,
+    weights: Weights,
+    walk: &mut [u16],
+) -> Quote
+    requires { ⌜ Bounded (arrays n m (now marks) (now from) (now to)) × Weighed m (weights .weight) (weights .close) × (n ≤ length (now walk)) ⌝ }
+    requires { ⌜ Chains (now to) m (ways .into .head) (ways .into .link) × Chains (now from) m (ways .out .head) (ways .out .link) ⌝ }
+    ensures { λ r. ⌜ ((g : Graph) → StandsIn (arrays n m (now (marks .entry)) (now (from .entry)) (now (to .entry))) g
+        → Quoted (IsLeast g (costIn weights)) g (costIn weights) (meant (r .figure)) (r .k) (r .j) (now (walk .entry)) (now (walk .exit))) ⌝ }
+{
+    let mut key = keys::spread(
+        n,
+        marks,
+        from,
+        &weights.weight,
+        &weights.close,
+        &ways.into.head,
+        &ways.into.link,
+    );
+    let best = keys::settle(n, m, marks, from, to, &weights.weight, &mut key);
+    if n <= best {
+        return Quote {
+            figure: Figure::None,
+            k: 0,
+            j: 0,
+        };
+    }
+    let k = route::trace(
+        best,
+        marks,
+        to,
+        &ways.out.head,
+        &ways.out.link,
+        &weights.weight,
+        &key,
+        walk,
+    );
+    Quote {
+        figure: Figure::Number(key[best]),
+        k,
+        j: 0,
+    }
+}

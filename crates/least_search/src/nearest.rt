@@ -1,7 +1,6 @@
 // The pending states, nearest first: a heap of four branches over their keys, and the place of each state in it. The order is a matter of speed
 // alone: whoever uses it settles every key that it left too high.
 ghost use Prim.Native.Nat.{ℕ, _≤_, _<_};
-ghost use lib.ListN.{length};
 ghost use Rattle.search.specs.Arrays.{Below};
 use arrays::limits::wide;
 

@@ -1,10 +1,10 @@
--- `least_search::least::offer` meets its contract: the key is lowered only past the tests that the state is unfinished and the key lower. Assumes nothing.
+-- `least_search::keys::offer` meets its contract: the key is lowered only past the tests that the state is unfinished and the key lower. Assumes nothing.
 use mathlib.Core.Logic.{inl, inr}
 use mathlib.Core.Path.{refl, sym, _∙_}
 use native.Mathlib.Omega.{arith}
 use borrow.Author.Needs.{needs}
-use Rattle.least_search.proofs.least.offer.Statement.{statement}
-use Rattle.least_search.proofs.least.offer.Tie as tie
+use Rattle.least_search.proofs.keys.offer.Statement.{statement}
+use Rattle.least_search.proofs.keys.offer.Tie as tie
 
 element-copy-out-is-final : tie.Need-element-copy-out-is-final
 element-copy-out-is-final c = search needs

@@ -1,4 +1,4 @@
--- `least_search::least::seed` meets its contract. The loop's invariant: the final states passed have their closes for keys, no other state has a key, and no more
+-- `least_search::keys::seed` meets its contract. The loop's invariant: the final states passed have their closes for keys, no other state has a key, and no more
 -- states are pending than are passed. The measure is what is left of the states. Assumes nothing.
 use Prim.Native.Nat.{_-_, _≤_}
 use mathlib.Core.Logic.{⊎-elim}
@@ -8,8 +8,8 @@ use native.Mathlib.Omega.{arith}
 use borrow.Author.Needs.{needs}
 use Rattle.search.specs.Arrays.{at, Below}
 use Rattle.least_search.proofs.Lowered.{below-weaken, Seeding, seeding-none, seeding-final, seeding-other, seeded}
-use Rattle.least_search.proofs.least.seed.Statement.{statement}
-use Rattle.least_search.proofs.least.seed.Tie as tie
+use Rattle.least_search.proofs.keys.seed.Statement.{statement}
+use Rattle.least_search.proofs.keys.seed.Tie as tie
 
 abbrev Inv-loop : tie.InvT-loop
 Inv-loop n marks close key₀ heap₀ place₀ size₀ s₀ key heap place size s =
@@ -19,7 +19,7 @@ abbrev μ-loop : tie.MeasureT-loop
 μ-loop n marks close key₀ heap₀ place₀ size₀ s₀ key heap place size s = n - s
 
 loop-holds : tie.Need-loop-holds Inv-loop μ-loop
-loop-holds c = (search needs, search needs, c .pre .4, c .pre .5, seeding-none _ _ _ _ (c .pre .0) (c .pre .2) (c .pre .3))
+loop-holds c = (search needs, search needs, c .pre .4, c .pre .5, seeding-none (c .pre .0) (c .pre .2) (c .pre .3))
 
 element-copy-out-is-final : tie.Need-element-copy-out-is-final Inv-loop μ-loop
 element-copy-out-is-final c = search needs
@@ -68,14 +68,14 @@ loop-again c =
       omega (arith, w .9),
       rw (w .7) (w .5 .ensures .1 _ (omega arith) (l .inv .2)),
       rw (w .8) (w .5 .ensures .0),
-      rw (add-one, w .6) (seeding-final _ _ _ _ _ (p .0) (omega arith) (sym e ∙ w .0 .taken) (l .inv .4)),
+      rw (add-one, w .6) (seeding-final (p .0) (omega arith) (sym e ∙ w .0 .taken) (l .inv .4)),
     ))
     (λ w. (
       omega arith,
       omega (arith, w .4),
       rw (w .2) (l .inv .2),
       rw (w .3) (l .inv .3),
-      rw (add-one, w .1) (seeding-other _ _ _ _ _ (sym e ∙ w .0 .left) (l .inv .4)),
+      rw (add-one, w .1) (seeding-other (sym e ∙ w .0 .left) (l .inv .4)),
     ))
     (c .if1 .came)
 
@@ -84,7 +84,7 @@ returns c =
     let p = c .before .before .pre in
     let l = c .before .loop in
     let e : l .s ≡ c .before .before .args .n = omega arith in
-    (omega arith, seeded _ _ _ _ (p .1) (rw e at (l .inv .4)), l .inv .2, l .inv .3)
+    (omega arith, seeded (p .1) (rw e at (l .inv .4)), l .inv .2, l .inv .3)
 
 pub seed-spec : {M : Type 1} → statement M
 seed-spec =

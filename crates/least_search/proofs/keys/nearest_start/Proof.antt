@@ -1,4 +1,4 @@
--- `least_search::least::nearest_start` meets its contract. The loop's invariant is `Nearing` of Lowered. The measure is what is left of the states. Assumes nothing.
+-- `least_search::keys::nearest_start` meets its contract. The loop's invariant is `Nearing` of Lowered. The measure is what is left of the states. Assumes nothing.
 use Prim.Native.Nat.{_-_, _≤_}
 use mathlib.Core.Logic.{⊎-elim}
 use mathlib.Core.Path.{_≡_, sym, _∙_}
@@ -7,8 +7,8 @@ use native.Mathlib.Omega.{arith}
 use borrow.Author.Needs.{needs}
 use Rattle.search.specs.Arrays.{at}
 use Rattle.least_search.proofs.Lowered.{never-both, Nearing, nearing-none, nearing-nearer, nearing-kept, nearing-most, nearest}
-use Rattle.least_search.proofs.least.nearest_start.Statement.{statement}
-use Rattle.least_search.proofs.least.nearest_start.Tie as tie
+use Rattle.least_search.proofs.keys.nearest_start.Statement.{statement}
+use Rattle.least_search.proofs.keys.nearest_start.Tie as tie
 
 abbrev Inv-loop : tie.InvT-loop
 Inv-loop n marks key best₀ least₀ s₀ best least s = (s ≤ n) × Nearing n marks key s best least
@@ -17,7 +17,7 @@ abbrev μ-loop : tie.MeasureT-loop
 μ-loop n marks key best₀ least₀ s₀ best least s = n - s
 
 loop-holds : tie.Need-loop-holds Inv-loop μ-loop
-loop-holds c = (search needs, nearing-none _ _ _)
+loop-holds c = (search needs, nearing-none)
 
 element-copy-out-is-start : tie.Need-element-copy-out-is-start Inv-loop μ-loop
 element-copy-out-is-start c = search needs
@@ -50,10 +50,10 @@ loop-again c =
     let k = l .inv .1 in (
       omega arith,
       rw add-one (⊎-elim
-          (λ w. rw (w .4, w .5) (nearing-nearer _ _ _ _ _ _ (omega arith) (sym e ∙ w .0 .taken) (w .2 .taken) (nearing-most _ _ _ k) k))
+          (λ w. rw (w .4, w .5) (nearing-nearer (omega arith) (sym e ∙ w .0 .taken) (w .2 .taken) (nearing-most k) k))
           (⊎-elim
-          (λ w. rw (w .3, w .4) (nearing-kept _ _ _ _ _ _ (λ o. w .2 .left) k))
-          (λ w. rw (w .1, w .2) (nearing-kept _ _ _ _ _ _ (λ o. absurd (never-both o (sym e ∙ w .0 .left))) k)))
+          (λ w. rw (w .3, w .4) (nearing-kept (λ o. w .2 .left) k))
+          (λ w. rw (w .1, w .2) (nearing-kept (λ o. absurd (never-both o (sym e ∙ w .0 .left))) k)))
           (c .if1 .came)),
     )
 
@@ -61,7 +61,7 @@ returns : tie.Need-returns Inv-loop μ-loop
 returns c =
     let l = c .before .loop in
     let e : l .s ≡ c .before .before .args .n = omega arith in
-    nearest _ _ _ _ _ (rw e at (l .inv .1))
+    nearest (rw e at (l .inv .1))
 
 pub nearest-start-spec : {M : Type 1} → statement M
 nearest-start-spec =

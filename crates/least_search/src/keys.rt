@@ -1,28 +1,21 @@
-// The least cost of a route, and a route that attains it. Keys spread from the final states back, nearest first, until a start is nearest; then
+// Keys: a bound from above on what a route from each state costs. They spread from the final states back, nearest first, until a start is nearest; then
 // every key that could still be lowered to less than the best start's is lowered, which one pass over the transitions finds to be none.
-ghost use mathlib.Core.Bool.{Bool, true, false};
+//
+// Inside the search arrays are lent one by one: a struct of them would be copied at every step.
+ghost use mathlib.Core.Bool.{true, false};
 ghost use mathlib.Core.List.{List};
-ghost use mathlib.Core.Logic.{_⊎_};
 ghost use mathlib.Core.Path.{_≡_};
 ghost use Prim.Native.Nat.{ℕ, _+_, _≤_, _<_};
 ghost use lib.ListN.{length};
-ghost use Rattle.graph.specs.Graph.{Graph};
-ghost use Rattle.graph.specs.Figure.{IsLeast};
-ghost use Rattle.search.specs.Arrays.{at, Ends, Holds, Below};
-ghost use Rattle.arrays.specs.Tables.{costOf};
+ghost use Rattle.search.specs.Arrays.{arrays, at, Bounded, Below};
 ghost use Rattle.search.specs.Chain.{Chains};
-ghost use Rattle.search.specs.Sizes.{sumTo};
-ghost use Rattle.least_search.specs.Keys.{Weighed, Keys, Settled, SettledBy, Offered, Relaxed, Nearest};
 ghost use Rattle.search.specs.Sizes.{far, heaviest};
-ghost use Rattle.rules.specs.Quotations.{meant};
-ghost use Rattle.search.specs.Quoted.{Quoted};
+ghost use Rattle.least_search.specs.Keys.{Weighed, Keys, Keyed, Spreading, Passing, Ready, Offered, Relaxed, Nearest};
 use crate::nearest;
 use arrays::limits::wide;
-use rules::Figure;
-use rules::Quote;
+use search::NONE;
 use search::is_final;
 use search::is_start;
-use search::route;
 
 // Above every key that is known.
 const FAR: u32 = 4_000_000_000;
@@ -70,10 +63,10 @@ fn seed(
     heap: &mut [u16; 512],
     place: &mut [u16; 512],
 ) -> usize
-    requires { ⌜ (n ≤ 512) × ((s : ℕ) → s < n → at (now close) s ≤ heaviest) × (512 ≤ length (now key))
+    requires { ⌜ (n ≤ 512) × ((s : ℕ) → at (now close) s ≤ heaviest) × (512 ≤ length (now key))
         × ((s : ℕ) → s < 512 → at (now key) s ≡ far) × Below n (now heap) × Below 512 (now place) ⌝ }
     ensures { λ r. ⌜ (r ≤ 512)
-        × ((m : ℕ) → (from to weight : List ℕ) → Keys n m (now (marks .entry)) from to weight (now (close .entry)) (now (key .exit)))
+        × ((m : ℕ) (from to weight : List ℕ) → Keys (arrays n m (now (marks .entry)) from to) weight (now (close .entry)) (now (key .exit)))
         × Below n (now (heap .exit)) × Below 512 (now (place .exit)) ⌝ }
 {
     let mut size = 0;
@@ -91,65 +84,52 @@ fn seed(
 }
 
 // Offers the state behind each transition into s what the way through s costs. Returns how many states are pending.
-fn relax_into(
+fn relax_into<'a>(
     s: usize,
-    n: usize,
-    m: usize,
     marks: &[u8; 512],
     from: &[u16; 2048],
-    to: &[u16; 2048],
     weight: &[u32; 2048],
-    close: &[u32; 512],
-    head: &[u16; 512],
-    link: &[u16; 2048],
+    head: &'a [u16; 512],
+    link: &'a [u16; 2048],
     key: &mut [u32; 512],
     heap: &mut [u16; 512],
     place: &mut [u16; 512],
     size: usize,
 ) -> usize
-    requires { ⌜ (s < n) × (size ≤ 512) × Ends n m (now from) (now to) × Weighed n m (now weight) (now close) × Chains (now to) m (now head) (now link) ⌝ }
-    requires { ⌜ Keys n m (now marks) (now from) (now to) (now weight) (now close) (now key) × Below n (now heap) × Below 512 (now place) ⌝ }
-    ensures { λ r. ⌜ (r ≤ 512)
-        × Keys n m (now (marks .entry)) (now (from .entry)) (now (to .entry)) (now (weight .entry)) (now (close .entry)) (now (key .exit))
-        × Below n (now (heap .exit)) × Below 512 (now (place .exit)) ⌝ }
+    requires { ⌜ (size ≤ 512) × Below 512 (now place) × ((n m : ℕ) × (to close : List ℕ) × (s < n)
+        × Spreading (arrays n m (now marks) (now from) to) (now weight) close (now head) (now link) (now key) × Below n (now heap)) ⌝ }
+    ensures { λ r. ⌜ (r ≤ 512) × Below 512 (now (place .exit)) × ((n m : ℕ) (to close : List ℕ) → s < n
+        → Spreading (arrays n m (now (marks .entry)) (now (from .entry)) to) (now (weight .entry)) close (now (head .entry)) (now (link .entry)) (now (key .entry)) → Below n (now (heap .entry))
+        → Keys (arrays n m (now (marks .entry)) (now (from .entry)) to) (now (weight .entry)) close (now (key .exit)) × Below n (now (heap .exit))) ⌝ }
 {
     let mut pending = size;
     let mut t = wide(head[s]);
-    while t < 2048 {
-        pending = offer(
-            wide(from[t]),
-            weight[t] + key[s],
-            marks,
-            key,
-            heap,
-            place,
-            pending,
-        );
+    while t < NONE {
+        let x = weight[t] + key[s];
+        pending = offer(wide(from[t]), x, marks, key, heap, place, pending);
         t = wide(link[t]);
     }
     pending
 }
 
 // Spreads keys from the final states back, nearest first, until a start is nearest. Each state is taken once.
-fn spread(
+pub fn spread<'a, 'b>(
     n: usize,
-    m: usize,
     marks: &[u8; 512],
     from: &[u16; 2048],
-    to: &[u16; 2048],
-    weight: &[u32; 2048],
-    close: &[u32; 512],
-    head: &[u16; 512],
-    link: &[u16; 2048],
-    key: &mut [u32; 512],
-)
-    requires { ⌜ Ends n m (now from) (now to) × Weighed n m (now weight) (now close) × Chains (now to) m (now head) (now link)
-        × (512 ≤ length (now key)) × ((s : ℕ) → s < 512 → at (now key) s ≡ far) ⌝ }
-    ensures { λ r. ⌜ Keys n m (now (marks .entry)) (now (from .entry)) (now (to .entry)) (now (weight .entry)) (now (close .entry)) (now (key .exit)) ⌝ }
+    weight: &'a [u32; 2048],
+    close: &'a [u32; 512],
+    head: &'b [u16; 512],
+    link: &'b [u16; 2048],
+) -> [u32; 512]
+    requires { ⌜ ((m : ℕ) × (to : List ℕ) × Bounded (arrays n m (now marks) (now from) to) × Weighed m (now weight) (now close) × Chains to m (now head) (now link)) ⌝ }
+    ensures { λ r. ⌜ ((m : ℕ) (to : List ℕ) → Bounded (arrays n m (now (marks .entry)) (now (from .entry)) to) → Weighed m (now (weight .entry)) (now (close .entry))
+        → Chains to m (now (head .entry)) (now (link .entry)) → Keys (arrays n m (now (marks .entry)) (now (from .entry)) to) (now (weight .entry)) (now (close .entry)) r) ⌝ }
 {
+    let mut key = [FAR; 512];
     let mut heap = [0u16; 512];
     let mut place = [0u16; 512];
-    let mut size = seed(n, marks, close, key, &mut heap, &mut place);
+    let mut size = seed(n, marks, close, &mut key, &mut heap, &mut place);
     let mut taken = 0;
     while taken < n {
         if size == 0 {
@@ -158,28 +138,25 @@ fn spread(
         let s = wide(heap[0]);
         size -= 1;
         let last = heap[size];
-        nearest::sink(&mut heap, &mut place, key, size, last);
+        nearest::sink(&mut heap, &mut place, &key, size, last);
         if is_start(marks[s]) {
             break;
         }
         size = relax_into(
             s,
-            n,
-            m,
             marks,
             from,
-            to,
             weight,
-            close,
             head,
             link,
-            key,
+            &mut key,
             &mut heap,
             &mut place,
             size,
         );
         taken += 1;
     }
+    key
 }
 
 // Lowers the key of the state that t leaves, where the way by t is cheaper, and cheaper than the bound. Returns whether it did.
@@ -214,22 +191,17 @@ fn relax(
 
 // One pass over the transitions. Returns whether a key was lowered.
 fn pass(
-    n: usize,
     m: usize,
     bound: u32,
     marks: &[u8; 512],
     from: &[u16; 2048],
     to: &[u16; 2048],
     weight: &[u32; 2048],
-    close: &[u32; 512],
     key: &mut [u32; 512],
 ) -> bool
-    requires { ⌜ Ends n m (now from) (now to) × Weighed n m (now weight) (now close)
-        × Keys n m (now marks) (now from) (now to) (now weight) (now close) (now key) ⌝ }
-    ensures { λ r. ⌜ Keys n m (now (marks .entry)) (now (from .entry)) (now (to .entry)) (now (weight .entry)) (now (close .entry)) (now (key .exit))
-        × (r ≡ true → sumTo n (at (now (key .exit))) < sumTo n (at (now (key .entry))))
-        × (r ≡ false → (now (key .exit) ≡ now (key .entry))
-        × Settled n m (now (marks .entry)) (now (from .entry)) (now (to .entry)) (now (weight .entry)) (now (close .entry)) bound (now (key .exit))) ⌝ }
+    requires { ⌜ ((n : ℕ) × (close : List ℕ) × Keyed (arrays n m (now marks) (now from) (now to)) (now weight) close (now key)) ⌝ }
+    ensures { λ r. ⌜ ((n : ℕ) (close : List ℕ) → Keyed (arrays n m (now (marks .entry)) (now (from .entry)) (now (to .entry))) (now (weight .entry)) close (now (key .entry))
+        → Passing (arrays n m (now (marks .entry)) (now (from .entry)) (now (to .entry))) (now (weight .entry)) close bound m (now (key .entry)) r (now (key .exit))) ⌝ }
 {
     let mut lowered = false;
     let mut t = 0;
@@ -263,90 +235,24 @@ fn nearest_start(n: usize, marks: &[u8; 512], key: &[u32; 512]) -> usize
 }
 
 // Lowers keys until none can be lowered to less than the best start's. Returns that start; n where no start has a key.
-fn settle(
+pub fn settle(
     n: usize,
     m: usize,
     marks: &[u8; 512],
     from: &[u16; 2048],
     to: &[u16; 2048],
     weight: &[u32; 2048],
-    close: &[u32; 512],
     key: &mut [u32; 512],
 ) -> usize
-    requires { ⌜ Ends n m (now from) (now to) × Weighed n m (now weight) (now close)
-        × Keys n m (now marks) (now from) (now to) (now weight) (now close) (now key) ⌝ }
-    ensures { λ r. ⌜ Keys n m (now (marks .entry)) (now (from .entry)) (now (to .entry)) (now (weight .entry)) (now (close .entry)) (now (key .exit))
-        × Nearest n (now (marks .entry)) (now (key .exit)) r
-        × SettledBy n m (now (marks .entry)) (now (from .entry)) (now (to .entry)) (now (weight .entry)) (now (close .entry)) r (now (key .exit)) ⌝ }
+    requires { ⌜ ((close : List ℕ) × Keyed (arrays n m (now marks) (now from) (now to)) (now weight) close (now key)) ⌝ }
+    ensures { λ r. ⌜ ((close : List ℕ) → Keyed (arrays n m (now (marks .entry)) (now (from .entry)) (now (to .entry))) (now (weight .entry)) close (now (key .entry))
+        → Ready (arrays n m (now (marks .entry)) (now (from .entry)) (now (to .entry))) (now (weight .entry)) close r (now (key .exit))) ⌝ }
 {
     loop {
         let best = nearest_start(n, marks, key);
         let bound = if best < n { key[best] } else { FAR };
-        if !pass(n, m, bound, marks, from, to, weight, close, key) {
+        if !pass(m, bound, marks, from, to, weight, key) {
             return best;
         }
-    }
-}
-
-// The least cost of a route, and a route that attains it, with its number of transitions. The chains are those into the states, and out of them.
-pub fn least(
-    n: usize,
-    m: usize,
-    marks: &[u8; 512],
-    from: &[u16; 2048],
-    to: &[u16; 2048],
-    weight: &[u32; 2048],
-    close: &[u32; 512],
-    into: &[u16; 512],
-    into_link: &[u16; 2048],
-    out: &[u16; 512],
-    out_link: &[u16; 2048],
-    walk: &mut [u16],
-) -> Quote
-    requires { ⌜ Ends n m (now from) (now to) × Weighed n m (now weight) (now close) × (n ≤ length (now walk)) ⌝ }
-    requires { ⌜ Chains (now to) m (now into) (now «into_link») × Chains (now from) m (now out) (now «out_link») ⌝ }
-    ensures { λ r. ⌜ ((g : Graph) → Holds g n m (now (marks .entry)) (now (from .entry)) (now (to .entry))
-        → Quoted (IsLeast g (costOf (now (weight .entry)) (now (close .entry)))) g (costOf (now (weight .entry)) (now (close .entry)))
-        (meant (r .figure)) (r .k) (r .j) (now (walk .entry)) (now (walk .exit))) ⌝ }
-{
-    let mut key = [FAR; 512];
-    spread(
-        n,
-        m,
-        marks,
-        from,
-        to,
-        weight,
-        close,
-        into,
-        into_link,
-        &mut key,
-    );
-    let best = settle(n, m, marks, from, to, weight, close, &mut key);
-    if n <= best {
-        return Quote {
-            figure: Figure::None,
-            k: 0,
-            j: 0,
-        };
-    }
-    let k = route::trace(
-        best,
-        n,
-        m,
-        marks,
-        from,
-        to,
-        out,
-        out_link,
-        weight,
-        close,
-        &key,
-        walk,
-    );
-    Quote {
-        figure: Figure::Number(key[best]),
-        k,
-        j: 0,
     }
 }

@@ -1,12 +1,12 @@
--- `least_search::least::relax` meets its contract: the key is lowered only past the three tests. Assumes nothing.
+-- `least_search::keys::relax` meets its contract: the key is lowered only past the three tests. Assumes nothing.
 use mathlib.Core.Logic.{inl, inr}
 use mathlib.Core.Path.{refl, sym, _∙_}
 use native.Mathlib.Omega.{arith}
 use borrow.Author.Needs.{needs}
 use Rattle.search.specs.Arrays.{FinalIn, UnfinishedIn}
 use Rattle.least_search.proofs.Lowered.{never-both}
-use Rattle.least_search.proofs.least.relax.Statement.{statement}
-use Rattle.least_search.proofs.least.relax.Tie as tie
+use Rattle.least_search.proofs.keys.relax.Statement.{statement}
+use Rattle.least_search.proofs.keys.relax.Tie as tie
 
 mul-wide : tie.Need-mul-wide
 mul-wide c = search needs
