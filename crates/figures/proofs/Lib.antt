@@ -1,3 +1,4 @@
--- From a search over the arrays of a plan to what is said of a figure.
-pub mod Answers
-pub mod Parts
+-- A plan's arrays and the graph that stands in them.
+pub mod Held
+-- The weights of a figure, and from what a search found to what is said of the figure.
+pub mod Weighed

@@ -1,44 +1,55 @@
--- What is said of a figure over arrays that hold a plan within the limits. Assumes nothing.
-use mathlib.Core.List.{List}
-use mathlib.Core.Path.{_≡_}
+-- What a figure of a plan is searched over, by which figure it is. Assumes nothing.
 use Prim.Native.Nat.{ℕ, _≤_, _<_}
-use lib.ListN.{length, drop}
-use Rattle.graph.specs.Figure.{Figure}
-use Rattle.rules.specs.declared.Pair.{Pair}
-use Rattle.rules.specs.Quotations.{part, Stated, LeastDelay, GreatestDelay, LeastCount, GreatestCount}
-use Rattle.costs.specs.Arrays.{graphOf}
-use Rattle.search.specs.Arrays.{at, Ends}
+use Rattle.graph.specs.declared.Which.{Which}
+use Rattle.graph.specs.declared.Which.the-variants.{LeastDelay, GreatestDelay, LeastCount, GreatestCount}
+use Rattle.graph.specs.Figure.{costFor}
+use Rattle.graph.specs.Route.{Cost}
+use Rattle.costs.specs.Scaled.{Scaled, scale}
+use Rattle.plan.specs.declared.Plan.{Plan}
+use Rattle.plan.specs.View.{view}
+use Rattle.reach.specs.declared.Searched.{Searched}
+use Rattle.reach.specs.Explored.{tableOf, Reached}
+use Rattle.search.specs.declared.Weights.{Weights}
+use Rattle.search.specs.declared.chain.Chain.{Chain}
+use Rattle.search.specs.declared.chain.Ways.{Ways}
+use Rattle.search.specs.Arrays.{Arrays, arrays, at}
+use Rattle.search.specs.Chain.{Chains}
+use Rattle.search.specs.Weights.{costIn, Light}
 
--- the arrays hold a plan within the limits: its states and transitions, and durations of at most 2,047
-pub record Lent (n m : ℕ) (from to durations : List ℕ) : Type 0 where
-  pub ends : Ends n m from to
-  pub durations-most : (t : ℕ) → t < m → at durations t ≤ 2047
+-- a least figure is searched over the scaled costs and 1 more a transition, a greatest one over the costs themselves
+abbrev pub timesFor : Which → ℕ
+timesFor LeastDelay = scale
+timesFor GreatestDelay = 1
+timesFor LeastCount = scale
+timesFor GreatestCount = 1
 
--- what is said of a figure, of the graph in the arrays, whatever the durations are that were not asked for
-abbrev pub LeastDelayOf : ℕ → ℕ → List ℕ → List ℕ → List ℕ → List ℕ → Figure → ℕ → ℕ → List ℕ → List ℕ → Type 0
-LeastDelayOf n m marks from to low f k j before after = (high : List ℕ) → LeastDelay (graphOf n m marks from to low high) f k j before after
+abbrev pub extraFor : Which → ℕ
+extraFor LeastDelay = 1
+extraFor GreatestDelay = 0
+extraFor LeastCount = 1
+extraFor GreatestCount = 0
 
-abbrev pub GreatestDelayOf : ℕ → ℕ → List ℕ → List ℕ → List ℕ → List ℕ → Figure → ℕ → ℕ → List ℕ → List ℕ → Type 0
-GreatestDelayOf n m marks from to high f k j before after = (low : List ℕ) → GreatestDelay (graphOf n m marks from to low high) f k j before after
+-- the weights are a cost of the plan, scaled, and small enough to be added up along a route
+pub record WeighsAs (times extra : ℕ) (p : Plan) (c : Cost) (w : Weights) : Type 0 where
+  pub scaled : Scaled times extra (view p) c (costIn w)
+  pub light : Light w
+  pub some : (t : ℕ) → t < p .transitions → extra ≤ at (w .weight) t
 
-abbrev pub LeastCountOf : ℕ → ℕ → List ℕ → List ℕ → List ℕ → Figure → ℕ → ℕ → List ℕ → List ℕ → Type 0
-LeastCountOf n m marks from to f k j before after = (low high : List ℕ) → LeastCount (graphOf n m marks from to low high) f k j before after
+-- they are the figure's
+abbrev pub Weighs : Which → Plan → Weights → Type 0
+Weighs which p w = WeighsAs (timesFor which) (extraFor which) p (costFor which (view p)) w
 
-abbrev pub GreatestCountOf : ℕ → ℕ → List ℕ → List ℕ → List ℕ → Figure → ℕ → ℕ → List ℕ → List ℕ → Type 0
-GreatestCountOf n m marks from to f k j before after = (low high : List ℕ) → GreatestCount (graphOf n m marks from to low high) f k j before after
+-- the arrays of a plan that the searches see
+abbrev pub arraysOf : Plan → Arrays
+arraysOf p = arrays (p .states) (p .transitions) (p .marks) (p .from) (p .to)
 
--- both least figures by one call: their walks in the first and the third of four parts, and every other place as it was
-pub record LeastOf (n m : ℕ) (marks from to low : List ℕ) (r : Pair) (before after : List ℕ) : Type 0 where
-  pub delay : Stated (LeastDelayOf n m marks from to low) (r .delay) (part 0 before) (part 0 after)
-  pub count : Stated (LeastCountOf n m marks from to) (r .count) (part 2 before) (part 2 after)
-  pub others : (part 1 after ≡ part 1 before) × (part 3 after ≡ part 3 before)
-  pub later : drop 2048 after ≡ drop 2048 before
-  pub as-long : length after ≡ length before
+-- the chains of a plan's transitions, out of the states and into them
+abbrev pub OutOf : Plan → Chain → Type 0
+OutOf p c = Chains (p .from) (p .transitions) (c .head) (c .link)
 
--- both greatest figures: their walks in the second and the fourth
-pub record GreatestOf (n m : ℕ) (marks from to high : List ℕ) (r : Pair) (before after : List ℕ) : Type 0 where
-  pub delay : Stated (GreatestDelayOf n m marks from to high) (r .delay) (part 1 before) (part 1 after)
-  pub count : Stated (GreatestCountOf n m marks from to) (r .count) (part 3 before) (part 3 after)
-  pub others : (part 0 after ≡ part 0 before) × (part 2 after ≡ part 2 before)
-  pub later : drop 2048 after ≡ drop 2048 before
-  pub as-long : length after ≡ length before
+abbrev pub Into : Plan → Chain → Type 0
+Into p c = Chains (p .to) (p .transitions) (c .head) (c .link)
+
+-- what the starts of a plan reach
+abbrev pub ReachedIn : Plan → Searched → Type 0
+ReachedIn p s = Reached (arraysOf p) (tableOf s) (s .found)

@@ -1,7 +1,7 @@
 -- What is said of the four figures together, in the record's order: "least delay, greatest delay, least count, greatest count in turn".
 -- Assumes nothing.
 use Prim.Native.Nat.{ℕ}
-use mathlib.Core.Bool.{Bool, _&&_, _||_}
+use mathlib.Core.Bool.{Bool, true, false, _&&_, _||_}
 use mathlib.Core.List.{List, _++_}
 use Rattle.graph.specs.declared.Which.{Which}
 use Rattle.graph.specs.declared.Which.the-variants.{LeastDelay, GreatestDelay, LeastCount, GreatestCount}
@@ -30,3 +30,10 @@ every p = p LeastDelay && (p GreatestDelay && (p LeastCount && p GreatestCount))
 
 abbrev pub some : (Which → Bool) → Bool
 some p = p LeastDelay || (p GreatestDelay || (p LeastCount || p GreatestCount))
+
+-- whether it is a least figure
+abbrev pub isLeast : Which → Bool
+isLeast LeastDelay = true
+isLeast GreatestDelay = false
+isLeast LeastCount = true
+isLeast GreatestCount = false

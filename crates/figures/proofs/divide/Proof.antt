@@ -1,16 +1,6 @@
--- `figures::divide` meets its contract. Assumes nothing.
-use Prim.Native.Nat.{ℕ, zero, suc, _+_, _-_, _*_, _≤_, _<_}
-use mathlib.Core.Bool.{Bool, true, false, not}
-use mathlib.Core.List.{List, [], _∷_, _++_}
-use mathlib.Core.Logic.{_⊎_, inl, inr, ⊎-elim}
-use mathlib.Core.Path.{_≡_, refl, sym, ap, _∙_}
-use native.Mathlib.Omega.{arith}
-use borrow.Author.Count.{below-none, below-more}
+-- `figures::divide`: case by case. Assumes nothing.
+use mathlib.Core.Path.{refl}
 use borrow.Author.Needs.{needs}
-use borrow.Author.Tests.{lt-ltb, le-ltb, le-leb, lt-leb, eq-eqb, ne-eqb, not-true, not-false, eqb-true, eqb-false}
-use lib.Dec.{ltb, leb, eqb}
-use lib.ListN.{length, getD, set, take, drop, length-set}
-use lib.Seq.{getD-set-same, getD-set-other}
 use Rattle.figures.proofs.divide.Statement.{statement}
 use Rattle.figures.proofs.divide.Tie as tie
 use Rattle.figures.proofs.divide.Reads as reads
@@ -32,13 +22,13 @@ returns : tie.Need-returns
 returns c = rw (c .before .figure .given .1) refl
 
 returns-2 : tie.Need-returns-2
-returns-2 c = rw (c .enum-told .given .1) refl
+returns-2 c = search needs
 
 returns-3 : tie.Need-returns-3
-returns-3 c = rw (c .enum-told2 .given .1) refl
+returns-3 c = search needs
 
 returns-4 : tie.Need-returns-4
-returns-4 c = rw (c .enum-told3 .given .1) refl
+returns-4 c = search needs
 
 pub divide-spec : {M : Type 1} → statement M
 divide-spec =
