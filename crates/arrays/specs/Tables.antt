@@ -3,7 +3,7 @@ use mathlib.Core.List.{List, _++_}
 use Prim.Native.Nat.{ℕ, _≤_}
 use mathlib.Core.Path.{_≡_}
 use lib.ListN.{length, getD, drop}
-use Rattle.graph.specs.Graph.{State, Transition, marked}
+use Rattle.graph.specs.Graph.{Graph, State, Transition, marked}
 use Rattle.graph.specs.Route.{Cost}
 use Rattle.rules.specs.Image.{tabulate}
 
@@ -22,6 +22,10 @@ transitionOf from to low high i = record { from = getD from i 0; to = getD to i 
 -- the first m transitions of four arrays
 abbrev pub transitionsOf : ℕ → List ℕ → List ℕ → List ℕ → List ℕ → List Transition
 transitionsOf m from to low high = tabulate m (transitionOf from to low high)
+
+-- the graph that the arrays of a plan hold: the first n marks values and the first m transitions
+abbrev pub graphOf : ℕ → ℕ → List ℕ → List ℕ → List ℕ → List ℕ → List ℕ → Graph
+graphOf n m marks from to low high = record { stateList = statesOf n marks; transitions = transitionsOf m from to low high }
 
 -- a transition by its four numbers
 abbrev pub transition : ℕ → ℕ → ℕ → ℕ → Transition

@@ -71,11 +71,11 @@ pub fn marks_within(marks: &[u8; 512], n: usize) -> bool
 
 // Whether the transition at place i joins states of a plan with n of them, and has durations within the limits. No test waits for another, and no
 // branch is taken, so that a compiler can look at several places at once.
-fn transition_within(
-    from: &[u16; 2048],
-    to: &[u16; 2048],
-    low: &[u16; 2048],
-    high: &[u16; 2048],
+fn transition_within<'a>(
+    from: &'a [u16; 2048],
+    to: &'a [u16; 2048],
+    low: &'a [u16; 2048],
+    high: &'a [u16; 2048],
     n: u16,
     i: usize,
 ) -> bool
@@ -88,11 +88,11 @@ fn transition_within(
 }
 
 // Whether the first m transitions are within the limits of a plan with n states.
-pub fn transitions_within(
-    from: &[u16; 2048],
-    to: &[u16; 2048],
-    low: &[u16; 2048],
-    high: &[u16; 2048],
+pub fn transitions_within<'a>(
+    from: &'a [u16; 2048],
+    to: &'a [u16; 2048],
+    low: &'a [u16; 2048],
+    high: &'a [u16; 2048],
     n: usize,
     m: usize,
 ) -> bool

@@ -1,3 +1,3 @@
-pub mod Collect
 pub mod Items
 pub mod Puts
+pub mod Filling

@@ -1,16 +1,14 @@
 -- Fields put one after another: those of one item more. Assumes nothing.
 use mathlib.Core.List.{List, [], _∷_, _++_, append-nil}
-use mathlib.Core.Path.{_≡_, refl, sym, ap, ap₂, _∙_}
-use Prim.Native.Nat.{ℕ, suc, _+_, _*_, _≤_, _<_}
+use mathlib.Core.Path.{_≡_, refl, sym, ap, _∙_}
+use Prim.Native.Nat.{ℕ, _+_, _*_}
 use native.Mathlib.Numerals.{add-one}
-use native.Mathlib.Omega.{arith}
-use lib.ListN.{length}
 use Rattle.field.specs.Field.{Field, putAll, widthOfAll}
 use Rattle.field.proofs.Pack.{putAll-append}
 use Rattle.rules.specs.Image.{fieldsOfEach}
 use Rattle.rules.proofs.Fields.{width-each}
-use Rattle.arrays.specs.Tables.{tabulate}
-use Rattle.arrays.proofs.Lists.{length-tabulate}
+use Rattle.rules.specs.Image.{tabulate}
+use Rattle.rules.proofs.Tabulated.{length-tabulate}
 
 -- one item more, of w bits each, from a base position on
 module _ {A : Type 0} (fields : A → List Field) (w : ℕ) (wide : (a : A) → widthOfAll (fields a) ≡ w) where

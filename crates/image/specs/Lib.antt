@@ -1,2 +1,3 @@
 pub mod Values
 pub mod Position
+pub mod Read

@@ -3,13 +3,16 @@ ghost use mathlib.Core.Path.{_≡_};
 ghost use Prim.Native.Nat.{_+_, _*_, _≤_, _<_, _^_};
 ghost use lib.ListN.{length};
 ghost use Rattle.field.specs.Field.{fourAt};
-ghost use Rattle.rules.specs.Refusal.{said, outcome};
-ghost use Rattle.rules.specs.Image.{headerRule, stateCountOf, transitionCountOf, transitionAt, statesIn, transitionsIn};
-ghost use Rattle.rules.specs.declared.Answer.{Answer};
-ghost use Rattle.arrays.specs.Tables.{statesOf, transitionsOf, Later};
+ghost use Rattle.rules.specs.Image.{headerRows, transitionAt};
+ghost use Rattle.rules.specs.Refusal.{said};
+ghost use Rattle.rules.specs.Table.{first};
+ghost use Rattle.image.specs.Read.{HeaderRead, StatesRead, TransitionsRead, Fills, fields};
 ghost use Rattle.image.specs.Values.{meant};
 use crate::Transition;
 use crate::reader;
+use crate::size;
+use arrays::FINAL;
+use arrays::START;
 use arrays::limits;
 use field::Four;
 use rules::Answer;
@@ -22,10 +25,18 @@ pub struct Heading {
     pub transitions: usize,
 }
 
+// What came of an image: the answer, the counts of the states and transitions in the arrays, and how many bits were taken.
+pub struct Filled {
+    pub answer: Answer,
+    pub states: usize,
+    pub transitions: usize,
+    pub taken: usize,
+}
+
 // The grounds of the header's fields and of the length, in their order.
 fn grounds(octets: &[u8], fields: Four) -> Answer
     requires { ⌜ (4 ≤ length (now octets)) × (fields ≡ fourAt (now octets) 0 4 10 12 6) ⌝ }
-    ensures { λ r. ⌜ said r ≡ headerRule (now (octets .entry)) ⌝ }
+    ensures { λ r. ⌜ said r ≡ first (headerRows (now (octets .entry))) ⌝ }
 {
     let version = fields.first;
     let n = fields.second;
@@ -43,7 +54,7 @@ fn grounds(octets: &[u8], fields: Four) -> Answer
     if pad != 0 {
         return Answer::Refused(Refusal::SpareBits); // 6: the pad
     }
-    let needed = 4 + n + 5 * m;
+    let needed = size(n, m);
     if octets.len() < needed {
         return Answer::Refused(Refusal::ImageShort);
     }
@@ -54,11 +65,9 @@ fn grounds(octets: &[u8], fields: Four) -> Answer
 }
 
 // Reads the header, 32 bits.
-pub fn header(octets: &[u8], at: &mut usize) -> Heading
+fn header(octets: &[u8], at: &mut usize) -> Heading
     requires { ⌜ now at ≡ 0 ⌝ }
-    ensures { λ r. ⌜ (said (r .answer) ≡ headerRule (now (octets .entry)))
-        × (4 ≤ length (now (octets .entry)) → (r .states ≡ stateCountOf (now (octets .entry)))
-        × (r .transitions ≡ transitionCountOf (now (octets .entry))) × (now (at .exit) ≡ 32)) ⌝ }
+    ensures { λ r. ⌜ HeaderRead (now (octets .entry)) (now (at .exit)) r ⌝ }
 {
     if octets.len() < 4 {
         return Heading {
@@ -80,14 +89,16 @@ fn marks_of(fields: Four) -> u8
     requires { ⌜ (fields .first < 2) × (fields .second < 2) × (fields .third < 2) ⌝ }
     ensures { λ r. ⌜ r ≡ 4 * fields .first + 2 * fields .second + fields .third ⌝ }
 {
-    (4 * fields.first + 2 * fields.second + fields.third) as u8
+    let start = fields.first as u8;
+    let last = fields.second as u8;
+    let counted = fields.third as u8;
+    START * start + FINAL * last + counted
 }
 
 // Reads the marks values of n states, by number, 8 bits each; later places stay.
-pub fn states(octets: &[u8], at: &mut usize, n: usize, marks: &mut [u8; 512]) -> Answer
+fn states(octets: &[u8], at: &mut usize, n: usize, marks: &mut [u8; 512]) -> Answer
     requires { ⌜ (n ≤ 512) × (n ≤ length (now marks)) × (4 + n ≤ length (now octets)) × (now at ≡ 32) ⌝ }
-    ensures { λ r. ⌜ (outcome r (statesOf n (now (marks .exit))) ≡ statesIn (now (octets .entry)) n)
-        × Later n (now (marks .entry)) (now (marks .exit)) × (r ≡ Answer.Accepted → now (at .exit) ≡ 32 + 8 * n) ⌝ }
+    ensures { λ r. ⌜ StatesRead (now (octets .entry)) n (now (marks .entry)) (now (marks .exit)) (now (at .exit)) r ⌝ }
 {
     let mut i = 0;
     while i < n {
@@ -115,8 +126,8 @@ fn transition(octets: &[u8], at: &mut usize) -> Transition
     }
 }
 
-// Reads m transitions of a plan with n states, by number; later places stay.
-pub fn transitions(
+// Reads m transitions of a plan with n states, by number, 40 bits each; later places stay.
+fn transitions(
     octets: &[u8],
     at: &mut usize,
     n: usize,
@@ -128,11 +139,10 @@ pub fn transitions(
 ) -> Answer
     requires { ⌜ (n ≤ 512) × (m ≤ 2048) × (4 + n + 5 * m ≤ length (now octets)) × (now at ≡ 32 + 8 * n) ⌝ }
     requires { ⌜ (m ≤ length (now from)) × (m ≤ length (now to)) × (m ≤ length (now low)) × (m ≤ length (now high)) ⌝ }
-    ensures { λ r. ⌜ (outcome r (transitionsOf m (now (from .exit)) (now (to .exit)) (now (low .exit)) (now (high .exit)))
-        ≡ transitionsIn (now (octets .entry)) n m)
-        × Later m (now (from .entry)) (now (from .exit)) × Later m (now (to .entry)) (now (to .exit))
-        × Later m (now (low .entry)) (now (low .exit)) × Later m (now (high .entry)) (now (high .exit))
-        × (r ≡ Answer.Accepted → now (at .exit) ≡ 32 + 8 * n + 40 * m) ⌝ }
+    ensures { λ r. ⌜ TransitionsRead (now (octets .entry)) n m
+        (fields (now (from .entry)) (now (to .entry)) (now (low .entry)) (now (high .entry)))
+        (fields (now (from .exit)) (now (to .exit)) (now (low .exit)) (now (high .exit)))
+        (now (at .exit)) r ⌝ }
 {
     let mut i = 0;
     while i < m {
@@ -148,4 +158,51 @@ pub fn transitions(
         i += 1;
     }
     Answer::Accepted
+}
+
+// Reads an image into arrays; places past the counts stay.
+pub fn fill(
+    octets: &[u8],
+    marks: &mut [u8; 512],
+    from: &mut [u16; 2048],
+    to: &mut [u16; 2048],
+    low: &mut [u16; 2048],
+    high: &mut [u16; 2048],
+) -> Filled
+    requires { ⌜ (512 ≤ length (now marks)) × (2048 ≤ length (now from)) × (2048 ≤ length (now to))
+        × (2048 ≤ length (now low)) × (2048 ≤ length (now high)) ⌝ }
+    ensures { λ r. ⌜ Fills (now (octets .entry)) (now (marks .entry)) (now (marks .exit))
+        (fields (now (from .entry)) (now (to .entry)) (now (low .entry)) (now (high .entry)))
+        (fields (now (from .exit)) (now (to .exit)) (now (low .exit)) (now (high .exit))) r ⌝ }
+{
+    let mut position = 0;
+    let at = &mut position;
+    let heading = header(octets, at);
+    let head = heading.answer;
+    if let Answer::Refused(_) = head {
+        return Filled {
+            answer: head,
+            states: 0,
+            transitions: 0,
+            taken: position,
+        };
+    }
+    let n = heading.states;
+    let m = heading.transitions;
+    let marked = states(octets, at, n, marks);
+    if let Answer::Refused(_) = marked {
+        return Filled {
+            answer: marked,
+            states: n,
+            transitions: m,
+            taken: position,
+        };
+    }
+    let listed = transitions(octets, at, n, m, from, to, low, high);
+    Filled {
+        answer: listed,
+        states: n,
+        transitions: m,
+        taken: position,
+    }
 }

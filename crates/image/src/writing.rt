@@ -8,6 +8,8 @@ ghost use Rattle.rules.specs.Image.{headerFields, stateFields, transitionFields
 ghost use Rattle.rules.specs.Limits.{all, transitionOk};
 ghost use mathlib.Core.Bool.{true};
 ghost use Rattle.arrays.specs.Tables.{statesOf, transitionOf, transitionsOf};
+use arrays::FINAL;
+use arrays::START;
 use arrays::limits;
 use field::Four;
 
@@ -31,8 +33,8 @@ fn state(buffer: &mut [u8], at: usize, value: u8)
     ensures { λ r. ⌜ now (buffer .exit) ≡ putAll (now (buffer .entry)) at (stateFields (marked value)) ⌝ }
 {
     let fields = Four {
-        first: (value / 4 % 2) as usize,
-        second: (value / 2 % 2) as usize,
+        first: (value / START % 2) as usize,
+        second: (value / FINAL % 2) as usize,
         third: (value % 2) as usize,
         fourth: 0,
     };
@@ -40,13 +42,13 @@ fn state(buffer: &mut [u8], at: usize, value: u8)
 }
 
 // Puts the fields of the transition at place i of the arrays at a bit position.
-fn transition(
+fn transition<'a>(
     buffer: &mut [u8],
     at: usize,
-    from: &[u16; 2048],
-    to: &[u16; 2048],
-    low: &[u16; 2048],
-    high: &[u16; 2048],
+    from: &'a [u16; 2048],
+    to: &'a [u16; 2048],
+    low: &'a [u16; 2048],
+    high: &'a [u16; 2048],
     i: usize,
 )
     requires { ⌜ Spans (now buffer) at 40 × (at % 8 ≡ 0) × (i < 2048) ⌝ }
@@ -76,14 +78,14 @@ pub fn states(buffer: &mut [u8], marks: &[u8; 512], n: usize)
 }
 
 // Puts the fields of the first m transitions of a plan with n states, by number.
-pub fn transitions(
+pub fn transitions<'a>(
     buffer: &mut [u8],
     n: usize,
     m: usize,
-    from: &[u16; 2048],
-    to: &[u16; 2048],
-    low: &[u16; 2048],
-    high: &[u16; 2048],
+    from: &'a [u16; 2048],
+    to: &'a [u16; 2048],
+    low: &'a [u16; 2048],
+    high: &'a [u16; 2048],
 )
     requires { ⌜ (n ≤ 512) × (m ≤ 2048) × (4 + n + 5 * m ≤ length (now buffer)) ⌝ }
     requires { ⌜ all (transitionOk n) (transitionsOf m (now from) (now to) (now low) (now high)) ≡ true ⌝ }

@@ -10,14 +10,16 @@ use lib.Seq.{paste, length-paste, drop-paste, getD-set-same, getD-set-other, get
 use Rattle.graph.specs.Graph.{Graph, State, Transition, states, marked as state}
 use Rattle.rules.specs.declared.Answer.the-variants.{Accepted, Refused}
 use Rattle.rules.specs.declared.Refusal.{Refusal}
-use Rattle.rules.specs.Refusal.{number, Result, accepted, refused}
+use Rattle.rules.specs.Refusal.{Result, accepted, refused}
 use Rattle.rules.specs.Rules.{freshGraph, withMark, withTransition, without}
 use Rattle.plan.specs.declared.Plan.{Plan}
-use Rattle.arrays.specs.Tables.{tabulate, stateOf, statesOf, transitionOf, transition, Later}
+use Rattle.rules.specs.Image.{tabulate}
+use Rattle.arrays.specs.Tables.{stateOf, statesOf, transitionOf, transition, Later}
 use Rattle.plan.specs.View.{view, laid, blankPlan, noPlan}
 use Rattle.plan.specs.Promise.{Edit}
 use Rattle.plan.proofs.Values.{Sized, states-view, count-view}
-use Rattle.arrays.proofs.Lists.{later-none, later-set, over-front, tabulate-of, tabulate-set, tabulate-more, tabulate-without, same-transition, transition-other, transition-here}
+use Rattle.rules.proofs.Tabulated.{tabulate-of}
+use Rattle.arrays.proofs.Lists.{later-none, later-set, over-front, tabulate-set, tabulate-more, tabulate-without, same-transition, transition-other, transition-here}
 
 -- ---- promises kept
 
@@ -44,7 +46,7 @@ past-laid p q h =
       high = over-front (q .transitions) t (λ (x : Transition). x .high) (p .high) (q .high) (λ j. refl) (h .high) i;
     }
 
-pub refusal : (p : Plan) (o : Result Graph) (r : Refusal) → o ≡ refused (number r) → Edit p o (record { answer = Refused r; plan = p })
+pub refusal : (p : Plan) (o : Result Graph) (r : Refusal) → o ≡ refused r → Edit p o (record { answer = Refused r; plan = p })
 refusal p o r e = record { answer = rw e; plan = rw e; whole = rw e }
 
 pub acceptance : (p q : Plan) (o : Result Graph) (g : Graph) → o ≡ accepted g → view q ≡ g → Past p q → Edit p o (record { answer = Accepted; plan = q })

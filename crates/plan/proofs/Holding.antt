@@ -1,33 +1,27 @@
--- What an image holds. A fresh plan is within the limits, so read answers as the image's own grounds do (`held`); the plan that
--- was read is the image's (`held-plan`), and within the limits (`held-within`). Assumes nothing.
+-- What an image holds: the plan that was read is the image's (`held-plan`), and within the limits (`held-within`). The plan value that it is read into
+-- is the one that fresh makes of one state (`blank-fresh`). Assumes nothing.
 use mathlib.Core.Bool.{true}
 use mathlib.Core.List.{List}
-use mathlib.Core.Path.{_≡_, refl, sym, ap, subst, _∙_}
+use mathlib.Core.Path.{_≡_, refl, sym, ap, _∙_}
 use Prim.Native.Nat.{ℕ}
+use native.Mathlib.Omega.{arith}
 use Rattle.graph.specs.Graph.{Graph}
 use Rattle.rules.specs.declared.Answer.the-variants.{Accepted}
 use Rattle.rules.specs.Image.{readImage}
 use Rattle.rules.specs.Limits.{within}
-use Rattle.rules.specs.Refusal.{Result, accepted, answerOf, said}
-use Rattle.rules.specs.Rules.{freshGraph, freshRule, readRule, next}
+use Rattle.rules.specs.Refusal.{accepted, said}
+use Rattle.rules.specs.Rules.{freshGraph, freshRule, next}
 use Rattle.rules.proofs.Basic.{fresh-done}
-use Rattle.rules.proofs.Kept.{fresh-within}
 use Rattle.rules.proofs.ReadWrite.{read-within}
 use Rattle.rules.proofs.Results.{accepted-as}
 use Rattle.plan.specs.declared.Edited.{Edited}
-use Rattle.plan.specs.declared.Plan.{Plan}
-use Rattle.plan.specs.Promise.{Edit, Held, nextValue}
-use Rattle.plan.specs.View.{view, noPlan}
+use Rattle.plan.specs.Promise.{Held, nextValue}
+use Rattle.plan.specs.View.{view, blankPlan, noPlan}
+use Rattle.plan.proofs.Edits.{acceptance, view-blank, past-blank}
 
-read-as : (g : Graph) (image : List ℕ) → within g ≡ true → readRule g image ≡ readImage image
-unfolding readRule
-read-as g image w = rw w
-
-pub held : (image : List ℕ) (e f : Edited) → Edit noPlan (freshRule 1) e → Edit (e .plan) (readRule (view (e .plan)) image) f → Held image f
-held image e f x y =
-    let v : view (e .plan) ≡ freshGraph 1 = x .plan ∙ ap (next (view noPlan)) (fresh-done 1 refl) in
-    let r : readRule (view (e .plan)) image ≡ readImage image = read-as (view (e .plan)) image (ap within v ∙ fresh-within 1 refl) in
-    subst (λ (p : Plan). Edit p (readImage image) f) (x .whole) (subst (λ (o : Result Graph). Edit (e .plan) o f) r y)
+pub blank-fresh : blankPlan 1 ≡ nextValue noPlan (freshRule 1)
+blank-fresh =
+    acceptance noPlan (blankPlan 1) (freshRule 1) (freshGraph 1) (fresh-done 1 refl) (view-blank 1 (omega arith)) (past-blank 1 (omega arith)) .whole
 
 -- the plan of an image that is accepted
 pub held-plan : (image : List ℕ) (f : Edited) → Held image f → (g : Graph) → readImage image ≡ accepted g → view (f .plan) ≡ g

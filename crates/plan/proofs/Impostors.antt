@@ -2,7 +2,7 @@
 -- plan and the octets of "Plans with known figures".
 -- Assumes nothing.
 use mathlib.Core.List.{List, [], _∷_, _++_}
-use mathlib.Core.Path.{_≡_, sym, ap, _∙_}
+use mathlib.Core.Path.{_≡_, refl, sym, ap, _∙_}
 use Prim.Native.Nat.{ℕ}
 use native.Mathlib.Omega.{arith}
 use lib.ListN.{getD, replicate}
@@ -11,24 +11,25 @@ use Rattle.graph.specs.Known.{plan, P1}
 use Rattle.rules.specs.declared.Answer.the-variants.{Accepted, Refused}
 use Rattle.rules.specs.declared.Refusal.{Refusal}
 use Rattle.rules.specs.declared.Written.{Written}
-use Rattle.rules.specs.Calls.{mark, run}
+use Rattle.rules.specs.Calls.{mark, read, step, run}
 use Rattle.rules.specs.Image.{image}
 use Rattle.rules.specs.Limits.{within, all}
-use Rattle.rules.specs.Refusal.{accepted, number, answerOf, said}
-use Rattle.rules.specs.Rules.{freshGraph, markRule, readRule, writeRule, next}
+use Rattle.rules.specs.Quotations.{Write}
+use Rattle.rules.specs.Refusal.{accepted, answerOf, said}
+use Rattle.rules.specs.Rules.{freshGraph, writeRule, next}
 use Rattle.rules.proofs.Results.{never}
-use Rattle.rules.proofs.Basic.{octets, image-of-plan}
+use Rattle.rules.proofs.Basic.{octets, image-of-plan, read-given}
 use Rattle.rules.proofs.Vectors.{plan-in-octets}
 use Rattle.plan.specs.declared.Edited.{Edited}
 use Rattle.plan.specs.declared.Plan.{Plan}
-use Rattle.plan.specs.Promise.{Edit, Write, Obeyed}
+use Rattle.plan.specs.Promise.{Edit, Obeyed}
 use Rattle.plan.specs.View.{view}
 use Rattle.plan.proofs.Promises.{obeyed-run}
 
 -- "one that obeys the first edit and merely acknowledges the rest": it marks state 0 with 4, says that it marked it with 2, and holds 4
 pub acknowledges-the-rest : (p q : Plan) → view p ≡ freshGraph 1 → view q ≡ plan (4 ∷ []) []
     → Obeyed p (mark 0 4 ∷ mark 0 2 ∷ []) (Accepted ∷ Accepted ∷ []) q → ⊥
-unfolding run markRule within all
+unfolding run within all
 acknowledges-the-rest p q ep eq o =
     let e : plan (4 ∷ []) [] ≡ plan (2 ∷ []) [] =
     sym eq ∙ obeyed-run o .1 ∙ ap (λ (g : Graph). run g (mark 0 4 ∷ mark 0 2 ∷ []) .last) ep in
@@ -36,12 +37,12 @@ acknowledges-the-rest p q ep eq o =
     omega arith
 
 -- what read gives of the known octets, over a plan of one state
-known-read : (p : Plan) → view p ≡ freshGraph 1 → readRule (view p) octets ≡ accepted (P1 .plan)
-unfolding readRule within all
-known-read p e = ap (λ (g : Graph). readRule g octets) e ∙ plan-in-octets
+known-read : (p : Plan) → view p ≡ freshGraph 1 → step (view p) (read octets) ≡ accepted (P1 .plan)
+unfolding within all
+known-read p e = ap (λ (g : Graph). step g (read octets)) e ∙ read-given (freshGraph 1) octets refl ∙ plan-in-octets
 
 -- "one that leaves the plan alone": it says that it read the octets, and holds the plan of one state
-pub leaves-the-plan : (p : Plan) (e : Edited) → view p ≡ freshGraph 1 → view (e .plan) ≡ freshGraph 1 → Edit p (readRule (view p) octets) e → ⊥
+pub leaves-the-plan : (p : Plan) (e : Edited) → view p ≡ freshGraph 1 → view (e .plan) ≡ freshGraph 1 → Edit p (step (view p) (read octets)) e → ⊥
 leaves-the-plan p e ep ee x =
     let s : freshGraph 1 ≡ P1 .plan = sym ee ∙ x .plan ∙ ap (next (view p)) (known-read p ep) in
     let n : _≡_ {A = ℕ} 0 4 = ap (λ (g : Graph). (state g 0) .marks) s in
@@ -64,5 +65,5 @@ touches-a-later-octet w x =
     omega arith
 
 -- "one that turns all images away": it refuses the known octets
-pub turns-images-away : (p : Plan) (e : Edited) (r : Refusal) → view p ≡ freshGraph 1 → e .answer ≡ Refused r → Edit p (readRule (view p) octets) e → ⊥
-turns-images-away p e r ep ea x = never tt (number r) (ap said (sym ea) ∙ x .answer ∙ ap answerOf (known-read p ep))
+pub turns-images-away : (p : Plan) (e : Edited) (r : Refusal) → view p ≡ freshGraph 1 → e .answer ≡ Refused r → Edit p (step (view p) (read octets)) e → ⊥
+turns-images-away p e r ep ea x = never tt r (ap said (sym ea) ∙ x .answer ∙ ap answerOf (known-read p ep))

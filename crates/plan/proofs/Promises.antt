@@ -18,26 +18,29 @@ use Rattle.rules.specs.declared.Answer.{Answer}
 use Rattle.rules.specs.declared.Answer.the-variants.{Accepted, Refused}
 use Rattle.rules.specs.declared.Written.{Written}
 use Rattle.rules.specs.declared.Written.the-variants.{Length, Refused as NotWritten}
-use Rattle.rules.specs.declared.Refusal.the-variants.{PlanLimits, BufferLength}
-use Rattle.rules.specs.Calls.{Call, mark, join, unjoin, read, step, run, runFresh}
+use Rattle.rules.specs.declared.Refusal.{Refusal}
+use Rattle.rules.specs.declared.Refusal.the-variants.{PlanLimits}
+use Rattle.rules.specs.Calls.{Call, mark, join, unjoin, read, rowsOf, effectOf, step, run, runFresh}
 use Rattle.rules.specs.Image.{image, imageLength, readImage}
 use Rattle.rules.specs.Limits.{within, stateCountOk}
-use Rattle.rules.specs.Refusal.{Result, accepted, refused, _>>_, refuseIf, number, answerOf, said, wrote}
-use Rattle.rules.specs.Rules.{givenPlan, freshGraph, freshRule, markRule, joinRule, unjoinRule, readRule, writeRule, written, next}
-use Rattle.rules.proofs.Basic.{fresh-done}
-use Rattle.rules.proofs.Results.{never, then-accepted, holds, accepted-as}
+use Rattle.rules.specs.Quotations.{Write}
+use Rattle.rules.specs.Refusal.{Result, accepted, refused, answerOf, said, wrote}
+use Rattle.rules.specs.Rules.{freshGraph, freshRule, writeRows, writeRule, written, next}
+use Rattle.rules.proofs.Basic.{fresh-done, read-given}
+use Rattle.rules.proofs.Results.{never, not-false, accepted-as}
+use Rattle.rules.proofs.Tables.{accepted-only}
 use Rattle.rules.proofs.ReadWrite.{length-image, read-image, image-read, read-within}
 use Rattle.arrays.specs.Tables.{over}
 use Rattle.plan.specs.declared.Edited.{Edited}
 use Rattle.plan.specs.declared.Plan.{Plan}
-use Rattle.plan.specs.Promise.{Edit, Write, nextValue, Obeyed, none, more}
+use Rattle.plan.specs.Promise.{Edit, nextValue, Obeyed, none, more}
 use Rattle.plan.specs.View.{view, laid, noPlan}
 use Rattle.plan.proofs.Values.{within-view}
 
 -- ---- one call
 
 -- "Any refused event: the plan stays": the very value that was passed in
-pub refused-keeps : (p : Plan) (o : Result Graph) (r : Edited) (k : ℕ) → Edit p o r → o ≡ refused k → r .plan ≡ p
+pub refused-keeps : (p : Plan) (o : Result Graph) (r : Edited) (k : Refusal) → Edit p o r → o ≡ refused k → r .plan ≡ p
 refused-keeps p o r k x e = x .whole ∙ ap (nextValue p) e
 
 -- two that keep the promise leave the same in every place, those past the counts too
@@ -77,7 +80,7 @@ obeyed-run (more {p} {q} {call} {calls} {answers} e x rest) =
 -- an answer that says what it should is the one that it should be
 accepted-answer : (a : Answer) → said a ≡ accepted tt → a ≡ Accepted
 accepted-answer Accepted e = refl
-accepted-answer (Refused r) e = absurd (never tt (number r) e)
+accepted-answer (Refused r) e = absurd (never tt r e)
 
 -- "They start from the plan of a fresh with any n from 1 to 512": fresh is accepted, and the list is the run from its plan
 pub fresh-run : (n : ℕ) {q : Plan} {calls : List Call} {answers : List Answer} (e : Edited) → stateCountOk n ≡ true → Edit noPlan (freshRule n) e
@@ -96,40 +99,37 @@ fresh-run n {q} {calls} {answers} e h x o =
 
 length-answer : (w : Written) (n : ℕ) → wrote w ≡ accepted n → w ≡ Length n
 length-answer (Length m) n e = let s : m ≡ n = cc in rw s
-length-answer (NotWritten r) n e = absurd (never n (number r) e)
+length-answer (NotWritten r) n e = absurd (never n r e)
 
 -- what an accepted write says of the plan and of the length
 pub accepted-write : (g : Graph) (b : List ℕ) (n : ℕ) → writeRule g b ≡ accepted n → (within g ≡ true) × (imageLength (states g) (count g) ≡ n)
 unfolding writeRule
 accepted-write g b n e =
-    let k : ℕ = imageLength (states g) (count g) in
-    let p = then-accepted (givenPlan g) (refuseIf (ltb (length b) k) BufferLength >> accepted k) n e in
-    let q = then-accepted (refuseIf (ltb (length b) k) BufferLength) (accepted k) n (p .1) in
-    (holds (within g) PlanLimits (p .0), cc)
+    let k = accepted-only (writeRows g b) (imageLength (states g) (count g)) n e in
+    (not-false (within g) (k .0 .0), k .1)
 
 -- every plan written reads back as that plan, over any old plan that is within the limits
 pub write-then-read : (p old : Plan) (before after : List ℕ) (n : ℕ) (e : Edited) → within (view old) ≡ true
     → Write (image (view p)) (writeRule (view p) before) before after (Length n)
-    → Edit old (readRule (view old) (take n after)) e → (e .answer ≡ Accepted) × (view (e .plan) ≡ view p)
-unfolding readRule
+    → Edit old (step (view old) (read (take n after))) e → (e .answer ≡ Accepted) × (view (e .plan) ≡ view p)
 write-then-read p old before after n e h w x =
     let g : Graph = view p in
     let a = accepted-write g before n (sym (w .answer)) in
     let b : after ≡ image g ++ drop n before = w .buffer ∙ ap (written (image g) before) (sym (w .answer)) in
     let o : take n after ≡ image g = ap (λ (l : List ℕ). take n l) b ∙ take-at (image g) (drop n before) n (length-image g ∙ a .1) in
-    let r : readRule (view old) (take n after) ≡ accepted g = rw (h, o) (read-image g (a .0)) in
+    let r : step (view old) (read (take n after)) ≡ accepted g = read-given (view old) (take n after) h ∙ ap readImage o ∙ read-image g (a .0) in
     (accepted-answer (e .answer) (x .answer ∙ ap answerOf r), x .plan ∙ ap (next (view old)) r)
 
--- what an accepted read says: the octets hold the new plan
-pub accepted-read : (old : Plan) (octets : List ℕ) (e : Edited) → Edit old (readRule (view old) octets) e → e .answer ≡ Accepted
+-- what an accepted read says: the old plan is within the limits, and the octets hold the new one
+pub accepted-read : (old : Plan) (octets : List ℕ) (e : Edited) → Edit old (step (view old) (read octets)) e → e .answer ≡ Accepted
     → readImage octets ≡ accepted (view (e .plan))
-unfolding readRule
 accepted-read old octets e x a =
-    let m = accepted-as (readRule (view old) octets) (ap said (sym a) ∙ x .answer) in
-    then-accepted (givenPlan (view old)) (readImage octets) (m .0) (m .1) .1 ∙ ap accepted (sym (x .plan ∙ ap (next (view old)) (m .1)))
+    let m = accepted-as (step (view old) (read octets)) (ap said (sym a) ∙ x .answer) in
+    let w : within (view old) ≡ true = not-false (within (view old)) (accepted-only (rowsOf (view old) (read octets)) (effectOf (view old) (read octets)) (m .0) (m .1) .0 .0) in
+    sym (read-given (view old) octets w) ∙ m .1 ∙ ap accepted (sym (x .plan ∙ ap (next (view old)) (m .1)))
 
 -- every image read writes back as those octets, into any buffer that has room
-pub read-then-write : (old : Plan) (octets : List ℕ) (e : Edited) (before after : List ℕ) (w : Written) → Octets octets → Edit old (readRule (view old) octets) e
+pub read-then-write : (old : Plan) (octets : List ℕ) (e : Edited) (before after : List ℕ) (w : Written) → Octets octets → Edit old (step (view old) (read octets)) e
     → e .answer ≡ Accepted → Write (image (view (e .plan))) (writeRule (view (e .plan)) before) before after w → length octets ≤ length before → (w ≡ Length (length octets)) × (after ≡ octets ++ drop (length octets) before)
 unfolding writeRule
 read-then-write old octets e before after w ho x a y room =
@@ -149,13 +149,12 @@ read-then-write old octets e before after w ho x a y room =
 no-plan : within (view noPlan) ≡ false
 no-plan = within-view noPlan
 
-pub no-plan-refused : (call : Call) → step (view noPlan) call ≡ refused 0
-unfolding markRule joinRule unjoinRule readRule
+pub no-plan-refused : (call : Call) → step (view noPlan) call ≡ refused PlanLimits
 no-plan-refused (mark state value) = rw no-plan
 no-plan-refused (join t) = rw no-plan
 no-plan-refused (unjoin number) = rw no-plan
 no-plan-refused (read octets) = rw no-plan
 
-pub no-plan-not-written : (buffer : List ℕ) → writeRule (view noPlan) buffer ≡ refused 0
+pub no-plan-not-written : (buffer : List ℕ) → writeRule (view noPlan) buffer ≡ refused PlanLimits
 unfolding writeRule
 no-plan-not-written buffer = rw no-plan

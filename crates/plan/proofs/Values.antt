@@ -18,7 +18,8 @@ use Rattle.plan.specs.declared.Plan.{Plan}
 use Rattle.arrays.specs.Tables.{stateOf, statesOf, transitionOf, transitionsOf, over}
 use Rattle.plan.specs.Promise.{nextValue}
 use Rattle.plan.specs.View.{view, laid}
-use Rattle.arrays.proofs.Lists.{length-tabulate, tabulate-of, same-transition}
+use Rattle.rules.proofs.Tabulated.{length-tabulate, tabulate-of}
+use Rattle.arrays.proofs.Lists.{same-transition}
 
 -- a plan value's arrays have their lengths
 pub record Sized (p : Plan) : Type 0 where

@@ -8,9 +8,8 @@ use Rattle.rules.specs.declared.Answer.{Answer}
 use Rattle.rules.specs.declared.Refusal.{Refusal}
 use Rattle.rules.specs.Calls.{Call, step}
 use Rattle.rules.specs.Image.{readImage}
-use Rattle.rules.specs.declared.Written.{Written}
-use Rattle.rules.specs.Refusal.{Result, accepted, refused, answerOf, said, wrote}
-use Rattle.rules.specs.Rules.{freshRule, next, written}
+use Rattle.rules.specs.Refusal.{Result, accepted, refused, answerOf, said}
+use Rattle.rules.specs.Rules.{freshRule, next}
 use Rattle.plan.specs.declared.Plan.{Plan}
 use Rattle.plan.specs.declared.Edited.{Edited}
 use Rattle.plan.specs.View.{view, laid, noPlan}
@@ -37,11 +36,6 @@ pub record Edit (p : Plan) (o : Result Graph) (r : Edited) : Type 0 where
 -- an image read into the plan that fresh makes of one state, which no ground of a plan refuses: an edit of that plan by the image's grounds alone
 abbrev pub Held : List ℕ → Edited → Type 0
 Held image r = Edit (nextValue noPlan (freshRule 1)) (readImage image) r
-
--- a call that puts octets at the front of a lent buffer and for which the rules give o: its answer and the buffer afterwards are the rules'
-pub record Write (octets : List ℕ) (o : Result ℕ) (before after : List ℕ) (r : Written) : Type 0 where
-  pub answer : wrote r ≡ o
-  pub buffer : after ≡ written octets before o
 
 -- a list of calls, each handed the plan value that the one before it returned: what the promises say of its answers and of the last plan value
 pub data Obeyed : Plan → List Call → List Answer → Plan → Type 0 where

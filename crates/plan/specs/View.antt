@@ -4,12 +4,12 @@ use mathlib.Core.List.{map}
 use Prim.Native.Nat.{ℕ}
 use lib.ListN.{replicate}
 use Rattle.graph.specs.Graph.{Graph, State, Transition, states, count}
-use Rattle.arrays.specs.Tables.{statesOf, transitionsOf, over}
+use Rattle.arrays.specs.Tables.{graphOf, over}
 use Rattle.plan.specs.declared.Plan.{Plan}
 
 -- the plan that a plan value stands for, whatever the value is
 unfoldable pub view : Plan → Graph
-view p = record { stateList = statesOf (p .states) (p .marks); transitions = transitionsOf (p .transitions) (p .from) (p .to) (p .low) (p .high) }
+view p = graphOf (p .states) (p .transitions) (p .marks) (p .from) (p .to) (p .low) (p .high)
 
 -- the plan value for g with the arrays of p: the marks and fields of g from the front on, and every later place as in p
 unfoldable pub laid : Plan → Graph → Plan

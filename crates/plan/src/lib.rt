@@ -1,11 +1,13 @@
 // The call plan: its edits and its image. Every call takes the plan by value, refuses bad input by its row of the table, and returns a plan.
 ghost use mathlib.Core.Path.{_≡_};
 ghost use Rattle.rules.specs.Limits.{within as withinLimits};
-ghost use Rattle.rules.specs.Image.{image};
-ghost use Rattle.rules.specs.Rules.{freshRule, markRule, joinRule, unjoinRule, readRule, writeRule};
+ghost use Rattle.rules.specs.Image.{image, readImage};
+ghost use Rattle.rules.specs.Calls.{step, mark, join, unjoin, read};
+ghost use Rattle.rules.specs.Quotations.{Write};
+ghost use Rattle.rules.specs.Rules.{freshRule, writeRule};
 ghost use Rattle.arrays.specs.Tables.{transition};
 ghost use Rattle.plan.specs.View.{view, blankPlan, noPlan};
-ghost use Rattle.plan.specs.Promise.{Edit, Held, Write, refusing, accepting};
+ghost use Rattle.plan.specs.Promise.{Edit, Held, refusing, accepting};
 use arrays::limits;
 use arrays::places;
 use image::reading;
@@ -43,15 +45,10 @@ pub fn within(plan: Plan) -> bool
     if 2048 < m {
         return false;
     }
-    let marks = plan.marks;
-    if !limits::marks_within(&marks, n) {
+    if !limits::marks_within(&plan.marks, n) {
         return false;
     }
-    let from = plan.from;
-    let to = plan.to;
-    let low = plan.low;
-    let high = plan.high;
-    limits::transitions_within(&from, &to, &low, &high, n, m)
+    limits::transitions_within(&plan.from, &plan.to, &plan.low, &plan.high, n, m)
 }
 
 // A refusal, with the plan as it was.
@@ -101,7 +98,7 @@ pub fn fresh(n: usize) -> Edited
 
 // Makes a state's marks value the value given.
 pub fn mark(plan: Plan, state: usize, value: usize) -> Edited
-    ensures { λ r. ⌜ Edit plan (markRule (view plan) state value) r ⌝ }
+    ensures { λ r. ⌜ Edit plan (step (view plan) (mark state value)) r ⌝ }
 {
     let sound = within(plan);
     let n = plan.states;
@@ -121,7 +118,7 @@ pub fn mark(plan: Plan, state: usize, value: usize) -> Edited
 
 // Puts a transition at the end of the list.
 pub fn join(plan: Plan, from: usize, to: usize, low: usize, high: usize) -> Edited
-    ensures { λ r. ⌜ Edit plan (joinRule (view plan) (transition from to low high)) r ⌝ }
+    ensures { λ r. ⌜ Edit plan (step (view plan) (join (transition from to low high))) r ⌝ }
 {
     if !within(plan) {
         return refuse(plan, Refusal::PlanLimits);
@@ -146,7 +143,7 @@ pub fn join(plan: Plan, from: usize, to: usize, low: usize, high: usize) -> Edit
 
 // Takes a transition out of the list; later ones move down by one.
 pub fn unjoin(plan: Plan, number: usize) -> Edited
-    ensures { λ r. ⌜ Edit plan (unjoinRule (view plan) number) r ⌝ }
+    ensures { λ r. ⌜ Edit plan (step (view plan) (unjoin number)) r ⌝ }
 {
     if !within(plan) {
         return refuse(plan, Refusal::PlanLimits);
@@ -173,54 +170,47 @@ pub fn unjoin(plan: Plan, number: usize) -> Edited
     accept(kept)
 }
 
-// Reads an image. An accepted one replaces the whole plan.
-pub fn read(plan: Plan, octets: &[u8]) -> Edited
-    ensures { λ r. ⌜ Edit plan (readRule (view plan) (now (octets .entry))) r ⌝ }
+// Reads an image into the arrays of a plan. An accepted one replaces the whole plan.
+fn replace(plan: Plan, octets: &[u8]) -> Edited
+    ensures { λ r. ⌜ Edit plan (readImage (now (octets .entry))) r ⌝ }
 {
-    if !within(plan) {
-        return refuse(plan, Refusal::PlanLimits);
-    }
-    let mut position = 0;
-    let at = &mut position;
-    let heading = reading::header(octets, at);
-    let head = heading.answer;
-    if let Answer::Refused(r) = head {
-        return refuse(plan, r);
-    }
-    let n = heading.states;
-    let m = heading.transitions;
     let mut marks = plan.marks;
-    let marked = reading::states(octets, at, n, &mut marks);
-    if let Answer::Refused(r) = marked {
-        return refuse(plan, r);
-    }
     let mut from = plan.from;
     let mut to = plan.to;
     let mut low = plan.low;
     let mut high = plan.high;
-    let listed = reading::transitions(octets, at, n, m, &mut from, &mut to, &mut low, &mut high);
+    let filled = reading::fill(octets, &mut marks, &mut from, &mut to, &mut low, &mut high);
+    let answer = filled.answer;
     let image = Plan {
-        states: n,
-        transitions: m,
+        states: filled.states,
+        transitions: filled.transitions,
         marks,
         from,
         to,
         low,
         high,
     };
-    match listed {
+    match answer {
         Answer::Accepted => accept(image),
         Answer::Refused(r) => refuse(plan, r), // the old plan
     }
 }
 
-// The plan that an image holds, or the refusal of it: read into a fresh plan, which is within the limits.
+// Reads an image. An accepted one replaces the whole plan.
+pub fn read(plan: Plan, octets: &[u8]) -> Edited
+    ensures { λ r. ⌜ Edit plan (step (view plan) (read (now (octets .entry)))) r ⌝ }
+{
+    if !within(plan) {
+        return refuse(plan, Refusal::PlanLimits);
+    }
+    replace(plan, octets)
+}
+
+// The plan that an image holds, or the refusal of it: read into a fresh plan of one state, which is within the limits.
 pub fn held(octets: &[u8]) -> Edited
     ensures { λ r. ⌜ Held (now (octets .entry)) r ⌝ }
 {
-    let fresh = fresh(1);
-    let blank = fresh.plan;
-    read(blank, octets)
+    replace(blank(1), octets)
 }
 
 // Puts the image at the front of the buffer, and returns its length.
@@ -233,17 +223,12 @@ pub fn write(plan: Plan, buffer: &mut [u8]) -> Written
     }
     let n = plan.states;
     let m = plan.transitions;
-    let length = 4 + n + 5 * m;
+    let length = image::size(n, m);
     if buffer.len() < length {
         return Written::Refused(Refusal::BufferLength);
     }
-    let marks = plan.marks;
-    let from = plan.from;
-    let to = plan.to;
-    let low = plan.low;
-    let high = plan.high;
     writing::header(buffer, n, m);
-    writing::states(buffer, &marks, n);
-    writing::transitions(buffer, n, m, &from, &to, &low, &high);
+    writing::states(buffer, &plan.marks, n);
+    writing::transitions(buffer, n, m, &plan.from, &plan.to, &plan.low, &plan.high);
     Written::Length(length)
 }

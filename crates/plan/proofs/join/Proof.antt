@@ -2,18 +2,22 @@
 -- Assumes nothing.
 use Prim.Native.Nat.{_≤_, _<_}
 use mathlib.Core.Bool.{true, false}
+use mathlib.Core.List.{List, [], _∷_}
 use mathlib.Core.Path.{_≡_, sym, ap, _∙_}
 use native.Mathlib.Omega.{arith}
 use borrow.Author.Needs.{needs}
 use borrow.Author.Tests.{le-leb, lt-leb, not-true, not-false}
-use Rattle.graph.specs.Graph.{Transition}
-use Rattle.rules.specs.declared.Answer.{Answer}
+use lib.Dec.{leb}
+use Rattle.graph.specs.Graph.{Transition, count}
 use Rattle.rules.specs.declared.Refusal.the-variants.{PlanLimits, ListFull}
-use Rattle.rules.specs.Image.{checked}
+use Rattle.rules.specs.Calls.{step, join}
+use Rattle.rules.specs.Image.{transitionRows}
 use Rattle.rules.specs.Limits.{within}
-use Rattle.rules.specs.Refusal.{accepted, refused, number, outcome}
-use Rattle.rules.specs.Rules.{joinRule, withTransition}
-use Rattle.rules.proofs.ReadWrite.{limited, Bounded, bounded, ok-checked}
+use Rattle.rules.specs.Refusal.{refused, said}
+use Rattle.rules.specs.Rules.{withTransition}
+use Rattle.rules.specs.Table.{Row, first, NoneHolds}
+use Rattle.rules.proofs.ReadWrite.{limited, Bounded, bounded, rows-ok}
+use Rattle.rules.proofs.Tables.{accepted-only, after-none, after-refused}
 use Rattle.arrays.specs.Tables.{transition}
 use Rattle.plan.specs.declared.Plan.{Plan}
 use Rattle.plan.specs.View.{view}
@@ -28,6 +32,10 @@ use Rattle.plan.proofs.accept.Reads as accept-reads
 use Rattle.plan.proofs.refuse.Reads as refuse-reads
 use Rattle.plan.proofs.within.Reads as within-reads
 
+-- the row of a full list
+abbrev full : Plan → List Row
+full p = (ListFull, leb 2048 (count (view p))) ∷ []
+
 within-requires : tie.Need-within-requires
 within-requires c κs = search needs
 
@@ -35,12 +43,11 @@ refuse-requires : tie.Need-refuse-requires
 refuse-requires c κs = search needs
 
 returns : tie.Need-returns
-unfolding joinRule
 returns c =
     let p = c .before .before .before .args .plan in
     let a = c .before .before .before .args in
     let w : within (view p) ≡ false = sym (c .before .before .within .ensures) ∙ not-true _ (c .before .if1 .taken) in
-    rw (c .refuse .ensures) (refusal p (joinRule (view p) (transition (a .from) (a .to) (a .low) (a .high))) PlanLimits (rw w))
+    rw (c .refuse .ensures) (refusal p (step (view p) (join (transition (a .from) (a .to) (a .low) (a .high)))) PlanLimits (rw w))
 
 checked-requires : tie.Need-checked-requires
 checked-requires c κs = search needs
@@ -52,15 +59,14 @@ refuse-requires-2 : tie.Need-refuse-requires-2
 refuse-requires-2 c κs = search needs
 
 returns-2 : tie.Need-returns-2
-unfolding joinRule
 returns-2 c =
     let a = c .before .before .before .before .before .before .before .args in
     let p = a .plan in
     let t = transition (a .from) (a .to) (a .low) (a .high) in
     let r = c .before .before .grounds .given .0 .0 in
     let w : within (view p) ≡ true = sym (c .before .before .before .before .before .before .within .ensures) ∙ not-false _ (c .before .before .before .before .before .if1 .left) in
-    let k : checked (p .states) t ≡ refused (number r) = sym (c .before .before .before .before .checked .ensures) ∙ ap (λ (x : Answer). outcome x t) (c .before .before .grounds .given .1) in
-    rw (c .refuse2 .ensures) (refusal p (joinRule (view p) t) r (rw (w, states-view p, k)))
+    let k : first (transitionRows (p .states) t) ≡ refused r = sym (c .before .before .before .before .checked .ensures) ∙ ap said (c .before .before .grounds .given .1) in
+    rw (c .refuse2 .ensures) (refusal p (step (view p) (join t)) r (rw (w, states-view p) (after-refused (transitionRows (p .states) t) (full p) (withTransition (view p) t) r k)))
 
 enum-told : tie.Need-enum-told
 enum-told c = search needs
@@ -68,7 +74,7 @@ enum-told c = search needs
 -- what is known once the transition is accepted
 record Known (p : Plan) (t : Transition) : Type 0 where
   sound : within (view p) ≡ true
-  grounds : checked (p .states) t ≡ accepted t
+  grounds : NoneHolds (transitionRows (p .states) t)
   numbers : Bounded (p .states) t
   states : p .states ≤ 512
   count : p .transitions ≤ 2048
@@ -79,12 +85,12 @@ known c =
     let p = a .plan in
     let t = transition (a .from) (a .to) (a .low) (a .high) in
     let w : within (view p) ≡ true = sym (c .before .before .before .before .within .ensures) ∙ not-false _ (c .before .before .before .if1 .left) in
-    let k : checked (p .states) t ≡ accepted t = sym (c .before .before .checked .ensures) ∙ ap (λ (x : Answer). outcome x t) (c .enum-told .given .1) in
+    let k = accepted-only (transitionRows (p .states) t) tt tt (sym (c .before .before .checked .ensures) ∙ ap said (c .enum-told .given .1)) .0 in
     let l = limited (view p) w in
     record {
       sound = w;
       grounds = k;
-      numbers = bounded (p .states) t (ok-checked (p .states) t t k .1);
+      numbers = bounded (p .states) t (rows-ok (p .states) t k);
       states = omega (arith, l, states-view p);
       count = omega (arith, l, count-view p);
     }
@@ -93,13 +99,15 @@ refuse-requires-3 : tie.Need-refuse-requires-3
 refuse-requires-3 c κs = search needs
 
 returns-3 : tie.Need-returns-3
-unfolding joinRule
 returns-3 c =
     let a = c .before .before .before .before .before .before .before .args in
     let p = a .plan in
+    let t = transition (a .from) (a .to) (a .low) (a .high) in
     let k = known (c .before .before) in
     rw (c .refuse3 .ensures)
-    (refusal p (joinRule (view p) (transition (a .from) (a .to) (a .low) (a .high))) ListFull (rw (k .sound, states-view p, k .grounds, count-view p, le-leb 2048 (p .transitions) (c .before .if2 .taken))))
+    (refusal p (step (view p) (join (transition (a .from) (a .to) (a .low) (a .high)))) ListFull
+    (rw (k .sound, states-view p)
+    (after-none (transitionRows (p .states) t) (full p) (withTransition (view p) t) (k .grounds) ∙ rw (count-view p, le-leb 2048 (p .transitions) (c .before .if2 .taken)))))
 
 -- the arrays of a plan value have their lengths
 sized : (c : tie.Start) → Sized (c .args .plan)
@@ -148,7 +156,6 @@ accept-requires : tie.Need-accept-requires
 accept-requires c κs = search needs
 
 returns-4 : tie.Need-returns-4
-unfolding joinRule
 returns-4 c =
     let a = c .before .before .before .before .before .before .before .args in
     let p = a .plan in
@@ -157,8 +164,9 @@ returns-4 c =
     let z = sized (c .before .before .before .before .before .before .before) in
     let m : p .transitions < 2048 = c .before .if2 .left in
     rw (c .accept .ensures)
-    (acceptance p (joined p (a .from) (a .to) (a .low) (a .high)) (joinRule (view p) t) (withTransition (view p) t)
-    (rw (k .sound, states-view p, k .grounds, count-view p, lt-leb 2048 (p .transitions) m))
+    (acceptance p (joined p (a .from) (a .to) (a .low) (a .high)) (step (view p) (join t)) (withTransition (view p) t)
+    (rw (k .sound, states-view p)
+    (after-none (transitionRows (p .states) t) (full p) (withTransition (view p) t) (k .grounds) ∙ rw (count-view p, lt-leb 2048 (p .transitions) m)))
     (view-joined p z (a .from) (a .to) (a .low) (a .high) m)
     (past-joined p z (a .from) (a .to) (a .low) (a .high) (k .states) m))
 

@@ -8,7 +8,8 @@ use borrow.Author.Needs.{needs}
 use borrow.Author.Tests.{le-leb, lt-leb, not-true, not-false}
 use Rattle.rules.specs.declared.Refusal.the-variants.{PlanLimits, StateNumber, MarksValue}
 use Rattle.rules.specs.Limits.{within}
-use Rattle.rules.specs.Rules.{markRule, withMark}
+use Rattle.rules.specs.Calls.{step, mark}
+use Rattle.rules.specs.Rules.{withMark}
 use Rattle.rules.proofs.ReadWrite.{limited}
 use Rattle.plan.specs.View.{view}
 use Rattle.plan.proofs.Edits.{refusal, acceptance, marked, view-marked, past-marked}
@@ -28,34 +29,31 @@ refuse-requires : tie.Need-refuse-requires
 refuse-requires c κs = search needs
 
 returns : tie.Need-returns
-unfolding markRule
 returns c =
     let p = c .before .before .before .args .plan in
     let w : within (view p) ≡ false = sym (c .before .before .within .ensures) ∙ not-true _ (c .before .if1 .taken) in
-    rw (c .refuse .ensures) (refusal p (markRule (view p) (c .before .before .before .args .state) (c .before .before .before .args .value)) PlanLimits (rw w))
+    rw (c .refuse .ensures) (refusal p (step (view p) (mark (c .before .before .before .args .state) (c .before .before .before .args .value))) PlanLimits (rw w))
 
 refuse-requires-2 : tie.Need-refuse-requires-2
 refuse-requires-2 c κs = search needs
 
 returns-2 : tie.Need-returns-2
-unfolding markRule
 returns-2 c =
     let p = c .before .before .before .before .args .plan in
     let w : within (view p) ≡ true = sym (c .before .before .before .within .ensures) ∙ not-false _ (c .before .before .if1 .left) in
     rw (c .refuse2 .ensures)
-    (refusal p (markRule (view p) (c .before .before .before .before .args .state) (c .before .before .before .before .args .value)) StateNumber
+    (refusal p (step (view p) (mark (c .before .before .before .before .args .state) (c .before .before .before .before .args .value))) StateNumber
     (rw (w, states-view p, le-leb (p .states) (c .before .before .before .before .args .state) (c .before .if2 .taken))))
 
 refuse-requires-3 : tie.Need-refuse-requires-3
 refuse-requires-3 c κs = search needs
 
 returns-3 : tie.Need-returns-3
-unfolding markRule
 returns-3 c =
     let p = c .before .before .before .before .before .args .plan in
     let w : within (view p) ≡ true = sym (c .before .before .before .before .within .ensures) ∙ not-false _ (c .before .before .before .if1 .left) in
     rw (c .refuse3 .ensures)
-    (refusal p (markRule (view p) (c .before .before .before .before .before .args .state) (c .before .before .before .before .before .args .value)) MarksValue
+    (refusal p (step (view p) (mark (c .before .before .before .before .before .args .state) (c .before .before .before .before .before .args .value))) MarksValue
     (rw (w, states-view p, lt-leb (p .states) (c .before .before .before .before .before .args .state) (c .before .before .if2 .left), lt-leb (c .before .before .before .before .before .args .value) 7 (c .before .if3 .taken))))
 
 cast-marked : tie.Need-cast-marked
@@ -75,7 +73,6 @@ sized : (c : tie.Start) → Sized (c .args .plan)
 sized c = record { marks = search needs; from = search needs; to = search needs; low = search needs; high = search needs }
 
 returns-4 : tie.Need-returns-4
-unfolding markRule
 returns-4 c =
     let p = c .before .before .before .before .before .args .plan in
     let state = c .before .before .before .before .before .args .state in
@@ -85,7 +82,7 @@ returns-4 c =
     let l = limited (view p) w in
     let n : p .states ≤ 512 = omega (arith, l, states-view p) in
     rw (c .accept .ensures)
-    (acceptance p (marked p state value) (markRule (view p) state value) (withMark (view p) state value)
+    (acceptance p (marked p state value) (step (view p) (mark state value)) (withMark (view p) state value)
     (rw (w, states-view p, lt-leb (p .states) state (c .before .before .if2 .left), le-leb value 7 (c .before .if3 .left)))
     (view-marked p state value (omega (arith, z .marks)))
     (past-marked p z state value (c .before .before .if2 .left) n (omega (arith, l, count-view p))))

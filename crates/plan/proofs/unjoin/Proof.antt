@@ -8,7 +8,8 @@ use borrow.Author.Needs.{needs}
 use borrow.Author.Tests.{le-leb, lt-leb, not-true, not-false}
 use Rattle.rules.specs.declared.Refusal.the-variants.{PlanLimits, TransitionNumber}
 use Rattle.rules.specs.Limits.{within}
-use Rattle.rules.specs.Rules.{unjoinRule, without}
+use Rattle.rules.specs.Calls.{step, unjoin}
+use Rattle.rules.specs.Rules.{without}
 use Rattle.rules.proofs.ReadWrite.{limited}
 use Rattle.plan.specs.View.{view}
 use Rattle.plan.proofs.Edits.{Past, refusal, acceptance, unjoined, view-unjoined, past-unjoined}
@@ -33,23 +34,21 @@ sized : (c : tie.Start) → Sized (c .args .plan)
 sized c = record { marks = search needs; from = search needs; to = search needs; low = search needs; high = search needs }
 
 returns : tie.Need-returns
-unfolding unjoinRule
 returns c =
     let p = c .before .before .before .args .plan in
     let w : within (view p) ≡ false = sym (c .before .before .within .ensures) ∙ not-true _ (c .before .if1 .taken) in
     rw (c .refuse .ensures)
-    (refusal p (unjoinRule (view p) (c .before .before .before .args .number)) PlanLimits (rw w))
+    (refusal p (step (view p) (unjoin (c .before .before .before .args .number))) PlanLimits (rw w))
 
 refuse-requires-2 : tie.Need-refuse-requires-2
 refuse-requires-2 c κs = search needs
 
 returns-2 : tie.Need-returns-2
-unfolding unjoinRule
 returns-2 c =
     let p = c .before .before .before .before .args .plan in
     let w : within (view p) ≡ true = sym (c .before .before .before .within .ensures) ∙ not-false _ (c .before .before .if1 .left) in
     rw (c .refuse2 .ensures)
-    (refusal p (unjoinRule (view p) (c .before .before .before .before .args .number)) TransitionNumber (rw (w, count-view p, le-leb (p .transitions) (c .before .before .before .before .args .number) (c .before .if2 .taken))))
+    (refusal p (step (view p) (unjoin (c .before .before .before .before .args .number))) TransitionNumber (rw (w, count-view p, le-leb (p .transitions) (c .before .before .before .before .args .number) (c .before .if2 .taken))))
 
 sub-t15 : tie.Need-sub-t15
 sub-t15 c = search needs
@@ -76,7 +75,6 @@ accept-requires : tie.Need-accept-requires
 accept-requires c κs = search needs
 
 returns-3 : tie.Need-returns-3
-unfolding unjoinRule
 returns-3 c =
     let p = c .before .before .before .before .before .before .before .before .before .before .before .before .before .args .plan in
     let k = c .before .before .before .before .before .before .before .before .before .before .before .before .before .args .number in
@@ -87,7 +85,7 @@ returns-3 c =
     let e : record { states = p .states; transitions = p .transitions - 1; marks = p .marks; from = c .before .before .before .before .without .result; to = c .before .before .before .without2 .result; low = c .before .before .without3 .result; high = c .before .without4 .result } ≡ unjoined p k =
     λ i. record { states = p .states; transitions = p .transitions - 1; marks = p .marks; from = c .before .before .before .before .without .ensures i; to = c .before .before .before .without2 .ensures i; low = c .before .before .without3 .ensures i; high = c .before .without4 .ensures i } in
     rw (c .accept .ensures)
-    (acceptance p _ (unjoinRule (view p) k) (without (view p) k)
+    (acceptance p _ (step (view p) (unjoin k)) (without (view p) k)
     (rw (w, count-view p, lt-leb (p .transitions) k (r .0)))
     (ap view e ∙ view-unjoined p z k (r .0) (r .1))
     (subst (Past p) (sym e) (past-unjoined p z k n (r .0) (r .1))))

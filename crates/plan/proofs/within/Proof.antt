@@ -1,13 +1,14 @@
--- `plan::within` meets its contract: each test is one of the limits, over the counts and the arrays.
--- Assumes nothing.
+-- `plan::within`: each test is one of the limits, over the counts and the arrays. Assumes nothing.
 use Prim.Native.Nat.{_≤_}
-use mathlib.Core.Path.{sym, _∙_}
+use mathlib.Core.Bool.{true}
+use mathlib.Core.Path.{_≡_, sym, _∙_}
 use native.Mathlib.Omega.{arith}
-use borrow.Author.Needs.{needs}
 use borrow.Author.Tests.{le-leb, lt-leb, leb-true, not-true, not-false}
 use lib.Dec.{leb}
+use Rattle.rules.specs.Limits.{stateCountOk}
 use Rattle.rules.proofs.Results.{and-true}
 use Rattle.plan.proofs.Values.{states-out, count-out, marks-out, transitions-left}
+use borrow.Author.Needs.{needs}
 use Rattle.plan.proofs.within.Statement.{statement}
 use Rattle.plan.proofs.within.Tie as tie
 use Rattle.plan.proofs.within.Reads as reads
@@ -20,36 +21,29 @@ state-count-ok-requires : tie.Need-state-count-ok-requires
 state-count-ok-requires c κs = search needs
 
 returns : tie.Need-returns
-returns c = states-out (c .before .before .args .plan) (sym (c .before .state-count-ok .ensures) ∙ not-true _ (c .if1 .taken))
+returns c = states-out (c .before .before .args .t1) (sym (c .before .state-count-ok .ensures) ∙ not-true _ (c .if1 .taken))
+
+-- past the first test the state count is within its limits
+some : (c : tie.Else1) → stateCountOk (c .before .before .args .t1 .states) ≡ true
+some c = sym (c .before .state-count-ok .ensures) ∙ not-false _ (c .if1 .left)
+
+few : (c : tie.Else1) → c .before .before .args .t1 .states ≤ 512
+few c = let n = c .before .before .args .t1 .states in leb-true n 512 (and-true (leb 1 n) (leb n 512) (some c) .1)
 
 returns-2 : tie.Need-returns-2
-returns-2 c =
-    let s = sym (c .before .before .state-count-ok .ensures) ∙ not-false _ (c .before .if1 .left) in
-    count-out (c .before .before .before .args .plan) s (lt-leb _ _ (c .if2 .taken))
-
--- the state count is at most 512
-few : (c : tie.Else1) → c .before .before .args .plan .states ≤ 512
-few c =
-    let n = c .before .before .args .plan .states in
-    let s = sym (c .before .state-count-ok .ensures) ∙ not-false _ (c .if1 .left) in
-    leb-true n 512 (and-true (leb 1 n) (leb n 512) s .1)
+returns-2 c = count-out (c .before .before .before .args .t1) (some (c .before)) (lt-leb _ _ (c .if2 .taken))
 
 marks-within-requires : tie.Need-marks-within-requires
 marks-within-requires c κs = few (c .before .before .before)
 
 returns-3 : tie.Need-returns-3
-returns-3 c =
-    let s = sym (c .before .before .before .before .before .before .state-count-ok .ensures) ∙ not-false _ (c .before .before .before .before .before .if1 .left) in
-    marks-out (c .before .before .before .before .before .before .before .args .plan) s (le-leb _ _ (c .before .before .before .before .if2 .left)) (sym (c .before .marks-within .ensures) ∙ not-true _ (c .if3 .taken))
+returns-3 c = marks-out (c .before .before .before .before .before .before .before .args .t1) (some (c .before .before .before .before .before)) (le-leb _ _ (c .before .before .before .before .if2 .left)) (sym (c .before .marks-within .ensures) ∙ not-true _ (c .if3 .taken))
 
 transitions-within-requires : tie.Need-transitions-within-requires
-transitions-within-requires c κs = (few (c .before .before .before .before .before .before .before .before .before .before .before .before .before), omega arith)
+transitions-within-requires c κs = (few (c .before .before .before .before .before .before .before .before .before .before), omega arith)
 
 returns-4 : tie.Need-returns-4
-returns-4 c =
-    let s = sym (c .before .before .before .before .before .before .before .before .before .before .before .before .before .before .before .state-count-ok .ensures) ∙ not-false _ (c .before .before .before .before .before .before .before .before .before .before .before .before .before .before .if1 .left) in
-    c .transitions-within .ensures
-    ∙ transitions-left (c .before .before .before .before .before .before .before .before .before .before .before .before .before .before .before .before .args .plan) s (le-leb _ _ (c .before .before .before .before .before .before .before .before .before .before .before .before .before .if2 .left)) (sym (c .before .before .before .before .before .before .before .before .before .before .marks-within .ensures) ∙ not-false _ (c .before .before .before .before .before .before .before .before .before .if3 .left))
+returns-4 c = c .transitions-within .ensures ∙ transitions-left (c .before .before .before .before .before .before .before .before .before .before .before .before .before .args .t1) (some (c .before .before .before .before .before .before .before .before .before .before .before)) (le-leb _ _ (c .before .before .before .before .before .before .before .before .before .before .if2 .left)) (sym (c .before .before .before .before .before .before .before .marks-within .ensures) ∙ not-false _ (c .before .before .before .before .before .before .if3 .left))
 
 pub within-spec : {M : Type 1} → statement M
 within-spec =

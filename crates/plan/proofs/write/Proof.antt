@@ -1,28 +1,28 @@
--- `plan::write` meets its contract: two grounds, in the rule's order, and then the fields of the header, the states and the transitions put one
--- after another, which are the image.
+-- `plan::write`: two rows, in the rule's order, and then the fields of the header, the states and the transitions put one after another, which are the image.
 -- Assumes nothing.
-use Prim.Native.Nat.{ℕ, _+_, _*_}
+use Prim.Native.Nat.{ℕ, _+_, _*_, _≤_}
 use mathlib.Core.Bool.{true, false}
 use mathlib.Core.List.{List}
 use mathlib.Core.Path.{_≡_, sym, ap, _∙_}
 use native.Mathlib.Omega.{arith}
-use borrow.Author.Needs.{needs}
 use borrow.Author.Tests.{lt-ltb, le-ltb, not-true, not-false}
 use lib.Dec.{ltb}
 use lib.ListN.{length}
 use Rattle.field.specs.Field.{putAll}
-use Rattle.graph.specs.Graph.{states}
 use Rattle.rules.specs.Limits.{all, within, transitionOk}
-use Rattle.rules.specs.Image.{headerFields, stateFields, transitionFields, fieldsOfEach}
+use Rattle.rules.specs.Image.{headerFields, stateFields, transitionFields, fieldsOfEach, imageLength}
+use Rattle.rules.specs.Refusal.{accepted}
 use Rattle.rules.specs.Rules.{writeRule}
-use Rattle.rules.proofs.ReadWrite.{limited}
+use Rattle.rules.proofs.ReadWrite.{Limited, limited}
 use Rattle.arrays.specs.Tables.{statesOf, transitionsOf}
 use Rattle.plan.specs.View.{view}
 use Rattle.plan.proofs.Values.{states-view, count-view, put-view}
+use borrow.Author.Needs.{needs}
 use Rattle.plan.proofs.write.Statement.{statement}
 use Rattle.plan.proofs.write.Tie as tie
 use Rattle.plan.proofs.write.Reads as reads
 use Rattle.plan.proofs.write.Lts as lts
+use Rattle.image.proofs.size.Reads as size-reads
 use Rattle.image.proofs.writing.header.Reads as header-reads
 use Rattle.image.proofs.writing.states.Reads as states-reads
 use Rattle.image.proofs.writing.transitions.Reads as transitions-reads
@@ -34,56 +34,44 @@ within-requires c κs = search needs
 returns : tie.Need-returns
 unfolding writeRule
 returns c =
-    let p = c .before .before .before .args .plan in
-    let w : within (view p) ≡ false = sym (c .before .within .ensures) ∙ not-true _ (c .if1 .taken) in
+    let w : within (view (c .before .before .before .args .t1)) ≡ false = sym (c .before .within .ensures) ∙ not-true _ (c .if1 .taken) in
     record { answer = rw w; buffer = rw w }
 
-add-length : tie.Need-add-length
-add-length c =
-    let p = c .before .before .before .args .plan in
-    let w : within (view p) ≡ true = sym (c .before .within .ensures) ∙ not-false _ (c .if1 .left) in
-    omega (arith, limited (view p) w, states-view p, count-view p)
+-- past the first test the plan is within the limits
+sound : (c : tie.Else1) → within (view (c .before .before .before .args .t1)) ≡ true
+sound c = sym (c .before .within .ensures) ∙ not-false _ (c .if1 .left)
 
-mul-length : tie.Need-mul-length
-mul-length c =
-    let p = c .before .before .before .args .plan in
-    let w : within (view p) ≡ true = sym (c .before .within .ensures) ∙ not-false _ (c .if1 .left) in
-    omega (arith, limited (view p) w, states-view p, count-view p)
+limits : (c : tie.Else1) → Limited (view (c .before .before .before .args .t1))
+limits c = limited (view (c .before .before .before .args .t1)) (sound c)
 
-add-length-2 : tie.Need-add-length-2
-add-length-2 c =
-    let p = c .before .before .before .args .plan in
-    let w : within (view p) ≡ true = sym (c .before .within .ensures) ∙ not-false _ (c .if1 .left) in
-    omega (arith, limited (view p) w, states-view p, count-view p)
+size-requires : tie.Need-size-requires
+size-requires c κs = let p = c .before .before .before .args .t1 in omega (arith, limits c, states-view p, count-view p)
 
 returns-2 : tie.Need-returns-2
 unfolding writeRule
 returns-2 c =
-    let p = c .before .before .before .before .args .plan in
-    let b = c .before .before .before .before .args .buffer .now in
-    let w : within (view p) ≡ true = sym (c .before .before .within .ensures) ∙ not-false _ (c .before .if1 .left) in
-    let l : ltb (length b) (4 + p .states + 5 * p .transitions) ≡ true = lt-ltb (length b) (4 + p .states + 5 * p .transitions) (c .if2 .taken) in
-    record { answer = rw (w, states-view p, count-view p, l); buffer = rw (w, states-view p, count-view p, l) }
+    let p = c .before .before .before .before .before .args .t1 in
+    let b = c .before .before .before .before .before .args .buffer .now in
+    let N = imageLength (p .states) (p .transitions) in
+    let l : ltb (length b) N ≡ true = lt-ltb (length b) N (omega (arith, c .if2 .taken, c .before .size .ensures)) in
+    record { answer = rw (sound (c .before .before), states-view p, count-view p, l); buffer = rw (sound (c .before .before), states-view p, count-view p, l) }
+
+-- past the second the buffer has the image's length
+room : (c : tie.Else2) → imageLength (c .before .before .before .before .before .args .t1 .states) (c .before .before .before .before .before .args .t1 .transitions) ≤ length (c .before .before .before .before .before .args .buffer .now)
+room c = omega (arith, c .if2 .left, c .before .size .ensures)
 
 header-requires : tie.Need-header-requires
-header-requires c κs =
-    let p = c .before .before .before .before .before .before .before .before .before .before .args .plan in
-    let w : within (view p) ≡ true = sym (c .before .before .before .before .before .before .before .before .within .ensures) ∙ not-false _ (c .before .before .before .before .before .before .before .if1 .left) in
-    omega (arith, limited (view p) w, states-view p, count-view p)
+header-requires c κs = let p = c .before .before .before .before .before .before .args .t1 in omega (arith, limits (c .before .before .before), states-view p, count-view p, room (c .before))
 
 states-requires : tie.Need-states-requires
-states-requires c κs =
-    let p = c .before .before .before .before .before .before .before .before .before .before .before .before .before .before .before .args .plan in
-    let w : within (view p) ≡ true = sym (c .before .before .before .before .before .before .before .before .before .before .before .before .before .within .ensures) ∙ not-false _ (c .before .before .before .before .before .before .before .before .before .before .before .before .if1 .left) in
-    omega (arith, limited (view p) w, states-view p, count-view p, c .before .before .before .before .header .kept .0)
+states-requires c κs = let p = c .before .before .before .before .before .before .before .before .before .before .before .before .args .t1 in omega (arith, limits (c .before .before .before .before .before .before .before .before .before), states-view p, count-view p, room (c .before .before .before .before .before .before .before), c .before .before .before .before .before .header .kept .0)
 
 transitions-requires : tie.Need-transitions-requires
 unfolding view
 transitions-requires c κs =
-    let p = c .before .before .before .before .before .before .before .before .before .before .before .before .before .before .before .before .before .before .before .before .before .before .before .args .plan in
-    let w : within (view p) ≡ true = sym (c .before .before .before .before .before .before .before .before .before .before .before .before .before .before .before .before .before .before .before .before .before .within .ensures) ∙ not-false _ (c .before .before .before .before .before .before .before .before .before .before .before .before .before .before .before .before .before .before .before .before .if1 .left) in
-    let l = limited (view p) w in (
-      (omega (arith, l, states-view p), omega (arith, l, count-view p), omega (arith, c .before .before .before .before .before .before .before .before .before .before .before .before .header .kept .0, c .before .before .before .before .before .before .before .states .kept .0)),
+    let p = c .before .before .before .before .before .before .before .before .before .before .before .before .before .before .before .before .before .before .before .before .before .args .t1 in
+    let l = limits (c .before .before .before .before .before .before .before .before .before .before .before .before .before .before .before .before .before .before) in (
+      (omega (arith, l, states-view p), omega (arith, l, count-view p), omega (arith, room (c .before .before .before .before .before .before .before .before .before .before .before .before .before .before .before .before), c .before .before .before .before .before .before .before .before .before .before .before .before .before .before .header .kept .0, c .before .before .before .before .before .before .before .before .states .kept .0)),
       ap (λ (k : ℕ). all (transitionOk k) (transitionsOf (p .transitions) (p .from) (p .to) (p .low) (p .high))) (sym (states-view p)) ∙ l .each-transition,
     )
 
@@ -93,19 +81,19 @@ same-length c = search needs
 returns-3 : tie.Need-returns-3
 unfolding writeRule
 returns-3 c =
-    let p = c .before .before .before .before .before .before .before .before .before .before .before .before .before .before .before .before .before .before .before .before .before .before .before .before .before .before .args .plan in
-    let b = c .before .before .before .before .before .before .before .before .before .before .before .before .before .before .before .before .before .before .before .before .before .before .before .before .before .before .args .buffer .now in
+    let p = c .before .before .before .before .before .before .before .before .before .before .before .before .before .before .before .before .before .before .before .before .before .before .before .before .args .t1 in
+    let b = c .before .before .before .before .before .before .before .before .before .before .before .before .before .before .before .before .before .before .before .before .before .before .before .before .args .buffer .now in
     let n = p .states in
     let m = p .transitions in
-    let w : within (view p) ≡ true = sym (c .before .before .before .before .before .before .before .before .before .before .before .before .before .before .before .before .before .before .before .before .before .before .before .before .within .ensures) ∙ not-false _ (c .before .before .before .before .before .before .before .before .before .before .before .before .before .before .before .before .before .before .before .before .before .before .before .if1 .left) in
-    let k : ltb (length b) (4 + n + 5 * m) ≡ false = le-ltb (length b) (4 + n + 5 * m) (c .before .before .before .before .before .before .before .before .before .before .before .before .before .before .before .before .before .before .before .before .before .before .if2 .left) in
+    let w = sound (c .before .before .before .before .before .before .before .before .before .before .before .before .before .before .before .before .before .before .before .before .before) in
+    let k : ltb (length b) (imageLength n m) ≡ false = le-ltb (length b) (imageLength n m) (room (c .before .before .before .before .before .before .before .before .before .before .before .before .before .before .before .before .before .before .before)) in
     let S = fieldsOfEach stateFields (statesOf n (p .marks)) in
     let T = fieldsOfEach transitionFields (transitionsOf m (p .from) (p .to) (p .low) (p .high)) in
     let e : c .before .before .transitions .last .0 ≡ putAll (putAll (putAll b 0 (headerFields n m)) 32 S) (32 + 8 * n) T =
     c .before .before .transitions .ensures
-    ∙ ap (λ (x : List ℕ). putAll x (32 + 8 * n) T) (c .before .before .before .before .before .before .before .before .before .before .states .ensures ∙ ap (λ (x : List ℕ). putAll x 32 S) (c .before .before .before .before .before .before .before .before .before .before .before .before .before .before .before .header .ensures)) in
-    let f = put-view p b (λ i. c .before .before .before .before .before .before .before .before .before .before .before .before .before .before .before .before .before .before .before .before .before .before .before .before .before .slice-known .given i .fits) (c .before .before .before .before .before .before .before .before .before .before .before .before .before .before .before .before .before .before .before .before .before .before .if2 .left) in
-    record { answer = rw (w, states-view p, count-view p, k); buffer = rw (w, states-view p, count-view p, k) (e ∙ f) }
+    ∙ ap (λ (x : List ℕ). putAll x (32 + 8 * n) T) (c .before .before .before .before .before .before .before .before .before .before .before .states .ensures ∙ ap (λ (x : List ℕ). putAll x 32 S) (c .before .before .before .before .before .before .before .before .before .before .before .before .before .before .before .before .before .header .ensures)) in
+    let f = put-view p b (λ i. c .before .before .before .before .before .before .before .before .before .before .before .before .before .before .before .before .before .before .before .before .before .before .before .slice-known .given i .fits) (room (c .before .before .before .before .before .before .before .before .before .before .before .before .before .before .before .before .before .before .before)) in
+    record { answer = rw (w, states-view p, count-view p, k) (ap accepted (c .before .before .before .before .before .before .before .before .before .before .before .before .before .before .before .before .before .before .before .before .size .ensures)); buffer = rw (w, states-view p, count-view p, k) (e ∙ f) }
 
 pub write-spec : {M : Type 1} → statement M
 write-spec =
@@ -113,9 +101,7 @@ write-spec =
     (tie.spec
     within-requires
     returns
-    add-length
-    mul-length
-    add-length-2
+    size-requires
     returns-2
     header-requires
     states-requires

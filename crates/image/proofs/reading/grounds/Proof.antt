@@ -1,6 +1,6 @@
 -- `image::reading::grounds` meets its contract: each test is the next ground of the header's rule, in the rule's order.
 -- Assumes nothing.
-use Prim.Native.Nat.{ℕ, _+_, _*_, _≤_, _<_}
+use Prim.Native.Nat.{ℕ, _+_, _*_, _≤_}
 use mathlib.Core.Bool.{true, false}
 use mathlib.Core.List.{List}
 use mathlib.Core.Path.{_≡_, sym, ap, ap₂, _∙_}
@@ -11,7 +11,7 @@ use lib.Dec.{leb, ltb, eqb}
 use lib.ListN.{length}
 use Rattle.field.specs.declared.Four.{Four}
 use Rattle.rules.specs.Limits.{stateCountOk}
-use Rattle.rules.specs.Image.{headerRule, imageLength, versionOf, stateCountOf, transitionCountOf, padOf}
+use Rattle.rules.specs.Image.{headerRows, imageLength, versionOf, stateCountOf, transitionCountOf, padOf}
 use Rattle.rules.proofs.Results.{and-true}
 use Rattle.image.proofs.reading.grounds.Statement.{statement}
 use Rattle.image.proofs.reading.grounds.Tie as tie
@@ -39,7 +39,7 @@ fields c =
     }
 
 returns : tie.Need-returns
-unfolding headerRule
+unfolding headerRows
 returns c =
     let os = c .before .before .args .octets .now in
     let f = fields (c .before .before) in
@@ -50,7 +50,7 @@ state-count-ok-requires : tie.Need-state-count-ok-requires
 state-count-ok-requires c κs = search needs
 
 returns-2 : tie.Need-returns-2
-unfolding headerRule
+unfolding headerRows
 returns-2 c =
     let os = c .before .before .before .before .args .octets .now in
     let f = fields (c .before .before .before .before) in
@@ -59,7 +59,7 @@ returns-2 c =
     rw (f .there, v, s)
 
 returns-3 : tie.Need-returns-3
-unfolding headerRule
+unfolding headerRows
 returns-3 c =
     let os = c .before .before .before .before .before .args .octets .now in
     let f = fields (c .before .before .before .before .before) in
@@ -69,7 +69,7 @@ returns-3 c =
     rw (f .there, v, s, t)
 
 returns-4 : tie.Need-returns-4
-unfolding headerRule
+unfolding headerRows
 returns-4 c =
     let os = c .before .before .before .before .before .before .args .octets .now in
     let f = fields (c .before .before .before .before .before .before) in
@@ -109,42 +109,40 @@ tested c =
       few = leb-true n 512 (and-true (leb 1 n) (leb n 512) h .1);
     }
 
-add-needed : tie.Need-add-needed
-add-needed c = omega (arith, tested c .few)
+size-requires : tie.Need-size-requires
+size-requires c κs = (tested c .few, omega arith)
 
-mul-needed : tie.Need-mul-needed
-mul-needed c = search needs
-
-add-needed-2 : tie.Need-add-needed-2
-add-needed-2 c = omega (arith, tested c .few)
+-- the length that is needed is the one that the counts give
+needed : (c : tie.After-size) → c .size .result ≡ imageLength (stateCountOf (c .before .before .before .before .before .before .before .args .octets .now)) (transitionCountOf (c .before .before .before .before .before .before .before .args .octets .now))
+needed c = c .size .ensures ∙ tested (c .before) .needed
 
 returns-5 : tie.Need-returns-5
-unfolding headerRule
+unfolding headerRows
 returns-5 c =
-    let os = c .before .before .before .before .before .before .before .args .octets .now in
+    let os = c .before .before .before .before .before .before .before .before .args .octets .now in
     let N = imageLength (stateCountOf os) (transitionCountOf os) in
-    let k = tested (c .before) in
-    let l : ltb (length os) N ≡ true = ap (λ (x : ℕ). ltb (length os) x) (sym (k .needed)) ∙ lt-ltb _ _ (c .if5 .taken) in
+    let k = tested (c .before .before) in
+    let l : ltb (length os) N ≡ true = ap (λ (x : ℕ). ltb (length os) x) (sym (needed (c .before))) ∙ lt-ltb _ _ (c .if5 .taken) in
     rw (k .there, k .version, k .states, k .transitions, k .pad, l)
 
 returns-6 : tie.Need-returns-6
-unfolding headerRule
+unfolding headerRows
 returns-6 c =
-    let os = c .before .before .before .before .before .before .before .before .args .octets .now in
+    let os = c .before .before .before .before .before .before .before .before .before .args .octets .now in
     let N = imageLength (stateCountOf os) (transitionCountOf os) in
-    let k = tested (c .before .before) in
-    let l : ltb (length os) N ≡ false = ap (λ (x : ℕ). ltb (length os) x) (sym (k .needed)) ∙ le-ltb _ _ (c .before .if5 .left) in
-    let g : ltb N (length os) ≡ true = ap (λ (x : ℕ). ltb x (length os)) (sym (k .needed)) ∙ lt-ltb _ _ (c .if6 .taken) in
+    let k = tested (c .before .before .before) in
+    let l : ltb (length os) N ≡ false = ap (λ (x : ℕ). ltb (length os) x) (sym (needed (c .before .before))) ∙ le-ltb _ _ (c .before .if5 .left) in
+    let g : ltb N (length os) ≡ true = ap (λ (x : ℕ). ltb x (length os)) (sym (needed (c .before .before))) ∙ lt-ltb _ _ (c .if6 .taken) in
     rw (k .there, k .version, k .states, k .transitions, k .pad, l, g)
 
 returns-7 : tie.Need-returns-7
-unfolding headerRule
+unfolding headerRows
 returns-7 c =
-    let os = c .before .before .before .before .before .before .before .before .args .octets .now in
+    let os = c .before .before .before .before .before .before .before .before .before .args .octets .now in
     let N = imageLength (stateCountOf os) (transitionCountOf os) in
-    let k = tested (c .before .before) in
-    let l : ltb (length os) N ≡ false = ap (λ (x : ℕ). ltb (length os) x) (sym (k .needed)) ∙ le-ltb _ _ (c .before .if5 .left) in
-    let g : ltb N (length os) ≡ false = ap (λ (x : ℕ). ltb x (length os)) (sym (k .needed)) ∙ le-ltb _ _ (c .if6 .left) in
+    let k = tested (c .before .before .before) in
+    let l : ltb (length os) N ≡ false = ap (λ (x : ℕ). ltb (length os) x) (sym (needed (c .before .before))) ∙ le-ltb _ _ (c .before .if5 .left) in
+    let g : ltb N (length os) ≡ false = ap (λ (x : ℕ). ltb x (length os)) (sym (needed (c .before .before))) ∙ le-ltb _ _ (c .if6 .left) in
     rw (k .there, k .version, k .states, k .transitions, k .pad, l, g)
 
 pub grounds-spec : {M : Type 1} → statement M
@@ -156,9 +154,7 @@ grounds-spec =
     returns-2
     returns-3
     returns-4
-    add-needed
-    mul-needed
-    add-needed-2
+    size-requires
     returns-5
     returns-6
     returns-7)

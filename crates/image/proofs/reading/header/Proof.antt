@@ -6,10 +6,12 @@ use mathlib.Core.Path.{_≡_, ap, _∙_}
 use native.Mathlib.Omega.{arith}
 use borrow.Author.Needs.{needs}
 use borrow.Author.Tests.{lt-ltb}
+use mathlib.Core.Bool.{true}
+use lib.Dec.{ltb}
 use lib.ListN.{length}
 use Rattle.field.specs.Field.{fourAt}
 use Rattle.field.specs.declared.Four.{Four}
-use Rattle.rules.specs.Image.{headerRule}
+use Rattle.rules.specs.Image.{headerRows}
 use Rattle.image.proofs.reading.header.Statement.{statement}
 use Rattle.image.proofs.reading.header.Tie as tie
 use Rattle.image.proofs.reading.header.Reads as reads
@@ -18,8 +20,16 @@ use Rattle.image.proofs.reader.next.Reads as next-reads
 use Rattle.image.proofs.reading.grounds.Reads as grounds-reads
 
 returns : tie.Need-returns
-unfolding headerRule
-returns c = (rw (lt-ltb (length (c .before .before .args .octets .now)) 4 (c .if1 .taken)), λ h. (omega arith, omega arith, omega arith))
+unfolding headerRows
+returns c =
+    let e : ltb (length (c .before .before .args .octets .now)) 4 ≡ true = lt-ltb (length (c .before .before .args .octets .now)) 4 (c .if1 .taken) in
+    record {
+      answer = rw e;
+      states = λ e. absurd (let z : _≡_ {A = ℕ} 0 1 = cc in omega arith);
+      transitions = λ e. absurd (let z : _≡_ {A = ℕ} 0 1 = cc in omega arith);
+      all = λ e. absurd (let z : _≡_ {A = ℕ} 0 1 = cc in omega arith);
+      most = omega arith;
+    }
 
 next-requires : tie.Need-next-requires
 next-requires c κs = search needs
@@ -32,7 +42,14 @@ grounds-requires : tie.Need-grounds-requires
 grounds-requires c κs = (omega arith, taken c)
 
 returns-2 : tie.Need-returns-2
-returns-2 c = (c .grounds .ensures, λ h. (ap (λ (f : Four). f .second) (taken (c .before)), ap (λ (f : Four). f .third) (taken (c .before)), omega (arith, c .before .next .ensures .1)))
+returns-2 c =
+    record {
+      answer = c .grounds .ensures;
+      states = λ e. ap (λ (f : Four). f .second) (taken (c .before));
+      transitions = λ e. ap (λ (f : Four). f .third) (taken (c .before));
+      all = λ e. omega (arith, c .before .next .ensures .1);
+      most = omega (arith, c .before .next .ensures .1);
+    }
 
 pub header-spec : {M : Type 1} → statement M
 header-spec = tie.close (tie.spec returns next-requires grounds-requires returns-2)

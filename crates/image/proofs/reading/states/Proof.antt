@@ -1,25 +1,27 @@
--- `image::reading::states` meets its contract. The invariant: every state passed is accepted, with the marks value that stands at its place, and
--- no later place was touched; the position is that of the next state.
+-- `image::reading::states` meets its contract. The invariant: no row of a state passed holds, and its marks value stands at its place; no later
+-- place was touched; the position is that of the next state. So the first row that holds is that of the state at hand.
 -- Assumes nothing.
 use Prim.Native.Nat.{ℕ, _+_, _-_, _≤_, _<_}
-use mathlib.Core.Bool.{true, false}
+use mathlib.Core.Bool.{true, false, not}
 use mathlib.Core.Path.{_≡_, sym, ap, _∙_}
 use native.Mathlib.Omega.{arith}
 use borrow.Author.Tests.{eq-eqb, ne-eqb}
 use lib.Dec.{eqb}
 use lib.ListN.{getD, set}
-use Rattle.field.specs.Field.{fieldAt, fourAt}
+use Rattle.field.specs.Field.{fieldAt}
 use Rattle.field.proofs.Laws.{field-lt}
-use Rattle.graph.specs.Graph.{State, marked}
+use Rattle.graph.specs.Graph.{marked}
 use Rattle.arrays.specs.Tables.{stateOf}
-use Rattle.rules.specs.Refusal.{Result, accepted}
-use Rattle.rules.specs.Image.{stateAt, statePlace, statesIn}
+use Rattle.rules.specs.Image.{stateAt, spareAt, statePlace, stateRows}
+use Rattle.rules.specs.Refusal.{refused}
+use Rattle.rules.specs.Table.{first, byNumber, NoneHolds}
+use Rattle.rules.specs.declared.Refusal.the-variants.{SpareBits}
+use Rattle.rules.proofs.Tables.{item-decides, accepted-where, none-each}
+use Rattle.rules.proofs.Tabulated.{tabulate-same}
 use lib.Seq.{getD-set-same, getD-set-other}
 use borrow.Author.Count.{below-none, below-more}
 use Rattle.arrays.specs.Tables.{Later}
 use Rattle.arrays.proofs.Lists.{later-none, later-set}
-use Rattle.rules.proofs.Order.{collect-refused}
-use Rattle.image.proofs.Collect.{collect-accepted}
 use Rattle.image.proofs.Items.{Bits, state-fields}
 use Rattle.image.proofs.reading.states.Statement.{statement}
 use Rattle.image.proofs.reading.states.Tie as tie
@@ -29,13 +31,15 @@ use Rattle.image.proofs.reader.next.Reads as next-reads
 use Rattle.image.proofs.reading.marks_of.Reads as marks-of-reads
 
 abbrev Inv-loop : tie.InvT-loop
-Inv-loop octets at₀ n marks₀ i₀ at marks i = (i ≤ n) × Later n marks₀ marks × (at ≡ statePlace i) × ((k : ℕ) → k < i → stateAt octets (statePlace k) ≡ accepted (stateOf marks k))
+Inv-loop octets at₀ n marks₀ i₀ at marks i =
+    (i ≤ n) × Later n marks₀ marks × (at ≡ statePlace i) × ((k : ℕ) → k < i → NoneHolds (stateRows octets k))
+    × ((k : ℕ) → k < i → stateOf marks k ≡ stateAt octets (statePlace k))
 
 abbrev μ-loop : tie.MeasureT-loop
 μ-loop octets at₀ n marks₀ i₀ at marks i = n - i
 
 loop-holds : tie.Need-loop-holds Inv-loop μ-loop
-loop-holds c = (omega arith, later-none _ _ (omega arith), omega arith, below-none _)
+loop-holds c = (omega arith, later-none _ _ (omega arith), omega arith, below-none _, below-none _)
 
 next-requires : tie.Need-next-requires Inv-loop μ-loop
 next-requires c κs = record { most = omega arith; inside = omega arith; near = omega arith }
@@ -45,15 +49,18 @@ taken : (c : tie.After-next Inv-loop μ-loop) → Bits (c .before .before .befor
 taken c = state-fields (c .before .before .before .before .before .args .octets .now) (c .before .before .before .loop .at) (statePlace (c .before .before .before .loop .i)) (c .next .result) (c .before .before .before .loop .inv .2) (c .next .ensures .0)
 
 returns : tie.Need-returns Inv-loop μ-loop
-unfolding statesIn
 returns c =
     let os = c .before .before .before .before .before .before .before .args .octets .now in
     let l = c .before .before .before .before .before .loop in
-    let s : eqb (fieldAt os (statePlace (l .i) + 3) 5) 0 ≡ false = ne-eqb _ 0 (λ e. c .if1 .taken (taken (c .before .before) .spare ∙ e)) in (
-      sym (collect-refused (λ (k : ℕ). stateAt os (statePlace k)) (c .before .before .before .before .before .before .before .args .n) (l .i) 6 (stateOf (l .marks)) (omega arith) (l .inv .3) (rw s)),
-      l .inv .1,
-      λ e. let z : _≡_ {A = ℕ} 0 1 = cc in omega arith,
-    )
+    let s : eqb (spareAt os (statePlace (l .i))) 0 ≡ false = ne-eqb _ 0 (λ e. c .if1 .taken (taken (c .before .before) .spare ∙ e)) in
+    let f : first (stateRows os (l .i)) ≡ refused SpareBits = rw s in
+    record {
+      answer = sym (item-decides (stateRows os) (c .before .before .before .before .before .before .before .args .n) (l .i) SpareBits (omega arith) (l .inv .3) f);
+      states = λ e. absurd (let z : _≡_ {A = ℕ} 0 1 = cc in omega arith);
+      later = l .inv .1;
+      all = λ e. absurd (let z : _≡_ {A = ℕ} 0 1 = cc in omega arith);
+      most = omega (arith, c .before .before .next .ensures .1);
+    }
 
 marks-of-requires : tie.Need-marks-of-requires Inv-loop μ-loop
 marks-of-requires c κs =
@@ -82,17 +89,24 @@ loop-again c =
       omega arith,
       later-set _ _ (l .marks) (l .i) v (omega arith) (l .inv .1),
       omega (arith, c .before .before .before .next .ensures .1),
+      below-more _ _ (l .inv .3) (ap not s, tt),
       below-more _ _
-          (λ k h. l .inv .3 k h ∙ ap {B = Result State} (λ (x : ℕ). accepted (marked x)) (sym (getD-set-other (l .marks) (l .i) k v 0 (omega arith))))
-          (rw (s, here, c .marks-of .ensures, t .start, t .final, t .counted)),
+          (λ k h. ap marked (getD-set-other (l .marks) (l .i) k v 0 (omega arith)) ∙ l .inv .4 k h)
+          (rw (here, c .marks-of .ensures, t .start, t .final, t .counted)),
     )
 
 returns-2 : tie.Need-returns-2 Inv-loop μ-loop
-unfolding statesIn
 returns-2 c =
     let os = c .before .before .before .args .octets .now in
+    let n = c .before .before .before .args .n in
     let l = c .before .loop in
-    (sym (collect-accepted (λ (k : ℕ). stateAt os (statePlace k)) (c .before .before .before .args .n) (stateOf (l .marks)) (λ k h. l .inv .3 k (omega arith))), l .inv .1, λ e. omega arith)
+    record {
+      answer = sym (accepted-where (byNumber (stateRows os) 0 n) tt (none-each (stateRows os) n (λ k h. l .inv .3 k (omega arith))));
+      states = λ e. tabulate-same n (stateOf (l .marks)) (λ (k : ℕ). stateAt os (statePlace k)) (λ k h. l .inv .4 k (omega arith));
+      later = l .inv .1;
+      all = λ e. omega arith;
+      most = omega arith;
+    }
 
 pub states-spec : {M : Type 1} → statement M
 states-spec =

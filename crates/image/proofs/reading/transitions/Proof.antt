@@ -1,22 +1,24 @@
--- `image::reading::transitions` meets its contract. The invariant: every transition passed is accepted, and stands at its place of the arrays,
--- and no later place was touched; the position is that of the next transition.
+-- `image::reading::transitions` meets its contract. The invariant: no row of a transition passed holds, and it stands at its place of the
+-- arrays; no later place was touched; the position is that of the next transition. So the first row that holds is of the transition at hand.
 -- Assumes nothing.
 use Prim.Native.Nat.{ℕ, _-_, _≤_, _<_}
-use mathlib.Core.Path.{_≡_, sym, ap, _∙_}
+use mathlib.Core.List.{List}
+use mathlib.Core.Path.{_≡_, sym, ap, subst, _∙_}
 use native.Mathlib.Omega.{arith}
 use borrow.Author.Needs.{needs}
 use lib.ListN.{length, set}
 use borrow.Author.Count.{below-none, below-more}
 use Rattle.graph.specs.Graph.{Transition}
-use Rattle.rules.specs.declared.Answer.{Answer}
-use Rattle.rules.specs.Refusal.{Result, accepted, refused, number, outcome}
-use Rattle.rules.specs.Image.{transitionAt, transitionPlace, transitionsIn, checked}
-use Rattle.rules.proofs.ReadWrite.{Bounded, bounded, ok-checked}
+use Rattle.rules.specs.Image.{transitionAt, transitionPlace, transitionRows}
+use Rattle.rules.specs.Refusal.{refused, said}
+use Rattle.rules.specs.Table.{Row, first, byNumber, NoneHolds}
+use Rattle.rules.proofs.ReadWrite.{Bounded, bounded, rows-ok}
+use Rattle.rules.proofs.Tables.{item-decides, accepted-where, accepted-only, none-each}
+use Rattle.rules.proofs.Tabulated.{tabulate-same}
+use Rattle.image.specs.Read.{LaterFields, fields}
 use Rattle.arrays.specs.Tables.{transitionOf, Later}
 use Rattle.image.specs.Values.{meant}
 use Rattle.arrays.proofs.Lists.{transition-other, transition-here, later-none, later-set}
-use Rattle.rules.proofs.Order.{collect-refused}
-use Rattle.image.proofs.Collect.{collect-accepted}
 use Rattle.image.proofs.reading.transitions.Statement.{statement}
 use Rattle.image.proofs.reading.transitions.Tie as tie
 use Rattle.image.proofs.reading.transitions.Reads as reads
@@ -26,14 +28,17 @@ use Rattle.image.proofs.reading.transition.Reads as transition-reads
 
 abbrev Inv-loop : tie.InvT-loop
 Inv-loop octets at₀ n m from₀ to₀ low₀ high₀ i₀ at from to low high i =
-    (i ≤ m) × Later m from₀ from × Later m to₀ to × Later m low₀ low × Later m high₀ high × (at ≡ transitionPlace n i)
-    × ((k : ℕ) → k < i → checked n (transitionAt octets (transitionPlace n k)) ≡ accepted (transitionOf from to low high k))
+    (i ≤ m) × LaterFields m (fields from₀ to₀ low₀ high₀) (fields from to low high) × (at ≡ transitionPlace n i)
+    × ((k : ℕ) → k < i → NoneHolds (transitionRows n (transitionAt octets (transitionPlace n k))))
+    × ((k : ℕ) → k < i → transitionOf from to low high k ≡ transitionAt octets (transitionPlace n k))
 
 abbrev μ-loop : tie.MeasureT-loop
 μ-loop octets at₀ n m from₀ to₀ low₀ high₀ i₀ at from to low high i = m - i
 
 loop-holds : tie.Need-loop-holds Inv-loop μ-loop
-loop-holds c = (omega arith, later-none _ _ (omega arith), later-none _ _ (omega arith), later-none _ _ (omega arith), later-none _ _ (omega arith), omega arith, below-none _)
+loop-holds c =
+    let none : (l : List ℕ) → c .before .args .m ≤ length l → Later (c .before .args .m) l l = λ l h. later-none _ l h in
+    (omega arith, record { from = none _ (omega arith); to = none _ (omega arith); low = none _ (omega arith); high = none _ (omega arith) }, omega arith, below-none _, below-none _)
 
 transition-requires : tie.Need-transition-requires Inv-loop μ-loop
 transition-requires c κs = omega arith
@@ -46,40 +51,36 @@ enum-known-grounds c = search needs
 
 -- the transition that was taken is the one at its place
 taken : (c : tie.After-transition Inv-loop μ-loop) → meant (c .transition .result) ≡ transitionAt (c .before .before .before .before .before .args .octets .now) (transitionPlace (c .before .before .before .before .before .args .n) (c .before .before .before .loop .i))
-taken c = c .transition .ensures .0 ∙ ap (transitionAt (c .before .before .before .before .before .args .octets .now)) (c .before .before .before .loop .inv .5)
+taken c = c .transition .ensures .0 ∙ ap (transitionAt (c .before .before .before .before .before .args .octets .now)) (c .before .before .before .loop .inv .2)
 
 returns : tie.Need-returns Inv-loop μ-loop
-unfolding transitionsIn
 returns c =
     let a = c .before .before .before .before .before .before .before .before .before .args in
     let l = c .before .before .before .before .before .before .before .loop in
     let os = a .octets .now in
-    let v = c .before .before .before .before .transition .result in
     let r = c .before .grounds .given .0 .0 in
-    let e : checked (a .n) (transitionAt os (transitionPlace (a .n) (l .i))) ≡ refused (number r) =
-    ap (checked (a .n)) (sym (taken (c .before .before .before .before))) ∙ sym (c .before .before .before .checked .ensures) ∙ ap (λ (x : Answer). outcome x (meant v)) (c .before .grounds .given .1) in (
-      sym (collect-refused (λ (k : ℕ). checked (a .n) (transitionAt os (transitionPlace (a .n) k))) (a .m) (l .i) (number r) (transitionOf (l .from) (l .to) (l .low) (l .high)) (omega arith) (l .inv .6) e),
-      l .inv .1,
-      l .inv .2,
-      l .inv .3,
-      l .inv .4,
-      λ e. let z : _≡_ {A = ℕ} 0 1 = cc in omega arith,
-    )
+    let rows : ℕ → List Row = λ k. transitionRows (a .n) (transitionAt os (transitionPlace (a .n) k)) in
+    let e : first (rows (l .i)) ≡ refused r =
+    ap (λ (t : Transition). first (transitionRows (a .n) t)) (sym (taken (c .before .before .before .before))) ∙ sym (c .before .before .before .checked .ensures) ∙ ap said (c .before .grounds .given .1) in
+    record {
+      answer = sym (item-decides rows (a .m) (l .i) r (omega arith) (l .inv .3) e);
+      transitions = λ e. absurd (let z : _≡_ {A = ℕ} 0 1 = cc in omega arith);
+      later = l .inv .1;
+      all = λ e. absurd (let z : _≡_ {A = ℕ} 0 1 = cc in omega arith);
+      most = omega (arith, c .before .before .before .before .transition .ensures .1);
+    }
 
 enum-told : tie.Need-enum-told Inv-loop μ-loop
 enum-told c = search needs
 
--- the transition that was read is accepted, so its numbers are within the limits
-accepts : (c : tie.After-enum-told Inv-loop μ-loop) → checked (c .before .before .before .before .before .before .before .before .args .n) (meant (c .before .before .before .transition .result)) ≡ accepted (meant (c .before .before .before .transition .result))
-accepts c =
-    let v = c .before .before .before .transition .result in
-    sym (c .before .before .checked .ensures) ∙ ap (λ (x : Answer). outcome x (meant v)) (c .enum-told .given .1)
+-- no row of the transition that was read holds, so its numbers are within the limits
+clear : (c : tie.After-enum-told Inv-loop μ-loop) → NoneHolds (transitionRows (c .before .before .before .before .before .before .before .before .args .n) (meant (c .before .before .before .transition .result)))
+clear c =
+    accepted-only (transitionRows (c .before .before .before .before .before .before .before .before .args .n) (meant (c .before .before .before .transition .result))) tt tt
+    (sym (c .before .before .checked .ensures) ∙ ap said (c .enum-told .given .1)) .0
 
 numbers : (c : tie.After-struct-known Inv-loop μ-loop) → Bounded (c .before .before .before .before .before .before .before .before .before .args .n) (meant (c .before .before .before .before .transition .result))
-numbers c =
-    let n = c .before .before .before .before .before .before .before .before .before .args .n in
-    let t = meant (c .before .before .before .before .transition .result) in
-    bounded n t (ok-checked n t t (accepts (c .before)) .1)
+numbers c = bounded _ _ (rows-ok (c .before .before .before .before .before .before .before .before .before .args .n) (meant (c .before .before .before .before .transition .result)) (clear (c .before)))
 
 cast-from : tie.Need-cast-from Inv-loop μ-loop
 cast-from c = omega (arith, numbers c)
@@ -128,36 +129,36 @@ loop-again c =
     let a = c .before .before .before .before .before .before .before .before .before .before .before .before .args in
     let l = c .before .before .before .before .before .before .before .before .before .before .loop in
     let r = c .before .before .before .before .before .before .before .transition .result in
-    let z : (l .i < length (l .from)) × (l .i < length (l .to)) × (l .i < length (l .low)) × (l .i < length (l .high)) =
-    (omega (arith, l .inv .1 .room), omega (arith, l .inv .2 .room), omega (arith, l .inv .3 .room), omega (arith, l .inv .4 .room)) in
+    let f = l .inv .1 in
     let here : transitionOf (set (l .from) (l .i) (r .from)) (set (l .to) (l .i) (r .to)) (set (l .low) (l .i) (r .low)) (set (l .high) (l .i) (r .high)) (l .i) ≡ meant r =
-    transition-here (l .from) (l .to) (l .low) (l .high) (l .i) (r .from) (r .to) (r .low) (r .high) (z .0) (z .1) (z .2) (z .3) in (
+    transition-here (l .from) (l .to) (l .low) (l .high) (l .i) (r .from) (r .to) (r .low) (r .high) (omega (arith, f .from .room)) (omega (arith, f .to .room)) (omega (arith, f .low .room)) (omega (arith, f .high .room)) in (
       omega arith,
-      later-set _ _ (l .from) (l .i) (r .from) (omega arith) (l .inv .1),
-      later-set _ _ (l .to) (l .i) (r .to) (omega arith) (l .inv .2),
-      later-set _ _ (l .low) (l .i) (r .low) (omega arith) (l .inv .3),
-      later-set _ _ (l .high) (l .i) (r .high) (omega arith) (l .inv .4),
+      record {
+        from = later-set _ _ (l .from) (l .i) (r .from) (omega arith) (f .from);
+        to = later-set _ _ (l .to) (l .i) (r .to) (omega arith) (f .to);
+        low = later-set _ _ (l .low) (l .i) (r .low) (omega arith) (f .low);
+        high = later-set _ _ (l .high) (l .i) (r .high) (omega arith) (f .high);
+      },
       omega (arith, c .before .before .before .before .before .before .before .transition .ensures .1),
+      below-more _ _ (l .inv .3) (subst (λ (t : Transition). NoneHolds (transitionRows (a .n) t)) (taken (c .before .before .before .before .before .before .before)) (clear (c .before .before .before .before))),
       below-more _ _
-          (λ k h. l .inv .6 k h
-          ∙ ap {B = Result Transition} (λ (x : Transition). accepted x)
-          (sym (transition-other (l .from) (l .to) (l .low) (l .high) (l .i) (r .from) (r .to) (r .low) (r .high) k (omega arith))))
-          (ap (checked (a .n)) (sym (taken (c .before .before .before .before .before .before .before))) ∙ accepts (c .before .before .before .before) ∙ ap {B = Result Transition} (λ (x : Transition). accepted x) (sym here)),
+          (λ k h. transition-other (l .from) (l .to) (l .low) (l .high) (l .i) (r .from) (r .to) (r .low) (r .high) k (omega arith) ∙ l .inv .4 k h)
+          (here ∙ taken (c .before .before .before .before .before .before .before)),
     )
 
 returns-2 : tie.Need-returns-2 Inv-loop μ-loop
-unfolding transitionsIn
 returns-2 c =
     let a = c .before .before .before .args in
     let l = c .before .loop in
-    let os = a .octets .now in (
-      sym (collect-accepted (λ (k : ℕ). checked (a .n) (transitionAt os (transitionPlace (a .n) k))) (a .m) (transitionOf (l .from) (l .to) (l .low) (l .high)) (λ k h. l .inv .6 k (omega arith))),
-      l .inv .1,
-      l .inv .2,
-      l .inv .3,
-      l .inv .4,
-      λ e. omega arith,
-    )
+    let os = a .octets .now in
+    let rows : ℕ → List Row = λ k. transitionRows (a .n) (transitionAt os (transitionPlace (a .n) k)) in
+    record {
+      answer = sym (accepted-where (byNumber rows 0 (a .m)) tt (none-each rows (a .m) (λ k h. l .inv .3 k (omega arith))));
+      transitions = λ e. tabulate-same (a .m) (transitionOf (l .from) (l .to) (l .low) (l .high)) (λ (k : ℕ). transitionAt os (transitionPlace (a .n) k)) (λ k h. l .inv .4 k (omega arith));
+      later = l .inv .1;
+      all = λ e. omega arith;
+      most = omega arith;
+    }
 
 pub transitions-spec : {M : Type 1} → statement M
 transitions-spec =

@@ -1,5 +1,4 @@
--- `image::writing::state` meets its contract: the four fields, each value within its width.
--- Assumes nothing.
+-- `image::writing::state`: the four fields, each value within its width. Assumes nothing.
 use native.Mathlib.Omega.{arith}
 use Rattle.field.specs.Field.{AllFit}
 use borrow.Author.Needs.{needs}
@@ -9,22 +8,28 @@ use Rattle.image.proofs.writing.state.Reads as reads
 use Rattle.image.proofs.writing.state.Lts as lts
 use Rattle.field.proofs.put_four.Reads as put-four-reads
 
+-- src/writing.rt:36:16
 cast-t7 : tie.Need-cast-t7
 cast-t7 c = search needs
 
+-- src/writing.rt:37:17
 cast-t10 : tie.Need-cast-t10
 cast-t10 c = search needs
 
+-- src/writing.rt:38:16
 cast-t12 : tie.Need-cast-t12
 cast-t12 c = search needs
 
+-- src/writing.rt:41:5
 put-four-requires : tie.Need-put-four-requires
 unfolding AllFit
 put-four-requires c κs = ((record { most = omega arith; inside = omega arith; near = omega arith }, omega arith, omega arith), (omega arith, (omega arith, (omega arith, (omega arith, tt)))))
 
+-- src/writing.rt:31:1
 same-length : tie.Need-same-length
 same-length c = search needs
 
+-- src/writing.rt:31:1
 returns : tie.Need-returns
 returns c = search needs
 

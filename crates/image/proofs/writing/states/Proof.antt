@@ -1,18 +1,16 @@
 -- `image::writing::states` meets its contract. The invariant: the buffer has the fields of the states passed, put one after another.
 -- Assumes nothing.
-use Prim.Native.Nat.{ℕ, _+_, _-_, _*_, _≤_, _<_}
+use Prim.Native.Nat.{ℕ, _+_, _-_, _*_, _≤_}
 use mathlib.Core.List.{List}
-use mathlib.Core.Path.{_≡_, refl, sym, ap, _∙_}
+use mathlib.Core.Path.{_≡_, ap, _∙_}
 use native.Mathlib.Omega.{arith}
 use borrow.Author.Needs.{needs}
-use lib.ListN.{length, getD}
+use lib.ListN.{length}
 use Rattle.field.specs.Field.{putAll}
 use Rattle.field.proofs.Pack.{length-putAll}
-use Rattle.rules.specs.Image.{stateFields, transitionFields, fieldsOfEach}
-use Rattle.rules.proofs.ReadWrite.{state-width, transition-width, transition-fits}
-use Rattle.rules.specs.Limits.{transitionOk}
-use Rattle.arrays.specs.Tables.{stateOf, statesOf, transitionOf, transitionsOf}
-use Rattle.arrays.proofs.Lists.{all-at}
+use Rattle.rules.specs.Image.{stateFields, fieldsOfEach}
+use Rattle.rules.proofs.ReadWrite.{state-width}
+use Rattle.arrays.specs.Tables.{stateOf, statesOf}
 use Rattle.image.proofs.Puts.{put-none, put-more}
 use Rattle.image.proofs.writing.states.Statement.{statement}
 use Rattle.image.proofs.writing.states.Tie as tie

@@ -1,18 +1,18 @@
 -- `image::writing::transitions` meets its contract. The invariant: the buffer has the fields of the transitions passed, put one after another.
 -- Assumes nothing.
-use Prim.Native.Nat.{ℕ, _+_, _-_, _*_, _≤_, _<_}
+use Prim.Native.Nat.{ℕ, _+_, _-_, _*_, _≤_}
 use mathlib.Core.List.{List}
-use mathlib.Core.Path.{_≡_, refl, sym, ap, _∙_}
+use mathlib.Core.Path.{_≡_, ap, _∙_}
 use native.Mathlib.Omega.{arith}
 use borrow.Author.Needs.{needs}
-use lib.ListN.{length, getD}
+use lib.ListN.{length}
 use Rattle.field.specs.Field.{putAll}
 use Rattle.field.proofs.Pack.{length-putAll}
-use Rattle.rules.specs.Image.{stateFields, transitionFields, fieldsOfEach}
-use Rattle.rules.proofs.ReadWrite.{state-width, transition-width, transition-fits}
+use Rattle.rules.specs.Image.{transitionFields, fieldsOfEach}
+use Rattle.rules.proofs.ReadWrite.{transition-width, transition-fits}
 use Rattle.rules.specs.Limits.{transitionOk}
 use Rattle.arrays.specs.Tables.{transitionOf, transitionsOf}
-use Rattle.arrays.proofs.Lists.{all-at}
+use Rattle.rules.proofs.Tabulated.{all-at}
 use Rattle.image.proofs.Puts.{put-none, put-more}
 use Rattle.image.proofs.writing.transitions.Statement.{statement}
 use Rattle.image.proofs.writing.transitions.Tie as tie

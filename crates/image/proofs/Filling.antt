@@ -1,0 +1,90 @@
+-- The whole image from its parts. The rows of the image are the header's, the states' and the transitions', one after another: a refused part decides
+-- where no row before it holds, and where no row holds at all the octets hold the plan that stands in the arrays. Assumes nothing.
+use mathlib.Core.List.{List, [], _++_, append-nil}
+use mathlib.Core.Path.{_≡_, refl, sym, ap, ap₂, _∙_}
+use Prim.Native.Nat.{ℕ}
+use Rattle.rules.specs.declared.Answer.{Answer}
+use Rattle.rules.specs.declared.Answer.the-variants.{Accepted, Refused}
+use Rattle.rules.specs.declared.Refusal.{Refusal}
+use Rattle.rules.specs.Image.{tabulate, stateCountOf, transitionCountOf, stateAt, statePlace, transitionAt, transitionPlace, graphIn}
+use Rattle.rules.specs.Image.{headerRows, stateRows, transitionRows, imageRows, readImage}
+use Rattle.rules.specs.Refusal.{accepted, refused, said}
+use Rattle.rules.specs.Table.{Row, byTable, first, byNumber, NoneHolds}
+use Rattle.rules.proofs.ReadWrite.{Header, clear-header}
+use Rattle.rules.proofs.Tables.{accepted-where, accepted-only, after-none, after-refused}
+use Rattle.arrays.specs.Tables.{statesOf, transitionsOf, graphOf}
+use Rattle.image.specs.Read.{came}
+
+-- the rows of n states, and of m transitions of a plan with n states
+abbrev pub statesRows : List ℕ → ℕ → List Row
+statesRows os n = byNumber (stateRows os) 0 n
+
+abbrev pub transitionsRows : List ℕ → ℕ → ℕ → List Row
+transitionsRows os n m = byNumber (λ i. transitionRows n (transitionAt os (transitionPlace n i))) 0 m
+
+clear : (rows : List Row) → first rows ≡ accepted tt → NoneHolds rows
+clear rows e = accepted-only rows tt tt e .0
+
+pub by-header : (os : List ℕ) (r : Refusal) → first (headerRows os) ≡ refused r → readImage os ≡ refused r
+unfolding readImage imageRows
+by-header os r e =
+    after-refused (headerRows os) (statesRows os (stateCountOf os) ++ transitionsRows os (stateCountOf os) (transitionCountOf os)) (graphIn os) r e
+
+-- what is known once the header is accepted: the two counts are the image's
+pub record Head (os : List ℕ) (n m : ℕ) : Type 0 where
+  pub rows : first (headerRows os) ≡ accepted tt
+  pub states : n ≡ stateCountOf os
+  pub transitions : m ≡ transitionCountOf os
+
+pub header : (os : List ℕ) (n m : ℕ) → Head os n m → Header os
+header os n m h = clear-header os (clear (headerRows os) (h .rows))
+
+module _ (os : List ℕ) (n m : ℕ) (h : Head os n m) where
+  S : List Row
+  S = statesRows os (stateCountOf os)
+
+  T : List Row
+  T = transitionsRows os (stateCountOf os) (transitionCountOf os)
+
+  same-states : first S ≡ first (statesRows os n)
+  unfolding S
+  same-states = ap (λ (k : ℕ). first (statesRows os k)) (sym (h .states))
+
+  same-transitions : first T ≡ first (transitionsRows os n m)
+  unfolding T
+  same-transitions = ap₂ (λ (k j : ℕ). first (transitionsRows os k j)) (sym (h .states)) (sym (h .transitions))
+
+  past-header : readImage os ≡ byTable (S ++ T) (graphIn os)
+  unfolding readImage imageRows S T
+  past-header = after-none (headerRows os) (S ++ T) (graphIn os) (clear (headerRows os) (h .rows))
+
+  pub by-states : (r : Refusal) → first (statesRows os n) ≡ refused r → readImage os ≡ refused r
+  by-states r e = past-header ∙ after-refused S T (graphIn os) r (same-states ∙ e)
+
+  module _ (s : first (statesRows os n) ≡ accepted tt) where
+    past-states : readImage os ≡ byTable T (graphIn os)
+    past-states = past-header ∙ after-none S T (graphIn os) (clear S (same-states ∙ s))
+
+    by-transitions : (r : Refusal) → first (transitionsRows os n m) ≡ refused r → readImage os ≡ refused r
+    by-transitions r e =
+        past-states ∙ ap (λ (rows : List Row). byTable rows (graphIn os)) (sym (append-nil T)) ∙ after-refused T [] (graphIn os) r (same-transitions ∙ e)
+
+    by-none : (marks from to low high : List ℕ) → first (transitionsRows os n m) ≡ accepted tt
+        → statesOf n marks ≡ tabulate n (λ i. stateAt os (statePlace i))
+        → transitionsOf m from to low high ≡ tabulate m (λ i. transitionAt os (transitionPlace n i))
+        → readImage os ≡ accepted (graphOf n m marks from to low high)
+    unfolding graphIn
+    by-none marks from to low high t es et =
+        past-states ∙ accepted-where T (graphIn os) (clear T (same-transitions ∙ t))
+        ∙ λ i. accepted (record {
+          stateList = sym (es ∙ ap (λ (k : ℕ). tabulate k (λ i. stateAt os (statePlace i))) (h .states)) i;
+          transitions = sym (et ∙ ap₂ (λ (k j : ℕ). tabulate j (λ i. transitionAt os (transitionPlace k i))) (h .states) (h .transitions)) i;
+        })
+
+    -- so the answer of the transitions is the image's
+    pub by-answer : (a : Answer) (marks from to low high : List ℕ) → said a ≡ first (transitionsRows os n m)
+        → statesOf n marks ≡ tabulate n (λ i. stateAt os (statePlace i))
+        → (a ≡ Accepted → transitionsOf m from to low high ≡ tabulate m (λ i. transitionAt os (transitionPlace n i)))
+        → came a (graphOf n m marks from to low high) ≡ readImage os
+    by-answer Accepted marks from to low high t es et = sym (by-none marks from to low high (sym t) es (et refl))
+    by-answer (Refused r) marks from to low high t es et = sym (by-transitions r (sym t))

@@ -1,0 +1,70 @@
+-- What reading an image promises, part by part and whole. Document 01, "The image": "with a running bit position, one after another", and the order
+-- of read's refusals. Assumes nothing.
+use mathlib.Core.List.{List}
+use mathlib.Core.Path.{_≡_}
+use Prim.Native.Nat.{ℕ, _*_, _≤_}
+use lib.ListN.{length}
+use Rattle.rules.specs.declared.Answer.{Answer}
+use Rattle.rules.specs.declared.Answer.the-variants.{Accepted, Refused}
+use Rattle.rules.specs.Image.{tabulate, stateCountOf, transitionCountOf, stateAt, statePlace, transitionAt, transitionPlace}
+use Rattle.rules.specs.Image.{headerRows, stateRows, transitionRows, readImage}
+use Rattle.rules.specs.Refusal.{Result, accepted, refused, said}
+use Rattle.rules.specs.Table.{first, byNumber}
+use Rattle.arrays.specs.Tables.{statesOf, transitionsOf, graphOf, Later}
+use Rattle.image.specs.declared.reading.Filled.{Filled}
+use Rattle.image.specs.declared.reading.Heading.{Heading}
+
+-- the four fields of transitions, in arrays
+pub record Fields : Type 0 where
+  pub from : List ℕ
+  pub to : List ℕ
+  pub low : List ℕ
+  pub high : List ℕ
+
+abbrev pub fields : List ℕ → List ℕ → List ℕ → List ℕ → Fields
+fields from to low high = record { from = from; to = to; low = low; high = high }
+
+-- "later places stay", in each of them
+pub record LaterFields (m : ℕ) (before after : Fields) : Type 0 where
+  pub from : Later m (before .from) (after .from)
+  pub to : Later m (before .to) (after .to)
+  pub low : Later m (before .low) (after .low)
+  pub high : Later m (before .high) (after .high)
+
+-- "version, 4 bits, the value 1; state count, 10 bits; transition count, 12 bits; pad, 6 bits": the position is past them, where there are so many
+pub record HeaderRead (os : List ℕ) (at : ℕ) (r : Heading) : Type 0 where
+  pub answer : said (r .answer) ≡ first (headerRows os)
+  pub states : r .answer ≡ Accepted → r .states ≡ stateCountOf os
+  pub transitions : r .answer ≡ Accepted → r .transitions ≡ transitionCountOf os
+  pub all : r .answer ≡ Accepted → at ≡ 32
+  pub most : at ≤ 8 * length os
+
+-- "then states by number, 6"
+pub record StatesRead (os : List ℕ) (n : ℕ) (before after : List ℕ) (at : ℕ) (r : Answer) : Type 0 where
+  pub answer : said r ≡ first (byNumber (stateRows os) 0 n)
+  pub states : r ≡ Accepted → statesOf n after ≡ tabulate n (λ i. stateAt os (statePlace i))
+  pub later : Later n before after
+  pub all : r ≡ Accepted → at ≡ statePlace n
+  pub most : at ≤ statePlace n
+
+-- "then transitions by number, 7 before 8"
+pub record TransitionsRead (os : List ℕ) (n m : ℕ) (before after : Fields) (at : ℕ) (r : Answer) : Type 0 where
+  pub answer : said r ≡ first (byNumber (λ i. transitionRows n (transitionAt os (transitionPlace n i))) 0 m)
+  pub transitions : r ≡ Accepted → transitionsOf m (after .from) (after .to) (after .low) (after .high) ≡ tabulate m (λ i. transitionAt os (transitionPlace n i))
+  pub later : LaterFields m before after
+  pub all : r ≡ Accepted → at ≡ transitionPlace n m
+  pub most : at ≤ transitionPlace n m
+
+-- what an answer of the code says of what it made
+abbrev pub came : {A : Type 0} → Answer → A → Result A
+came Accepted a = accepted a
+came (Refused r) a = refused r
+
+-- an image read into arrays: its answer and the plan in the arrays are the rule's; places past the counts stay; an accepted image costs its octets,
+-- eight bits each, and a refused one never more
+pub record Fills (os before after : List ℕ) (fields fields′ : Fields) (r : Filled) : Type 0 where
+  pub rule : came (r .answer) (graphOf (r .states) (r .transitions) after (fields′ .from) (fields′ .to) (fields′ .low) (fields′ .high)) ≡ readImage os
+  pub marks : Later (r .states) before after
+  pub later : LaterFields (r .transitions) fields fields′
+  pub all : r .answer ≡ Accepted → r .taken ≡ 8 * length os
+  pub most : r .taken ≤ 8 * length os
