@@ -14,7 +14,9 @@ use Rattle.rules.specs.Limits.{within, transitionOk}
 use Rattle.rules.proofs.ReadWrite.{limited, Bounded, bounded}
 use Rattle.rules.proofs.Tabulated.{getD-tabulate, all-at}
 use Rattle.search.specs.Arrays.{StandsIn, Bounded as BoundedIn}
-use Rattle.figures.specs.Figures.{arraysOf}
+use Rattle.search.specs.declared.chain.Chain.{Chain}
+use Rattle.search.specs.Chain.{Linked}
+use Rattle.figures.specs.Figures.{arraysOf, OutOf}
 
 module _ (p : Plan) where
   pub marks-view : (s : ℕ) → s < p .states → marksOf (view p) s ≡ getD (p .marks) s 0
@@ -81,3 +83,7 @@ module _ (p : Plan) where
 
     pub to-small : (t : ℕ) → t < p .transitions → getD (p .to) t 0 < 512
     to-small t h = omega (arith, bounded-in .arrives t h, bounded-in .states)
+
+    -- with the chains out of the states, a search can go through it
+    pub linked-in : (c : Chain) → OutOf p c → Linked (arraysOf p) (c .head) (c .link)
+    linked-in c h = record { bounded = bounded-in; chains = h }

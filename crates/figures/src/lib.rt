@@ -71,5 +71,14 @@ pub fn greatest(which: Which, plan: Plan, out: Chain, searched: Searched, walk: 
 {
     let weights = weights(which, plan);
     let n = plan.states;
-    greatest_search::greatest(n, &plan.marks, &plan.from, &plan.to, out, searched, weights, walk)
+    greatest_search::greatest(
+        n,
+        &plan.marks,
+        &plan.from,
+        &plan.to,
+        out,
+        searched,
+        weights,
+        walk,
+    )
 }

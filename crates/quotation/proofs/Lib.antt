@@ -1,5 +1,7 @@
--- What the limits give the searches, and promises kept by a refusal and by an accepted quotation.
-pub mod Asked
-pub mod Recorded
-pub mod Together
+-- Promises kept by a refusal and by an accepted quotation.
+pub mod Kept
+-- Four parts of one lent slice.
+pub mod Parts
+-- The sizes of quotes, and the record.
 pub mod Small
+pub mod Recorded

@@ -1,19 +1,23 @@
-// The four quotations of a plan, one by one and all at once, and the record of its figures. Each call takes the plan by value, refuses bad input by its row of the table, and
-// writes the walk that it shows, or the record, to the front of a lent slice.
+// The quotations of a plan, one by one and all four at once, and the record of its figures. Each call takes the plan by value, refuses bad input by its row of
+// the table, and writes the walk that it shows, or the record, to the front of a lent slice.
+ghost use mathlib.Core.Bool.{true};
 ghost use mathlib.Core.List.{List};
 ghost use mathlib.Core.Path.{_≡_};
 ghost use Prim.Native.Nat.{ℕ, _≤_, _<_, _^_};
 ghost use lib.ListN.{length};
-ghost use Rattle.rules.specs.Refusal.{said};
-ghost use Rattle.graph.specs.Figure.{value};
 ghost use Rattle.field.specs.Field.{Within, putAll};
-ghost use Rattle.plan.specs.Promise.{Write};
-ghost use Rattle.rules.specs.Quotations.{meant, figureFields, quotesFields, recordOctets, recordRule, quoteRule, Quotes, QuotesAll, Stated, LeastDelay, GreatestDelay, LeastCount, GreatestCount};
+ghost use Rattle.figures.specs.Figures.{OutOf, Into, ReachedIn};
+ghost use Rattle.graph.specs.declared.Which.{Which};
+ghost use Rattle.graph.specs.declared.Which.the-variants.{LeastDelay, GreatestDelay, LeastCount, GreatestCount};
+ghost use Rattle.graph.specs.Figure.{value};
+ghost use Rattle.graph.specs.Which.{isLeast};
 ghost use Rattle.plan.specs.View.{view};
 ghost use Rattle.rules.specs.Limits.{within as withinLimits};
-ghost use Rattle.quotation.specs.Costs.{Least, Greatest};
-ghost use mathlib.Core.Bool.{true};
+ghost use Rattle.rules.specs.Quotations.{meant, says, Stated, figureFields, quotesFields, quoteOf, recordOctets, recordRule, quoteRule, Quotes, AllStated, QuotesAll, Write};
+ghost use Rattle.rules.specs.Refusal.{said};
+use graph::Which;
 use plan::Plan;
+use reach::Searched;
 use reach::explore;
 use rules::Answer;
 use rules::FourQuotes;
@@ -23,12 +27,8 @@ use rules::Quote;
 use rules::Refusal;
 use rules::Written;
 use search::chain;
-
-// What is summed along a route: seconds, or counted states.
-pub enum Cost {
-    Delay,
-    Count,
-}
+use search::chain::Chain;
+use search::chain::Ways;
 
 // Whether a quotation is refused that was lent so many places: the plan's limits, then the places.
 fn ask(plan: Plan, places: usize) -> Answer
@@ -44,163 +44,118 @@ fn ask(plan: Plan, places: usize) -> Answer
     Answer::Accepted
 }
 
-// The least figure of a cost, with a route that attains it.
-fn least(plan: Plan, cost: Cost, walk: &mut [u16]) -> Quote
-    requires { ⌜ (withinLimits (view plan) ≡ true) × (plan .states ≤ length (now walk)) ⌝ }
-    ensures { λ r. ⌜ Stated (Least cost (view plan)) r (now (walk .entry)) (now (walk .exit)) ⌝ }
+// Whether it is a least figure.
+fn is_least(which: Which) -> bool
+    ensures { λ r. ⌜ r ≡ isLeast which ⌝ }
 {
-    let n = plan.states;
-    let m = plan.transitions;
-    let marks = plan.marks;
-    let from = plan.from;
-    let to = plan.to;
-    let low = plan.low;
-    let mut into = [2048u16; 512];
-    let mut into_link = [0u16; 2048];
-    let mut out = [2048u16; 512];
-    let mut out_link = [0u16; 2048];
-    chain::chains(&to, m, &mut into, &mut into_link);
-    chain::chains(&from, m, &mut out, &mut out_link);
-    match cost {
-        Cost::Delay => figures::least_delay(
-            n,
-            m,
-            &marks,
-            &from,
-            &to,
-            &low,
-            &into,
-            &into_link,
-            &out,
-            &out_link,
-            walk,
-        ),
-        Cost::Count => figures::least_count(
-            n,
-            m,
-            &marks,
-            &from,
-            &to,
-            &into,
-            &into_link,
-            &out,
-            &out_link,
-            walk,
-        ),
+    match which {
+        Which::LeastDelay => true,
+        Which::GreatestDelay => false,
+        Which::LeastCount => true,
+        Which::GreatestCount => false,
     }
 }
 
-// The greatest figure of a cost, with the walk that shows it.
-fn greatest(plan: Plan, cost: Cost, walk: &mut [u16]) -> Quote
-    requires { ⌜ (withinLimits (view plan) ≡ true) × (plan .states ≤ length (now walk)) ⌝ }
-    ensures { λ r. ⌜ Stated (Greatest cost (view plan)) r (now (walk .entry)) (now (walk .exit)) ⌝ }
+// The transitions of a plan by state, both ways.
+fn ways(plan: Plan) -> Ways
+    requires { ⌜ withinLimits (view plan) ≡ true ⌝ }
+    ensures { λ r. ⌜ Into plan (r .into) × OutOf plan (r .out) ⌝ }
+{
+    let m = plan.transitions;
+    chain::both(&plan.from, &plan.to, m)
+}
+
+// What the starts of a plan reach.
+fn searched(plan: Plan, out: Chain) -> Searched
+    requires { ⌜ (withinLimits (view plan) ≡ true) × OutOf plan out ⌝ }
+    ensures { λ r. ⌜ ReachedIn plan r ⌝ }
 {
     let n = plan.states;
-    let m = plan.transitions;
-    let marks = plan.marks;
-    let from = plan.from;
-    let to = plan.to;
-    let high = plan.high;
-    let mut out = [2048u16; 512];
-    let mut out_link = [0u16; 2048];
-    chain::chains(&from, m, &mut out, &mut out_link);
-    let mut rank = [0u16; 512];
-    let mut cursor = [0u16; 512];
-    let mut stack = [0u16; 512];
-    let mut order = [0u16; 512];
-    let mut via = [0u16; 512];
-    let found = explore::reach(
-        n,
-        m,
-        &marks,
-        &from,
-        &to,
-        &out,
-        &out_link,
-        &mut rank,
-        &mut cursor,
-        &mut stack,
-        &mut order,
-        &mut via,
-    );
-    match cost {
-        Cost::Delay => figures::greatest_delay(
-            found,
-            n,
-            m,
-            &marks,
-            &from,
-            &to,
-            &high,
-            &out,
-            &out_link,
-            &rank,
-            &cursor,
-            &stack,
-            &order,
-            &via,
-            walk,
-        ),
-        Cost::Count => figures::greatest_count(
-            found,
-            n,
-            m,
-            &marks,
-            &from,
-            &to,
-            &out,
-            &out_link,
-            &rank,
-            &cursor,
-            &stack,
-            &order,
-            &via,
-            walk,
-        ),
+    explore::reach(n, &plan.marks, &plan.to, &out.head, &out.link)
+}
+
+// A figure of a plan, with the walk that shows it.
+fn show(which: Which, plan: Plan, walk: &mut [u16]) -> Quote
+    requires { ⌜ (withinLimits (view plan) ≡ true) × (plan .states ≤ length (now walk)) ⌝ }
+    ensures { λ r. ⌜ Stated (says which (view plan)) r (now (walk .entry)) (now (walk .exit)) ⌝ }
+{
+    let ways = ways(plan);
+    if is_least(which) {
+        return figures::least(which, plan, ways, walk);
+    }
+    let out = ways.out;
+    let searched = searched(plan, out);
+    figures::greatest(which, plan, out, searched, walk)
+}
+
+// A quotation of a figure, with the walk that shows it.
+pub fn quote(which: Which, plan: Plan, walk: &mut [u16]) -> Quotation
+    ensures { λ r. ⌜ Quotes which (view plan) (now (walk .entry)) (now (walk .exit)) r ⌝ }
+{
+    let asked = ask(plan, walk.len());
+    match asked {
+        Answer::Accepted => Quotation::Quoted(show(which, plan, walk)),
+        Answer::Refused(r) => Quotation::Refused(r),
     }
 }
 
 // The least delay, with a route that attains it.
 pub fn least_delay(plan: Plan, walk: &mut [u16]) -> Quotation
-    ensures { λ r. ⌜ Quotes (LeastDelay (view plan)) (view plan) (now (walk .entry)) (now (walk .exit)) r ⌝ }
+    ensures { λ r. ⌜ Quotes LeastDelay (view plan) (now (walk .entry)) (now (walk .exit)) r ⌝ }
 {
-    let asked = ask(plan, walk.len());
-    match asked {
-        Answer::Accepted => Quotation::Quoted(least(plan, Cost::Delay, walk)),
-        Answer::Refused(r) => Quotation::Refused(r),
-    }
+    quote(Which::LeastDelay, plan, walk)
 }
 
 // The greatest delay, with the walk that shows it.
 pub fn greatest_delay(plan: Plan, walk: &mut [u16]) -> Quotation
-    ensures { λ r. ⌜ Quotes (GreatestDelay (view plan)) (view plan) (now (walk .entry)) (now (walk .exit)) r ⌝ }
+    ensures { λ r. ⌜ Quotes GreatestDelay (view plan) (now (walk .entry)) (now (walk .exit)) r ⌝ }
 {
-    let asked = ask(plan, walk.len());
-    match asked {
-        Answer::Accepted => Quotation::Quoted(greatest(plan, Cost::Delay, walk)),
-        Answer::Refused(r) => Quotation::Refused(r),
-    }
+    quote(Which::GreatestDelay, plan, walk)
 }
 
 // The least count, with a route that attains it.
 pub fn least_count(plan: Plan, walk: &mut [u16]) -> Quotation
-    ensures { λ r. ⌜ Quotes (LeastCount (view plan)) (view plan) (now (walk .entry)) (now (walk .exit)) r ⌝ }
+    ensures { λ r. ⌜ Quotes LeastCount (view plan) (now (walk .entry)) (now (walk .exit)) r ⌝ }
 {
-    let asked = ask(plan, walk.len());
-    match asked {
-        Answer::Accepted => Quotation::Quoted(least(plan, Cost::Count, walk)),
-        Answer::Refused(r) => Quotation::Refused(r),
-    }
+    quote(Which::LeastCount, plan, walk)
 }
 
 // The greatest count, with the walk that shows it.
 pub fn greatest_count(plan: Plan, walk: &mut [u16]) -> Quotation
-    ensures { λ r. ⌜ Quotes (GreatestCount (view plan)) (view plan) (now (walk .entry)) (now (walk .exit)) r ⌝ }
+    ensures { λ r. ⌜ Quotes GreatestCount (view plan) (now (walk .entry)) (now (walk .exit)) r ⌝ }
 {
-    let asked = ask(plan, walk.len());
-    match asked {
-        Answer::Accepted => Quotation::Quoted(greatest(plan, Cost::Count, walk)),
-        Answer::Refused(r) => Quotation::Refused(r),
+    quote(Which::GreatestCount, plan, walk)
+}
+
+// The four figures of a plan within the limits, by one search for both greatest ones; the walks stand in four parts of 512 places.
+fn show_all(plan: Plan, walks: &mut [u16]) -> FourQuotes
+    requires { ⌜ (withinLimits (view plan) ≡ true) × (2048 ≤ length (now walks)) ⌝ }
+    ensures { λ r. ⌜ AllStated (view plan) r (now (walks .entry)) (now (walks .exit)) ⌝ }
+{
+    let ways = ways(plan);
+    let out = ways.out;
+    let searched = searched(plan, out);
+    let least_delay = figures::least(Which::LeastDelay, plan, ways, &mut walks[0..512]);
+    let greatest_delay = figures::greatest(
+        Which::GreatestDelay,
+        plan,
+        out,
+        searched,
+        &mut walks[512..1024],
+    );
+    let least_count = figures::least(Which::LeastCount, plan, ways, &mut walks[1024..1536]);
+    let greatest_count = figures::greatest(
+        Which::GreatestCount,
+        plan,
+        out,
+        searched,
+        &mut walks[1536..2048],
+    );
+    FourQuotes {
+        least_delay,
+        greatest_delay,
+        least_count,
+        greatest_count,
     }
 }
 
@@ -214,19 +169,7 @@ pub fn all(plan: Plan, walks: &mut [u16]) -> Quotations
     if walks.len() < 2048 {
         return Quotations::Refused(Refusal::BufferLength);
     }
-    let n = plan.states;
-    let m = plan.transitions;
-    let marks = plan.marks;
-    let from = plan.from;
-    let to = plan.to;
-    let low = plan.low;
-    let high = plan.high;
-    let mut out = [2048u16; 512];
-    let mut out_link = [0u16; 2048];
-    chain::chains(&from, m, &mut out, &mut out_link);
-    let least = figures::least(n, m, &marks, &from, &to, &low, &out, &out_link, walks);
-    let greatest = figures::greatest(n, m, &marks, &from, &to, &high, &out, &out_link, walks);
-    Quotations::Quoted(FourQuotes { least, greatest })
+    Quotations::Quoted(show_all(plan, walks))
 }
 
 // Puts the kind and the number of a quoted figure at a bit position: 2 bits and 20.
@@ -244,16 +187,13 @@ fn put_figure(buffer: &mut [u8], at: usize, quote: Quote)
 // Puts the record of four quotes at the front of the buffer.
 fn put_record(buffer: &mut [u8], quotes: FourQuotes)
     requires { ⌜ 11 ≤ length (now buffer) ⌝ }
-    requires { ⌜ (value (meant (quotes .least .delay .figure)) < 2 ^ 20) × (value (meant (quotes .greatest .delay .figure)) < 2 ^ 20)
-        × (value (meant (quotes .least .count .figure)) < 2 ^ 20) × (value (meant (quotes .greatest .count .figure)) < 2 ^ 20) ⌝ }
+    requires { ⌜ ((which : Which) → value (meant (quoteOf quotes which .figure)) < 2 ^ 20) ⌝ }
     ensures { λ r. ⌜ now (buffer .exit) ≡ putAll (now (buffer .entry)) 0 (quotesFields quotes) ⌝ }
 {
-    let least = quotes.least;
-    let greatest = quotes.greatest;
-    let first = least.delay;
-    let second = greatest.delay;
-    let third = least.count;
-    let fourth = greatest.count;
+    let first = quotes.least_delay;
+    let second = quotes.greatest_delay;
+    let third = quotes.least_count;
+    let fourth = quotes.greatest_count;
     put_figure(buffer, 0, first);
     put_figure(buffer, 22, second);
     put_figure(buffer, 44, third);
@@ -271,12 +211,7 @@ pub fn record(plan: Plan, buffer: &mut [u8]) -> Written
         return Written::Refused(Refusal::BufferLength);
     }
     let mut walks = [0u16; 2048];
-    let quotations = all(plan, &mut walks);
-    match quotations {
-        Quotations::Quoted(quotes) => {
-            put_record(buffer, quotes);
-            Written::Length(11)
-        }
-        Quotations::Refused(r) => Written::Refused(r),
-    }
+    let quotes = show_all(plan, &mut walks);
+    put_record(buffer, quotes);
+    Written::Length(11)
 }

@@ -206,8 +206,8 @@ fn explore(
 // What the starts reach: no start, a loop, a dead end, or neither.
 pub fn reach<'a>(
     n: usize,
-    marks: &[u8; 512],
-    to: &[u16; 2048],
+    marks: &'a [u8; 512],
+    to: &'a [u16; 2048],
     head: &'a [u16; 512],
     link: &'a [u16; 2048],
 ) -> Searched
