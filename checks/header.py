@@ -15,6 +15,7 @@ FILES = {
     "answered": "crates/answers/specs/Answered.antt",
     "lent": "crates/binding/specs/Lent.antt",
     "quoted": "crates/binding/specs/Quoted.antt",
+    "which": "crates/graph/specs/Which.antt",
     "figure": "crates/graph/specs/Figure.antt",
     "graph": "crates/graph/specs/Graph.antt",
     "rules": "crates/rules/src/lib.rt",
@@ -124,13 +125,13 @@ def comparisons(t):
         "MAX_TRANSITIONS": transitions,
         "MAX_DURATION": number(t["limits"], r"leb \(t \.high\) (\d+)"),
         "MAX_IMAGE_OCTETS": octets,
-        "RECORD_OCTETS": number(t["quotations"], r"ltb \(length buffer\) (\d+)"),
+        "RECORD_OCTETS": number(t["quotations"], r"recordRows g buffer = limitRow g ∷ bufferRow buffer (\d+)"),
     }
-    yield "the record's length", constants["RECORD_OCTETS"], number(t["quotations"], r"(?m)^  accepted (\d+)$")
+    yield "the record's length", constants["RECORD_OCTETS"], number(t["quotations"], r"byTable \(recordRows g buffer\) (\d+)")
     marks = {
-        "START": number(t["graph"], r"start g s = eqb \(marksOf g s / (\d) % 2\) 1"),
-        "FINAL": number(t["graph"], r"final g s = eqb \(marksOf g s / (\d) % 2\) 1"),
-        "COUNTED": 1 if "counted g s = eqb (marksOf g s % 2) 1" in t["graph"] else None,
+        "START": number(t["graph"], r"startBit v = v / (\d) % 2"),
+        "FINAL": number(t["graph"], r"finalBit v = v / (\d) % 2"),
+        "COUNTED": 1 if "countedBit v = v % 2" in t["graph"] else None,
     }
     kinds = [("NUMBER" if k == "(number k)" else k, v) for k, v in numbers(t["figure"], r"(?m)^kind (.*) = (\d)$")]
     for name, value in constants.items():
@@ -153,8 +154,9 @@ def comparisons(t):
     room = re.findall(r"canQuote walks out = leb (\d+) \(length walks\) && leb (\d+) \(length out\)", t["quoted"])
     yield "the places of four answers", [(str(4 * states), str(4 * out))], room
     yield "include/callplan.h: the places of four answers", 1, t["header"].count(", walks, 4 * CALLPLAN_MAX_STATES, out, 4 * 4)")
-    order = re.findall(r"numbersOf \(q \.(\w+) \.(\w+)\)", between(t["answered"], "\nfourNumbers q =", "\n"))
-    order = [(f"{extreme}_{what}".upper(), place) for place, (extreme, what) in enumerate(order)]
+    order = [(constant(name), place) for name, place in numbers(t["which"], r"(?m)^place (\w+) = (\d)$")]
+    yield "the figures in turn", [name for name, _ in order], list(map(constant, re.findall(r"f (\w+)", between(t["which"], "\ninTurn f =", "\n"))))
+    yield "the answers in turn", 1, t["answered"].count("fourNumbers q = inTurn (λ which. numbersOf (quoteOf q which))")
     places = numbers(t["header"], r"CALLPLAN_((?:LEAST|GREATEST)_\w+) = (\d)")
     yield "include/callplan.h: the places of the figures", order, places
 
@@ -194,16 +196,18 @@ DAMAGES = [
     ("quoted", "leb 4 (length out)", "leb 5 (length out)"),
     ("quoted", "leb 2048 (length walks)", "leb 2047 (length walks)"),
     ("quoted", "leb 16 (length out)", "leb 15 (length out)"),
-    ("answered", "fourNumbers q = numbersOf (q .least .delay)", "fourNumbers q = numbersOf (q .least .count)"),
+    ("answered", "inTurn (λ which.", "inTurn (λ other."),
+    ("which", "place GreatestDelay = 1", "place GreatestDelay = 2"),
+    ("which", "inTurn f = f LeastDelay", "inTurn f = f LeastCount"),
     ("limits", "leb n 512", "leb n 511"),
     ("limits", "leb m 2048", "leb m 4096"),
     ("limits", "leb (t .high) 2047", "leb (t .high) 2046"),
     ("image", "4 + n + 5 * m", "4 + n + 6 * m"),
-    ("quotations", "ltb (length buffer) 11", "ltb (length buffer) 16"),
-    ("quotations", "accepted 11", "accepted 16"),
-    ("graph", "marksOf g s / 4 % 2", "marksOf g s / 8 % 2"),
-    ("graph", "marksOf g s / 2 % 2", "marksOf g s / 4 % 2"),
-    ("graph", "counted g s = eqb (marksOf g s % 2) 1", "counted g s = eqb (marksOf g s / 8 % 2) 1"),
+    ("quotations", "bufferRow buffer 11", "bufferRow buffer 16"),
+    ("quotations", "(recordRows g buffer) 11", "(recordRows g buffer) 16"),
+    ("graph", "startBit v = v / 4", "startBit v = v / 8"),
+    ("graph", "finalBit v = v / 2", "finalBit v = v / 4"),
+    ("graph", "countedBit v = v % 2", "countedBit v = v / 8 % 2"),
     ("figure", "kind STRANDED = 2", "kind STRANDED = 3"),
     ("header", "uint32_t callplan_lent_read(", "uint64_t callplan_lent_read("),
     ("header", "uint32_t callplan_lent_write(const size_t *counts", "uint32_t callplan_lent_write(size_t *counts"),

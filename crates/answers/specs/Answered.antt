@@ -1,15 +1,17 @@
 -- The numbers of a figure in the places of an answer. Document 01, "The quotation record", for the kind and the figure. Assumes nothing.
-use mathlib.Core.List.{List, [], _∷_, _++_}
+use mathlib.Core.List.{List, [], _∷_}
 use mathlib.Core.Path.{_≡_}
 use Prim.Native.Nat.{ℕ}
+use Rattle.graph.specs.declared.Which.{Which}
 use Rattle.graph.specs.Figure.{Figure, kind, value}
+use Rattle.graph.specs.Which.{inTurn}
 use Rattle.rules.specs.declared.Quote.{Quote}
 use Rattle.rules.specs.declared.FourQuotes.{FourQuotes}
 use Rattle.rules.specs.declared.Quotation.{Quotation}
 use Rattle.rules.specs.declared.Quotation.the-variants.{Quoted, Refused}
 use Rattle.rules.specs.declared.Quotations.{Quotations}
 use Rattle.rules.specs.declared.Quotations.the-variants.{Quoted as AllQuoted, Refused as NoneQuoted}
-use Rattle.rules.specs.Quotations.{SmallQuote, FourSmall, meant}
+use Rattle.rules.specs.Quotations.{SmallQuote, quoteOf, meant}
 use Rattle.rules.specs.Refusal.{number}
 use Rattle.arrays.specs.Tables.{over}
 
@@ -34,9 +36,12 @@ Answered (Refused k) before after r = (r ≡ number k) × (after ≡ before)
 
 -- the numbers of four quotes, "least delay, greatest delay, least count, greatest count in turn"
 abbrev pub fourNumbers : FourQuotes → List ℕ
-fourNumbers q = numbersOf (q .least .delay) ++ numbersOf (q .greatest .delay) ++ numbersOf (q .least .count) ++ numbersOf (q .greatest .count)
+fourNumbers q = inTurn (λ which. numbersOf (quoteOf q which))
 
--- the same of four
+-- k and j of each are small enough
+abbrev pub FourSmall : FourQuotes → Type 0
+FourSmall q = (which : Which) → SmallQuote (quoteOf q which)
+
 abbrev pub AllSmall : Quotations → Type 0
 AllSmall r = (q : FourQuotes) → r ≡ AllQuoted q → FourSmall q
 

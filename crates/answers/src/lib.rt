@@ -4,8 +4,8 @@ ghost use Prim.Native.Nat.{_+_, _≤_};
 ghost use lib.ListN.{length};
 ghost use lib.Seq.{paste};
 ghost use Rattle.arrays.specs.Tables.{over};
-ghost use Rattle.rules.specs.Quotations.{SmallQuote, FourSmall};
-ghost use Rattle.answers.specs.Answered.{numbersOf, Small, Answered, fourNumbers, AllSmall, AllAnswered};
+ghost use Rattle.rules.specs.Quotations.{SmallQuote};
+ghost use Rattle.answers.specs.Answered.{numbersOf, Small, Answered, fourNumbers, FourSmall, AllSmall, AllAnswered};
 use rules::FourQuotes;
 use rules::Quotation;
 use rules::Quotations;
@@ -49,16 +49,14 @@ fn put_quotes(quotes: FourQuotes, out: &mut [u32])
     requires { ⌜ 16 ≤ length (now out) ⌝ }
     ensures { λ r. ⌜ now (out .exit) ≡ over (fourNumbers quotes) (now (out .entry)) ⌝ }
 {
-    let least = quotes.least;
-    let greatest = quotes.greatest;
-    let first = least.delay;
-    let second = greatest.delay;
-    let third = least.count;
-    let fourth = greatest.count;
-    put_quote(first, out, 0);
-    put_quote(second, out, 4);
-    put_quote(third, out, 8);
-    put_quote(fourth, out, 12);
+    let least_delay = quotes.least_delay;
+    let greatest_delay = quotes.greatest_delay;
+    let least_count = quotes.least_count;
+    let greatest_count = quotes.greatest_count;
+    put_quote(least_delay, out, 0);
+    put_quote(greatest_delay, out, 4);
+    put_quote(least_count, out, 8);
+    put_quote(greatest_count, out, 12);
 }
 
 // Puts the numbers of four accepted quotations at the front of a slice, and gives the number of their answer.

@@ -60,10 +60,10 @@ module _ (image walks out : List ℕ) where
     quotes-refused x n d a = record {
       short = λ s. true-false (canQuote walks out) (enough h l) s;
       refusal = λ s k i.
-          let z : _≡_ {A = Result (Unit {0})} (refused (number x)) (refused k) = sym (ap said a) ∙ e .answer ∙ ap answerOf i in
-          let y : n ≡ k = cc in
+          let z : _≡_ {A = Result (Unit {0})} (refused x) (refused k) = sym (ap said a) ∙ e .answer ∙ ap answerOf i in
+          let y : n ≡ number k = cc in
           (y, refl, refl);
-      quoted = λ s g i. absurd (never tt (number x) (sym (ap said a) ∙ e .answer ∙ ap answerOf i));
+      quoted = λ s g i. absurd (never tt x (sym (ap said a) ∙ e .answer ∙ ap answerOf i));
     }
 
     pub quotes-done : (walks′ out′ : List ℕ) (q : Quotations) (r : ℕ) → f .answer ≡ Accepted → QuotesAll (view (f .plan)) walks walks′ q

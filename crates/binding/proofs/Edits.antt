@@ -8,7 +8,7 @@ use native.Mathlib.Omega.{arith}
 use Rattle.graph.specs.Graph.{Graph}
 use Rattle.rules.specs.declared.Answer.{Answer}
 use Rattle.rules.specs.declared.Answer.the-variants.{Accepted, Refused}
-use Rattle.rules.specs.Refusal.{Result, accepted, refused, number, answerOf, said, code}
+use Rattle.rules.specs.Refusal.{Result, accepted, refused, answerOf, said, code}
 use Rattle.rules.specs.Rules.{next}
 use Rattle.rules.proofs.Results.{accepted-as, refused-as}
 use Rattle.plan.specs.declared.Plan.{Plan}
@@ -46,10 +46,10 @@ by-answer Accepted p q s s′ o r room e v f =
       whole = λ h. f .1 ∙ ap (λ (x : Plan). storing x s) (w .1) ∙ sym (ap (nextSlices p s) (g .1));
     }
 by-answer (Refused k) p q s s′ o r room e v f =
-    let g = refused-as o (number k) e in
+    let g = refused-as o k e in
     record {
       short = λ h. true-false (hasRoom s) room h;
-      answer = λ h. f .0 ∙ code-of o (refused (number k)) e;
+      answer = λ h. f .0 ∙ code-of o (refused k) e;
       plan = λ h. ap (λ (x : Slices). view (planIn x)) (f .1) ∙ ap (next (view (planIn s))) (sym g);
       whole = λ h. f .1 ∙ sym (ap (nextSlices p s) g);
     }

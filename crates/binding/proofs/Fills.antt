@@ -1,27 +1,23 @@
 -- What a filling of a lent buffer promises. The octets of an image or of a record are few, so their number fits the answer; and the promise of the
 -- plan's own call, on the plan value that was loaded, is the promise on the slices.
 -- Assumes nothing.
-use mathlib.Core.Bool.{true, false, _||_}
+use mathlib.Core.Bool.{true, false}
 use mathlib.Core.List.{List}
 use mathlib.Core.Path.{_≡_, refl, sym, ap, _∙_}
 use Prim.Native.Nat.{ℕ, _≤_}
 use native.Mathlib.Omega.{arith}
-use lib.Dec.{ltb}
-use lib.ListN.{length}
 use Rattle.graph.specs.Graph.{Graph, states, count}
-use Rattle.graph.specs.Compute.{leastDelay, greatestDelay, leastCount, greatestCount}
-use Rattle.rules.specs.declared.Refusal.the-variants.{PlanLimits, BufferLength, FigureSize}
 use Rattle.rules.specs.declared.Written.{Written}
 use Rattle.rules.specs.Image.{imageLength}
 use Rattle.rules.specs.Limits.{within}
-use Rattle.rules.specs.Quotations.{recordRule, tooLarge}
-use Rattle.rules.specs.Refusal.{Result, accepted, _>>_, refuseIf, wrote}
-use Rattle.rules.specs.Rules.{givenPlan, writeRule, written}
-use Rattle.rules.proofs.Results.{then-accepted, holds}
+use Rattle.rules.specs.Quotations.{Write, recordRows, recordRule}
+use Rattle.rules.specs.Refusal.{Result, accepted, wrote}
+use Rattle.rules.specs.Rules.{writeRows, writeRule, written}
 use Rattle.rules.proofs.ReadWrite.{limited}
+use Rattle.rules.proofs.Results.{not-false}
+use Rattle.rules.proofs.Tables.{accepted-only}
 use Rattle.plan.specs.declared.Plan.{Plan}
 use Rattle.plan.specs.View.{view}
-use Rattle.plan.specs.Promise.{Write}
 use Rattle.slices.specs.Lent.{Slices, hasRoom, planIn}
 use Rattle.binding.specs.declared.Content.{Content}
 use Rattle.binding.specs.declared.Content.the-variants.{Image, Record}
@@ -29,30 +25,13 @@ use Rattle.binding.specs.Lent.{LentWrite, lengthCode}
 use Rattle.binding.specs.Shapes.{octetsOf, ruleOf}
 use Rattle.binding.proofs.Edits.{true-false}
 
--- no image is longer than that of 512 states and 2,048 transitions
-write-length : (g : Graph) (b : List ℕ) (n : ℕ) → accepted n ≡ writeRule g b → n ≤ 10756
-unfolding writeRule
-write-length g b n e =
-    let k : ℕ = imageLength (states g) (count g) in
-    let p = then-accepted (givenPlan g) (refuseIf (ltb (length b) k) BufferLength >> accepted k) n (sym e) in
-    let q = then-accepted (refuseIf (ltb (length b) k) BufferLength) (accepted k) n (p .1) in
-    let s : k ≡ n = cc in
-    omega (arith, limited g (holds (within g) PlanLimits (p .0)))
-
--- a record has 11 octets
-record-length : (g : Graph) (b : List ℕ) (n : ℕ) → accepted n ≡ recordRule g b → n ≤ 10756
-unfolding recordRule
-record-length g b n e =
-    let large = tooLarge (leastDelay g) || tooLarge (greatestDelay g) || tooLarge (leastCount g) || tooLarge (greatestCount g) in
-    let p = then-accepted (givenPlan g) (refuseIf (ltb (length b) 11) BufferLength >> (refuseIf large FigureSize >> accepted 11)) n (sym e) in
-    let q = then-accepted (refuseIf (ltb (length b) 11) BufferLength) (refuseIf large FigureSize >> accepted 11) n (p .1) in
-    let r = then-accepted (refuseIf large FigureSize) (accepted 11) n (q .1) in
-    let s : 11 ≡ n = cc in
-    omega arith
-
+-- no image is longer than that of 512 states and 2,048 transitions, and a record has 11 octets
 pub few : (content : Content) (g : Graph) (b : List ℕ) (n : ℕ) → accepted n ≡ ruleOf content g b → n ≤ 10756
-few Image g b n e = write-length g b n e
-few Record g b n e = record-length g b n e
+unfolding writeRule recordRule
+few Image g b n e =
+    let k = accepted-only (writeRows g b) (imageLength (states g) (count g)) n (sym e) in
+    omega (arith, limited g (not-false (within g) (k .0 .0)), k .1)
+few Record g b n e = omega (arith, accepted-only (recordRows g b) 11 n (sym e) .1)
 
 -- ---- the promise on the slices
 

@@ -9,46 +9,29 @@ use Prim.Native.Nat.{ℕ, _≤_, _<_}
 use borrow.Author.Tests.{lt-leb, le-leb}
 use lib.ListN.{length}
 use Rattle.graph.specs.Graph.{Graph}
-use Rattle.graph.specs.Figure.{Figure, leastDelayCost, greatestDelayCost, countCost}
-use Rattle.graph.specs.Route.{Cost}
+use Rattle.graph.specs.declared.Which.{Which}
 use Rattle.rules.specs.declared.Quotation.{Quotation}
 use Rattle.rules.specs.declared.Quotation.the-variants.{Quoted, Refused}
-use Rattle.rules.specs.Quotations.{Says, Shows, Quotes, quoteRule, saidQuotation, meant}
-use Rattle.rules.specs.Refusal.{Result, accepted, code}
-use Rattle.rules.specs.Refusal.{number as numberOf}
-use Rattle.rules.proofs.Results.{never}
+use Rattle.rules.specs.Quotations.{Quotes, quoteRows, quoteRule, saidQuotation, meant}
+use Rattle.rules.specs.Refusal.{Result, code}
+use Rattle.rules.specs.Limits.{within}
+use Rattle.rules.proofs.Results.{never, not-false}
+use Rattle.rules.proofs.Tables.{accepted-only}
 use Rattle.plan.specs.declared.Plan.{Plan}
 use Rattle.plan.specs.View.{view}
-use Rattle.quotation.proofs.Asked.{accepted-within}
 use Rattle.quotation.proofs.Small.{small-quote}
 use Rattle.slices.specs.Lent.{Slices, hasRoom, planIn}
-use Rattle.binding.specs.declared.Which.{Which}
-use Rattle.binding.specs.declared.Which.the-variants.{LeastDelay, GreatestDelay, LeastCount, GreatestCount}
-use Rattle.binding.specs.Shapes.{says}
 use Rattle.answers.specs.Answered.{Small, Answered}
 use Rattle.binding.specs.Quoted.{canAnswer, LentQuote}
 use Rattle.binding.proofs.Edits.{true-false}
 
 -- ---- k and j fit
 
--- the cost of each figure
-costOf : Which → Graph → Cost
-costOf LeastDelay g = leastDelayCost g
-costOf GreatestDelay g = greatestDelayCost g
-costOf LeastCount g = countCost g
-costOf GreatestCount g = countCost g
-
-shows : (which : Which) (g : Graph) (f : Figure) (k j : ℕ) (before after : List ℕ) → says which g f k j before after → Shows g (costOf which g) f k j before after
-unfolding costOf
-shows LeastDelay g f k j before after s = s .shows
-shows GreatestDelay g f k j before after s = s .shows
-shows LeastCount g f k j before after s = s .shows
-shows GreatestCount g f k j before after s = s .shows
-
-pub small : (which : Which) (g : Graph) (walk walk′ : List ℕ) (r : Quotation) → Quotes (says which g) g walk walk′ r → Small r
+pub small : (which : Which) (g : Graph) (walk walk′ : List ℕ) (r : Quotation) → Quotes which g walk walk′ r → Small r
+unfolding quoteRule
 small which g walk walk′ r x q e =
-    let a : quoteRule g walk ≡ accepted tt = sym (x .answer) ∙ ap saidQuotation e in
-    small-quote g (accepted-within g walk a) (costOf which g) q walk walk′ (shows which g (meant (q .figure)) (q .k) (q .j) walk walk′ (x .quoted q e))
+    let k = accepted-only (quoteRows g walk) tt tt (sym (x .answer) ∙ ap saidQuotation e) in
+    small-quote g (not-false (within g) (k .0 .0)) which q walk walk′ (x .quoted q e)
 
 -- ---- the promise on the slices
 
@@ -62,8 +45,8 @@ module _ (s : Slices) (out : List ℕ) where
   pub enough : hasRoom s ≡ true → 4 ≤ length out → canAnswer s out ≡ true
   enough h l = rw (h, le-leb 4 (length out) l) refl
 
-pub quote-short : (P : Graph → Says) (s : Slices) (walk out : List ℕ) → canAnswer s out ≡ false → LentQuote P s walk walk out out 255
-quote-short P s walk out e =
+pub quote-short : (which : Which) (s : Slices) (walk out : List ℕ) → canAnswer s out ≡ false → LentQuote which s walk walk out out 255
+quote-short which s walk out e =
     record {
       short = λ h. (refl, refl, refl);
       answer = λ h. true-false (canAnswer s out) h e;
@@ -72,21 +55,21 @@ quote-short P s walk out e =
     }
 
 -- a quotation of the plan's own whose numbers were put keeps its promise on the slices
-pub quote-finished : (P : Graph → Says) (p : Plan) (s : Slices) (walk walk′ out out′ : List ℕ) (q : Quotation) (r : ℕ) → canAnswer s out ≡ true → p ≡ planIn s
-    → Quotes (P (view p)) (view p) walk walk′ q → Answered q out out′ r → LentQuote P s walk walk′ out out′ r
-quote-finished P p s walk walk′ out out′ (Quoted q) r room h x a =
-    let y : Quotes (P (view (planIn s))) (view (planIn s)) walk walk′ (Quoted q) = rw h at x in
+pub quote-finished : (which : Which) (p : Plan) (s : Slices) (walk walk′ out out′ : List ℕ) (q : Quotation) (r : ℕ) → canAnswer s out ≡ true → p ≡ planIn s
+    → Quotes which (view p) walk walk′ q → Answered q out out′ r → LentQuote which s walk walk′ out out′ r
+quote-finished which p s walk walk′ out out′ (Quoted q) r room h x a =
+    let y : Quotes which (view (planIn s)) walk walk′ (Quoted q) = rw h at x in
     record {
       short = λ e. true-false (canAnswer s out) room e;
       answer = λ _. a .0 ∙ ap (λ (o : Result (Unit {0})). code o) (y .answer);
       kept = λ _ k e. absurd (never tt k (sym e ∙ sym (y .answer)));
       quoted = λ _ e. record { figure = meant (q .figure); k = q .k; j = q .j; says = y .quoted q refl; places = a .1 };
     }
-quote-finished P p s walk walk′ out out′ (Refused n) r room h x a =
-    let y : Quotes (P (view (planIn s))) (view (planIn s)) walk walk′ (Refused n) = rw h at x in
+quote-finished which p s walk walk′ out out′ (Refused n) r room h x a =
+    let y : Quotes which (view (planIn s)) walk walk′ (Refused n) = rw h at x in
     record {
       short = λ e. true-false (canAnswer s out) room e;
       answer = λ _. a .0 ∙ ap (λ (o : Result (Unit {0})). code o) (y .answer);
       kept = λ _ k e. (y .kept k e, a .1);
-      quoted = λ _ e. absurd (never tt (numberOf n) (y .answer ∙ e));
+      quoted = λ _ e. absurd (never tt n (y .answer ∙ e));
     }

@@ -4,7 +4,7 @@ use mathlib.Core.List.{List, [], _∷_}
 use mathlib.Core.Path.{_≡_}
 use Prim.Native.Nat.{ℕ, _+_}
 use Rattle.graph.specs.Graph.{Graph}
-use Rattle.rules.specs.Refusal.{Result, accepted, refused, code}
+use Rattle.rules.specs.Refusal.{Result, accepted, refused, number, code}
 use Rattle.rules.specs.Calls.{Call, step}
 use Rattle.rules.specs.Rules.{next, written}
 use Rattle.plan.specs.declared.Plan.{Plan}
@@ -27,7 +27,7 @@ pub record LentEdit (p : Plan) (before after : Slices) (o : Result Graph) (r : �
 -- the number that a call answers which fills a lent buffer: 256 plus the octets' number
 abbrev pub lengthCode : Result ℕ → ℕ
 lengthCode (accepted n) = 256 + n
-lengthCode (refused k) = k
+lengthCode (refused k) = number k
 
 -- a call that puts octets of the plan that lent slices hold at the front of a lent buffer, and for which the rules give o
 pub record LentWrite (s : Slices) (octets : List ℕ) (o : Result ℕ) (before after : List ℕ) (r : ℕ) : Type 0 where

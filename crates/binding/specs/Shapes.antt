@@ -1,10 +1,10 @@
--- The calls by their shapes: an edit, a filling of a buffer and a quotation, each by an index. Assumes nothing.
+-- The calls by their shapes: an edit, and a filling of a buffer, each by an index. Assumes nothing.
 use mathlib.Core.List.{List}
 use Prim.Native.Nat.{ℕ}
 use Rattle.graph.specs.Graph.{Graph}
 use Rattle.rules.specs.Calls.{Call, mark, join, unjoin, read}
 use Rattle.rules.specs.Image.{image}
-use Rattle.rules.specs.Quotations.{Says, LeastDelay, GreatestDelay, LeastCount, GreatestCount, recordOctets, recordRule}
+use Rattle.rules.specs.Quotations.{recordOctets, recordRule}
 use Rattle.rules.specs.Refusal.{Result}
 use Rattle.rules.specs.Rules.{writeRule}
 use Rattle.arrays.specs.Tables.{transition}
@@ -12,8 +12,6 @@ use Rattle.binding.specs.declared.Change.{Change}
 use Rattle.binding.specs.declared.Change.the-variants.{Mark, Join, Unjoin, Read}
 use Rattle.binding.specs.declared.Content.{Content}
 use Rattle.binding.specs.declared.Content.the-variants.{Image, Record}
-use Rattle.binding.specs.declared.Which.{Which}
-use Rattle.binding.specs.declared.Which.the-variants.{LeastDelay as leastDelay, GreatestDelay as greatestDelay, LeastCount as leastCount, GreatestCount as greatestCount}
 
 -- the call that an edit is, "for read the octets lent to it"
 abbrev pub callOf : Change → List ℕ → Call
@@ -30,10 +28,3 @@ octetsOf Record g = recordOctets g
 abbrev pub ruleOf : Content → Graph → List ℕ → Result ℕ
 ruleOf Image g buffer = writeRule g buffer
 ruleOf Record g buffer = recordRule g buffer
-
--- "least delay, greatest delay, least count, greatest count": what an accepted quotation says
-abbrev pub says : Which → Graph → Says
-says leastDelay g = LeastDelay g
-says greatestDelay g = GreatestDelay g
-says leastCount g = LeastCount g
-says greatestCount g = GreatestCount g

@@ -4,16 +4,18 @@
 // figure's kind (0 number, 1 NONE, 2 STRANDED, 3 ENDLESS) and number, k and j. One call takes no plan: an image in, its four figures out.
 // Edits, fillings and quotations are each one private function, by an index; the exported functions hand on to it.
 ghost use Rattle.arrays.specs.Tables.{transition};
-ghost use Rattle.plan.specs.Promise.{Edit, Write};
+ghost use Rattle.graph.specs.declared.Which.the-variants.{LeastDelay, GreatestDelay, LeastCount, GreatestCount};
+ghost use Rattle.plan.specs.Promise.{Edit};
 ghost use Rattle.plan.specs.View.{view, noPlan};
-ghost use Rattle.rules.specs.Calls.{step};
+ghost use Rattle.rules.specs.Calls.{step, mark, join, unjoin, read};
 ghost use Rattle.rules.specs.Image.{image};
-ghost use Rattle.rules.specs.Quotations.{Quotes, recordOctets, recordRule, LeastDelay, GreatestDelay, LeastCount, GreatestCount};
-ghost use Rattle.rules.specs.Rules.{freshRule, markRule, joinRule, unjoinRule, readRule, writeRule};
+ghost use Rattle.rules.specs.Quotations.{Quotes, Write, recordOctets, recordRule};
+ghost use Rattle.rules.specs.Rules.{freshRule, writeRule};
 ghost use Rattle.slices.specs.Lent.{lentPlan, slices};
 ghost use Rattle.binding.specs.Lent.{LentEdit, LentWrite};
-ghost use Rattle.binding.specs.Shapes.{callOf, octetsOf, ruleOf, says};
+ghost use Rattle.binding.specs.Shapes.{callOf, octetsOf, ruleOf};
 ghost use Rattle.binding.specs.Quoted.{LentQuote, LentQuotes};
+use graph::Which;
 use plan::Edited;
 use plan::Plan;
 use rules::Answer;
@@ -32,14 +34,6 @@ enum Change {
 enum Content {
     Image,
     Record,
-}
-
-// Which of the four figures is quoted.
-enum Which {
-    LeastDelay,
-    GreatestDelay,
-    LeastCount,
-    GreatestCount,
 }
 
 // One edit of a plan.
@@ -106,8 +100,8 @@ pub extern "C" fn callplan_lent_mark(
     ensures { λ r. ⌜ LentEdit (lentPlan (now (counts .entry)) (now (marks .entry)) (now (fields .entry)))
         (slices (now (counts .entry)) (now (marks .entry)) (now (fields .entry)))
         (slices (now (counts .exit)) (now (marks .exit)) (now (fields .exit)))
-        (markRule (view (lentPlan (now (counts .entry)) (now (marks .entry)) (now (fields .entry))))
-        state value) r ⌝ }
+        (step (view (lentPlan (now (counts .entry)) (now (marks .entry)) (now (fields .entry))))
+        (mark state value)) r ⌝ }
 {
     edit(
         Change::Mark(state, value as usize),
@@ -132,8 +126,8 @@ pub extern "C" fn callplan_lent_join(
     ensures { λ r. ⌜ LentEdit (lentPlan (now (counts .entry)) (now (marks .entry)) (now (fields .entry)))
         (slices (now (counts .entry)) (now (marks .entry)) (now (fields .entry)))
         (slices (now (counts .exit)) (now (marks .exit)) (now (fields .exit)))
-        (joinRule (view (lentPlan (now (counts .entry)) (now (marks .entry)) (now (fields .entry))))
-        (transition from to low high)) r ⌝ }
+        (step (view (lentPlan (now (counts .entry)) (now (marks .entry)) (now (fields .entry))))
+        (join (transition from to low high))) r ⌝ }
 {
     let change = Change::Join(from, to, low as usize, high as usize);
     edit(change, b"", counts, marks, fields)
@@ -150,8 +144,8 @@ pub extern "C" fn callplan_lent_unjoin(
     ensures { λ r. ⌜ LentEdit (lentPlan (now (counts .entry)) (now (marks .entry)) (now (fields .entry)))
         (slices (now (counts .entry)) (now (marks .entry)) (now (fields .entry)))
         (slices (now (counts .exit)) (now (marks .exit)) (now (fields .exit)))
-        (unjoinRule (view (lentPlan (now (counts .entry)) (now (marks .entry)) (now (fields .entry))))
-        number) r ⌝ }
+        (step (view (lentPlan (now (counts .entry)) (now (marks .entry)) (now (fields .entry))))
+        (unjoin number)) r ⌝ }
 {
     edit(Change::Unjoin(number), b"", counts, marks, fields)
 }
@@ -167,8 +161,8 @@ pub extern "C" fn callplan_lent_read(
     ensures { λ r. ⌜ LentEdit (lentPlan (now (counts .entry)) (now (marks .entry)) (now (fields .entry)))
         (slices (now (counts .entry)) (now (marks .entry)) (now (fields .entry)))
         (slices (now (counts .exit)) (now (marks .exit)) (now (fields .exit)))
-        (readRule (view (lentPlan (now (counts .entry)) (now (marks .entry)) (now (fields .entry))))
-        (now (octets .entry))) r ⌝ }
+        (step (view (lentPlan (now (counts .entry)) (now (marks .entry)) (now (fields .entry))))
+        (read (now (octets .entry)))) r ⌝ }
 {
     edit(Change::Read, octets, counts, marks, fields)
 }
@@ -221,7 +215,7 @@ pub extern "C" fn callplan_lent_write(
 
 // One quotation of a plan.
 fn ask(which: Which, plan: Plan, walk: &mut [u16]) -> Quotation
-    ensures { λ r. ⌜ Quotes (says which (view plan)) (view plan) (now (walk .entry)) (now (walk .exit)) r ⌝ }
+    ensures { λ r. ⌜ Quotes which (view plan) (now (walk .entry)) (now (walk .exit)) r ⌝ }
 {
     match which {
         Which::LeastDelay => quotation::least_delay(plan, walk),
@@ -240,7 +234,7 @@ fn quote(
     walk: &mut [u16],
     out: &mut [u32],
 ) -> u32
-    ensures { λ r. ⌜ LentQuote (says which)
+    ensures { λ r. ⌜ LentQuote which
         (slices (now (counts .entry)) (now (marks .entry)) (now (fields .entry)))
         (now (walk .entry)) (now (walk .exit)) (now (out .entry)) (now (out .exit)) r ⌝ }
 {

@@ -1,11 +1,15 @@
 -- What a plan value means: the lists that its arrays and counts stand for. What stands in the arrays past the counts is no part of the plan.
 -- Document 01, "The plan and its edits" and "Choosing the form by place". Assumes nothing.
-use mathlib.Core.List.{map}
+use mathlib.Core.List.{List, map}
 use Prim.Native.Nat.{ℕ}
 use lib.ListN.{replicate}
 use Rattle.graph.specs.Graph.{Graph, State, Transition, states, count}
 use Rattle.arrays.specs.Tables.{graphOf, over}
 use Rattle.plan.specs.declared.Plan.{Plan}
+
+-- a plan value by its parts
+abbrev pub planOf : ℕ → ℕ → List ℕ → List ℕ → List ℕ → List ℕ → List ℕ → Plan
+planOf n m marks from to low high = record { states = n; transitions = m; marks = marks; from = from; to = to; low = low; high = high }
 
 -- the plan that a plan value stands for, whatever the value is
 unfoldable pub view : Plan → Graph

@@ -6,7 +6,7 @@ ghost use Rattle.rules.specs.Calls.{step, mark, join, unjoin, read};
 ghost use Rattle.rules.specs.Quotations.{Write};
 ghost use Rattle.rules.specs.Rules.{freshRule, writeRule};
 ghost use Rattle.arrays.specs.Tables.{transition};
-ghost use Rattle.plan.specs.View.{view, blankPlan, noPlan};
+ghost use Rattle.plan.specs.View.{view, planOf, blankPlan, noPlan};
 ghost use Rattle.plan.specs.Promise.{Edit, Held, refusing, accepting};
 use arrays::limits;
 use arrays::places;
@@ -33,22 +33,38 @@ pub struct Edited {
     pub plan: Plan,
 }
 
-// Whether a plan value is within the limits of a plan.
-pub fn within(plan: Plan) -> bool
-    ensures { λ r. ⌜ r ≡ withinLimits (view plan) ⌝ }
+// Whether the counts and arrays of a plan value are within the limits of a plan.
+fn in_limits<'a>(
+    n: usize,
+    m: usize,
+    marks: &'a [u8; 512],
+    from: &'a [u16; 2048],
+    to: &'a [u16; 2048],
+    low: &'a [u16; 2048],
+    high: &'a [u16; 2048],
+) -> bool
+    ensures { λ r. ⌜ r ≡ withinLimits (view (planOf n m (now (marks .entry))
+        (now (from .entry)) (now (to .entry)) (now (low .entry)) (now (high .entry)))) ⌝ }
 {
-    let n = plan.states;
-    let m = plan.transitions;
     if !limits::state_count_ok(n) {
         return false;
     }
     if 2048 < m {
         return false;
     }
-    if !limits::marks_within(&plan.marks, n) {
+    if !limits::marks_within(marks, n) {
         return false;
     }
-    limits::transitions_within(&plan.from, &plan.to, &plan.low, &plan.high, n, m)
+    limits::transitions_within(from, to, low, high, n, m)
+}
+
+// Whether a plan value is within the limits of a plan.
+pub fn within(plan: Plan) -> bool
+    ensures { λ r. ⌜ r ≡ withinLimits (view plan) ⌝ }
+{
+    let n = plan.states;
+    let m = plan.transitions;
+    in_limits(n, m, &plan.marks, &plan.from, &plan.to, &plan.low, &plan.high)
 }
 
 // A refusal, with the plan as it was.
@@ -97,11 +113,12 @@ pub fn fresh(n: usize) -> Edited
 }
 
 // Makes a state's marks value the value given.
-pub fn mark(plan: Plan, state: usize, value: usize) -> Edited
+pub fn mark(mut plan: Plan, state: usize, value: usize) -> Edited
     ensures { λ r. ⌜ Edit plan (step (view plan) (mark state value)) r ⌝ }
 {
-    let sound = within(plan);
     let n = plan.states;
+    let m = plan.transitions;
+    let sound = in_limits(n, m, &plan.marks, &plan.from, &plan.to, &plan.low, &plan.high);
     if !sound {
         return refuse(plan, Refusal::PlanLimits); // 0: the plan
     }
@@ -111,20 +128,20 @@ pub fn mark(plan: Plan, state: usize, value: usize) -> Edited
     if 7 < value {
         return refuse(plan, Refusal::MarksValue); // 12: the value
     }
-    let mut marked = plan;
-    marked.marks[state] = value as u8;
-    accept(marked)
+    plan.marks[state] = value as u8;
+    accept(plan)
 }
 
 // Puts a transition at the end of the list.
-pub fn join(plan: Plan, from: usize, to: usize, low: usize, high: usize) -> Edited
+pub fn join(mut plan: Plan, from: usize, to: usize, low: usize, high: usize) -> Edited
     ensures { λ r. ⌜ Edit plan (step (view plan) (join (transition from to low high))) r ⌝ }
 {
-    if !within(plan) {
-        return refuse(plan, Refusal::PlanLimits);
-    }
     let n = plan.states;
     let m = plan.transitions;
+    let sound = in_limits(n, m, &plan.marks, &plan.from, &plan.to, &plan.low, &plan.high);
+    if !sound {
+        return refuse(plan, Refusal::PlanLimits);
+    }
     let grounds = limits::checked(n, from, to, low, high);
     if let Answer::Refused(r) = grounds {
         return refuse(plan, r);
@@ -132,27 +149,27 @@ pub fn join(plan: Plan, from: usize, to: usize, low: usize, high: usize) -> Edit
     if 2048 <= m {
         return refuse(plan, Refusal::ListFull);
     }
-    let mut joined = plan;
-    joined.from[m] = from as u16;
-    joined.to[m] = to as u16;
-    joined.low[m] = low as u16;
-    joined.high[m] = high as u16;
-    joined.transitions = m + 1;
-    accept(joined)
+    plan.from[m] = from as u16;
+    plan.to[m] = to as u16;
+    plan.low[m] = low as u16;
+    plan.high[m] = high as u16;
+    plan.transitions = m + 1;
+    accept(plan)
 }
 
 // Takes a transition out of the list; later ones move down by one.
 pub fn unjoin(plan: Plan, number: usize) -> Edited
     ensures { λ r. ⌜ Edit plan (step (view plan) (unjoin number)) r ⌝ }
 {
-    if !within(plan) {
+    let n = plan.states;
+    let m = plan.transitions;
+    let sound = in_limits(n, m, &plan.marks, &plan.from, &plan.to, &plan.low, &plan.high);
+    if !sound {
         return refuse(plan, Refusal::PlanLimits);
     }
-    let m = plan.transitions;
     if m <= number {
         return refuse(plan, Refusal::TransitionNumber);
     }
-    let n = plan.states;
     let marks = plan.marks;
     let from = plan.from;
     let to = plan.to;
@@ -200,7 +217,10 @@ fn replace(plan: Plan, octets: &[u8]) -> Edited
 pub fn read(plan: Plan, octets: &[u8]) -> Edited
     ensures { λ r. ⌜ Edit plan (step (view plan) (read (now (octets .entry)))) r ⌝ }
 {
-    if !within(plan) {
+    let n = plan.states;
+    let m = plan.transitions;
+    let sound = in_limits(n, m, &plan.marks, &plan.from, &plan.to, &plan.low, &plan.high);
+    if !sound {
         return refuse(plan, Refusal::PlanLimits);
     }
     replace(plan, octets)
@@ -218,11 +238,12 @@ pub fn write(plan: Plan, buffer: &mut [u8]) -> Written
     ensures { λ r. ⌜ Write (image (view plan)) (writeRule (view plan) (now (buffer .entry)))
         (now (buffer .entry)) (now (buffer .exit)) r ⌝ }
 {
-    if !within(plan) {
-        return Written::Refused(Refusal::PlanLimits);
-    }
     let n = plan.states;
     let m = plan.transitions;
+    let sound = in_limits(n, m, &plan.marks, &plan.from, &plan.to, &plan.low, &plan.high);
+    if !sound {
+        return Written::Refused(Refusal::PlanLimits);
+    }
     let length = image::size(n, m);
     if buffer.len() < length {
         return Written::Refused(Refusal::BufferLength);

@@ -46,9 +46,9 @@ fn field_of(places: &[u16], at: usize) -> [u16; 2048]
 }
 
 // Puts 512 octets at the front of a slice.
-fn put_marks(places: &mut [u8], marks: [u8; 512])
-    requires { ⌜ 512 ≤ length (now places) ⌝ }
-    ensures { λ r. ⌜ now (places .exit) ≡ paste (now (places .entry)) 0 marks 512 ⌝ }
+fn put_marks(places: &mut [u8], marks: &[u8; 512])
+    requires { ⌜ (512 ≤ length (now places)) × (length (now marks) ≡ 512) ⌝ }
+    ensures { λ r. ⌜ now (places .exit) ≡ paste (now (places .entry)) 0 (now (marks .entry)) 512 ⌝ }
 {
     let mut i = 0;
     while i < 512 {
@@ -58,9 +58,9 @@ fn put_marks(places: &mut [u8], marks: [u8; 512])
 }
 
 // Puts 2,048 numbers into a slice, from a place on.
-fn put_field(places: &mut [u16], at: usize, field: [u16; 2048])
-    requires { ⌜ at + 2048 ≤ length (now places) ⌝ }
-    ensures { λ r. ⌜ now (places .exit) ≡ paste (now (places .entry)) at field 2048 ⌝ }
+fn put_field(places: &mut [u16], at: usize, field: &[u16; 2048])
+    requires { ⌜ (at + 2048 ≤ length (now places)) × (length (now field) ≡ 2048) ⌝ }
+    ensures { λ r. ⌜ now (places .exit) ≡ paste (now (places .entry)) at (now (field .entry)) 2048 ⌝ }
 {
     let mut i = 0;
     while i < 2048 {
@@ -94,16 +94,11 @@ pub fn store(plan: Plan, counts: &mut [usize], marks: &mut [u8], fields: &mut [u
 {
     counts[0] = plan.states;
     counts[1] = plan.transitions;
-    let states = plan.marks;
-    let from = plan.from;
-    let to = plan.to;
-    let low = plan.low;
-    let high = plan.high;
-    put_marks(marks, states);
-    put_field(fields, 0, from);
-    put_field(fields, 2048, to);
-    put_field(fields, 4096, low);
-    put_field(fields, 6144, high);
+    put_marks(marks, &plan.marks);
+    put_field(fields, 0, &plan.from);
+    put_field(fields, 2048, &plan.to);
+    put_field(fields, 4096, &plan.low);
+    put_field(fields, 6144, &plan.high);
 }
 
 // Stores the plan of an accepted call, and gives the number of its answer.

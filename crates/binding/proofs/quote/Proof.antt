@@ -6,7 +6,6 @@ use borrow.Author.Tests.{not-true, not-false}
 use Rattle.plan.specs.View.{view}
 use Rattle.slices.specs.Lent.{slices, hasRoom}
 use Rattle.slices.proofs.Stores.{has-room}
-use Rattle.binding.specs.Shapes.{says}
 use Rattle.binding.proofs.Quotes.{no-room, no-places, enough, small, quote-short, quote-finished}
 use borrow.Author.Needs.{needs}
 use Rattle.binding.proofs.quote.Statement.{statement}
@@ -19,7 +18,7 @@ returns : tie.Need-returns
 returns c =
     let a = c .before .before .before .before .before .before .before .args in
     let s = slices (a .counts .now) (a .marks .now) (a .fields .now) in
-    quote-short (says (a .which)) s (a .walk .now) (a .out .now) (no-room s (a .out .now) (sym (c .before .has-room .ensures) ∙ not-true _ (c .if1 .taken)))
+    quote-short (a .which) s (a .walk .now) (a .out .now) (no-room s (a .out .now) (sym (c .before .has-room .ensures) ∙ not-true _ (c .if1 .taken)))
 
 -- past the test the slices have room
 room : (c : tie.Else1) → hasRoom (slices (c .before .before .before .before .before .before .before .args .counts .now) (c .before .before .before .before .before .before .before .args .marks .now) (c .before .before .before .before .before .before .before .args .fields .now)) ≡ true
@@ -29,7 +28,7 @@ returns-2 : tie.Need-returns-2
 returns-2 c =
     let a = c .before .before .before .before .before .before .before .before .args in
     let s = slices (a .counts .now) (a .marks .now) (a .fields .now) in
-    quote-short (says (a .which)) s (a .walk .now) (a .out .now) (no-places s (a .out .now) (room (c .before)) (c .if2 .taken))
+    quote-short (a .which) s (a .walk .now) (a .out .now) (no-places s (a .out .now) (room (c .before)) (c .if2 .taken))
 
 load-requires : tie.Need-load-requires
 load-requires c κs = has-room _ _ _ (room (c .before))
@@ -50,7 +49,7 @@ returns-3 : tie.Need-returns-3
 returns-3 c =
     let a = c .before .before .before .before .before .before .before .before .before .before .before .before .before .before .before .before .before .args in
     let s = slices (a .counts .now) (a .marks .now) (a .fields .now) in
-    quote-finished (says (a .which)) (c .before .before .before .before .before .before .before .before .load .result) s (a .walk .now) _ (a .out .now) _ (c .before .before .before .before .before .before .ask .result) _ (enough s (a .out .now) (room (c .before .before .before .before .before .before .before .before .before .before)) (c .before .before .before .before .before .before .before .before .before .if2 .left)) (c .before .before .before .before .before .before .before .before .load .ensures) (c .before .before .before .before .before .before .ask .ensures)
+    quote-finished (a .which) (c .before .before .before .before .before .before .before .before .load .result) s (a .walk .now) _ (a .out .now) _ (c .before .before .before .before .before .before .ask .result) _ (enough s (a .out .now) (room (c .before .before .before .before .before .before .before .before .before .before)) (c .before .before .before .before .before .before .before .before .before .if2 .left)) (c .before .before .before .before .before .before .before .before .load .ensures) (c .before .before .before .before .before .before .ask .ensures)
     (c .before .before .one .ensures)
 
 pub quote-spec : {M : Type 1} → statement M

@@ -30,23 +30,23 @@ use Rattle.plan.proofs.join.Lts as lts
 use Rattle.arrays.proofs.limits.checked.Reads as checked-reads
 use Rattle.plan.proofs.accept.Reads as accept-reads
 use Rattle.plan.proofs.refuse.Reads as refuse-reads
-use Rattle.plan.proofs.within.Reads as within-reads
+use Rattle.plan.proofs.in_limits.Reads as in-limits-reads
 
 -- the row of a full list
 abbrev full : Plan → List Row
 full p = (ListFull, leb 2048 (count (view p))) ∷ []
 
-within-requires : tie.Need-within-requires
-within-requires c κs = search needs
+in-limits-requires : tie.Need-in-limits-requires
+in-limits-requires c κs = search needs
 
 refuse-requires : tie.Need-refuse-requires
 refuse-requires c κs = search needs
 
 returns : tie.Need-returns
 returns c =
-    let p = c .before .before .before .args .plan in
-    let a = c .before .before .before .args in
-    let w : within (view p) ≡ false = sym (c .before .before .within .ensures) ∙ not-true _ (c .before .if1 .taken) in
+    let p = c .before .before .before .before .before .before .before .before .before .args .t1 in
+    let a = c .before .before .before .before .before .before .before .before .before .args in
+    let w : within (view p) ≡ false = sym (c .before .before .in-limits .ensures) ∙ not-true _ (c .before .if1 .taken) in
     rw (c .refuse .ensures) (refusal p (step (view p) (join (transition (a .from) (a .to) (a .low) (a .high)))) PlanLimits (rw w))
 
 checked-requires : tie.Need-checked-requires
@@ -60,11 +60,11 @@ refuse-requires-2 c κs = search needs
 
 returns-2 : tie.Need-returns-2
 returns-2 c =
-    let a = c .before .before .before .before .before .before .before .args in
-    let p = a .plan in
+    let a = c .before .before .before .before .before .before .before .before .before .before .before .before .before .args in
+    let p = a .t1 in
     let t = transition (a .from) (a .to) (a .low) (a .high) in
     let r = c .before .before .grounds .given .0 .0 in
-    let w : within (view p) ≡ true = sym (c .before .before .before .before .before .before .within .ensures) ∙ not-false _ (c .before .before .before .before .before .if1 .left) in
+    let w : within (view p) ≡ true = sym (c .before .before .before .before .before .before .in-limits .ensures) ∙ not-false _ (c .before .before .before .before .before .if1 .left) in
     let k : first (transitionRows (p .states) t) ≡ refused r = sym (c .before .before .before .before .checked .ensures) ∙ ap said (c .before .before .grounds .given .1) in
     rw (c .refuse2 .ensures) (refusal p (step (view p) (join t)) r (rw (w, states-view p) (after-refused (transitionRows (p .states) t) (full p) (withTransition (view p) t) r k)))
 
@@ -79,12 +79,12 @@ record Known (p : Plan) (t : Transition) : Type 0 where
   states : p .states ≤ 512
   count : p .transitions ≤ 2048
 
-known : (c : tie.After-enum-told) → Known (c .before .before .before .before .before .args .plan) (transition (c .before .before .before .before .before .args .from) (c .before .before .before .before .before .args .to) (c .before .before .before .before .before .args .low) (c .before .before .before .before .before .args .high))
+known : (c : tie.After-enum-told) → Known (c .before .before .before .before .before .before .before .before .before .before .before .args .t1) (transition (c .before .before .before .before .before .before .before .before .before .before .before .args .from) (c .before .before .before .before .before .before .before .before .before .before .before .args .to) (c .before .before .before .before .before .before .before .before .before .before .before .args .low) (c .before .before .before .before .before .before .before .before .before .before .before .args .high))
 known c =
-    let a = c .before .before .before .before .before .args in
-    let p = a .plan in
+    let a = c .before .before .before .before .before .before .before .before .before .before .before .args in
+    let p = a .t1 in
     let t = transition (a .from) (a .to) (a .low) (a .high) in
-    let w : within (view p) ≡ true = sym (c .before .before .before .before .within .ensures) ∙ not-false _ (c .before .before .before .if1 .left) in
+    let w : within (view p) ≡ true = sym (c .before .before .before .before .in-limits .ensures) ∙ not-false _ (c .before .before .before .if1 .left) in
     let k = accepted-only (transitionRows (p .states) t) tt tt (sym (c .before .before .checked .ensures) ∙ ap said (c .enum-told .given .1)) .0 in
     let l = limited (view p) w in
     record {
@@ -100,8 +100,8 @@ refuse-requires-3 c κs = search needs
 
 returns-3 : tie.Need-returns-3
 returns-3 c =
-    let a = c .before .before .before .before .before .before .before .args in
-    let p = a .plan in
+    let a = c .before .before .before .before .before .before .before .before .before .before .before .before .before .args in
+    let p = a .t1 in
     let t = transition (a .from) (a .to) (a .low) (a .high) in
     let k = known (c .before .before) in
     rw (c .refuse3 .ensures)
@@ -110,58 +110,58 @@ returns-3 c =
     (after-none (transitionRows (p .states) t) (full p) (withTransition (view p) t) (k .grounds) ∙ rw (count-view p, le-leb 2048 (p .transitions) (c .before .if2 .taken)))))
 
 -- the arrays of a plan value have their lengths
-sized : (c : tie.Start) → Sized (c .args .plan)
+sized : (c : tie.Start) → Sized (c .args .t1)
 sized c = record { marks = search needs; from = search needs; to = search needs; low = search needs; high = search needs }
 
-cast-joined : tie.Need-cast-joined
-cast-joined c = omega (arith, known (c .before))
+cast-plan : tie.Need-cast-plan
+cast-plan c = omega (arith, known (c .before))
 
-mul-joined : tie.Need-mul-joined
-mul-joined c = search needs
+mul-plan : tie.Need-mul-plan
+mul-plan c = search needs
 
-element-write-joined : tie.Need-element-write-joined
-element-write-joined c = search needs
+element-write-plan : tie.Need-element-write-plan
+element-write-plan c = search needs
 
-cast-joined-2 : tie.Need-cast-joined-2
-cast-joined-2 c = omega (arith, known (c .before))
+cast-plan-2 : tie.Need-cast-plan-2
+cast-plan-2 c = omega (arith, known (c .before))
 
-mul-joined-2 : tie.Need-mul-joined-2
-mul-joined-2 c = search needs
+mul-plan-2 : tie.Need-mul-plan-2
+mul-plan-2 c = search needs
 
-element-write-joined-2 : tie.Need-element-write-joined-2
-element-write-joined-2 c = search needs
+element-write-plan-2 : tie.Need-element-write-plan-2
+element-write-plan-2 c = search needs
 
-cast-joined-3 : tie.Need-cast-joined-3
-cast-joined-3 c = omega (arith, known (c .before))
+cast-plan-3 : tie.Need-cast-plan-3
+cast-plan-3 c = omega (arith, known (c .before))
 
-mul-joined-3 : tie.Need-mul-joined-3
-mul-joined-3 c = search needs
+mul-plan-3 : tie.Need-mul-plan-3
+mul-plan-3 c = search needs
 
-element-write-joined-3 : tie.Need-element-write-joined-3
-element-write-joined-3 c = search needs
+element-write-plan-3 : tie.Need-element-write-plan-3
+element-write-plan-3 c = search needs
 
-cast-joined-4 : tie.Need-cast-joined-4
-cast-joined-4 c = omega (arith, known (c .before))
+cast-plan-4 : tie.Need-cast-plan-4
+cast-plan-4 c = omega (arith, known (c .before))
 
-mul-joined-4 : tie.Need-mul-joined-4
-mul-joined-4 c = search needs
+mul-plan-4 : tie.Need-mul-plan-4
+mul-plan-4 c = search needs
 
-element-write-joined-4 : tie.Need-element-write-joined-4
-element-write-joined-4 c = search needs
+element-write-plan-4 : tie.Need-element-write-plan-4
+element-write-plan-4 c = search needs
 
-add-joined : tie.Need-add-joined
-add-joined c = search needs
+add-plan : tie.Need-add-plan
+add-plan c = search needs
 
 accept-requires : tie.Need-accept-requires
 accept-requires c κs = search needs
 
 returns-4 : tie.Need-returns-4
 returns-4 c =
-    let a = c .before .before .before .before .before .before .before .args in
-    let p = a .plan in
+    let a = c .before .before .before .before .before .before .before .before .before .before .before .before .before .args in
+    let p = a .t1 in
     let t = transition (a .from) (a .to) (a .low) (a .high) in
     let k = known (c .before .before) in
-    let z = sized (c .before .before .before .before .before .before .before) in
+    let z = sized (c .before .before .before .before .before .before .before .before .before .before .before .before .before) in
     let m : p .transitions < 2048 = c .before .if2 .left in
     rw (c .accept .ensures)
     (acceptance p (joined p (a .from) (a .to) (a .low) (a .high)) (step (view p) (join t)) (withTransition (view p) t)
@@ -174,7 +174,7 @@ pub join-spec : {M : Type 1} → statement M
 join-spec =
     tie.close
     (tie.spec
-    within-requires
+    in-limits-requires
     refuse-requires
     returns
     checked-requires
@@ -184,18 +184,18 @@ join-spec =
     enum-told
     refuse-requires-3
     returns-3
-    cast-joined
-    mul-joined
-    element-write-joined
-    cast-joined-2
-    mul-joined-2
-    element-write-joined-2
-    cast-joined-3
-    mul-joined-3
-    element-write-joined-3
-    cast-joined-4
-    mul-joined-4
-    element-write-joined-4
-    add-joined
+    cast-plan
+    mul-plan
+    element-write-plan
+    cast-plan-2
+    mul-plan-2
+    element-write-plan-2
+    cast-plan-3
+    mul-plan-3
+    element-write-plan-3
+    cast-plan-4
+    mul-plan-4
+    element-write-plan-4
+    add-plan
     accept-requires
     returns-4)

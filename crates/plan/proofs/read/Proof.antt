@@ -18,28 +18,28 @@ use Rattle.plan.proofs.read.Reads as reads
 use Rattle.plan.proofs.read.Lts as lts
 use Rattle.plan.proofs.refuse.Reads as refuse-reads
 use Rattle.plan.proofs.replace.Reads as replace-reads
-use Rattle.plan.proofs.within.Reads as within-reads
+use Rattle.plan.proofs.in_limits.Reads as in-limits-reads
 
-within-requires : tie.Need-within-requires
-within-requires c κs = search needs
+in-limits-requires : tie.Need-in-limits-requires
+in-limits-requires c κs = search needs
 
 refuse-requires : tie.Need-refuse-requires
 refuse-requires c κs = search needs
 
 returns : tie.Need-returns
 returns c =
-    let a = c .before .before .before .before .args in
-    let w : within (view (a .plan)) ≡ false = sym (c .before .before .within .ensures) ∙ not-true _ (c .before .if1 .taken) in
-    rw (c .refuse .ensures) (refusal (a .plan) (step (view (a .plan)) (read (a .octets .now))) PlanLimits (rw w))
+    let a = c .before .before .before .before .before .before .before .before .before .before .args in
+    let w : within (view (a .t1)) ≡ false = sym (c .before .before .in-limits .ensures) ∙ not-true _ (c .before .if1 .taken) in
+    rw (c .refuse .ensures) (refusal (a .t1) (step (view (a .t1)) (read (a .octets .now))) PlanLimits (rw w))
 
 replace-requires : tie.Need-replace-requires
 replace-requires c κs = search needs
 
 returns-2 : tie.Need-returns-2
 returns-2 c =
-    let a = c .before .before .before .before .args in
-    let w : within (view (a .plan)) ≡ true = sym (c .before .before .within .ensures) ∙ not-false _ (c .before .if1 .left) in
-    subst (λ (o : Result Graph). Edit (a .plan) o (c .replace .result)) (sym (read-given (view (a .plan)) (a .octets .now) w)) (c .replace .ensures)
+    let a = c .before .before .before .before .before .before .before .before .before .before .args in
+    let w : within (view (a .t1)) ≡ true = sym (c .before .before .in-limits .ensures) ∙ not-false _ (c .before .if1 .left) in
+    subst (λ (o : Result Graph). Edit (a .t1) o (c .replace .result)) (sym (read-given (view (a .t1)) (a .octets .now) w)) (c .replace .ensures)
 
 pub read-spec : {M : Type 1} → statement M
-read-spec = tie.close (tie.spec within-requires refuse-requires returns replace-requires returns-2)
+read-spec = tie.close (tie.spec in-limits-requires refuse-requires returns replace-requires returns-2)

@@ -26,50 +26,50 @@ use Rattle.image.proofs.size.Reads as size-reads
 use Rattle.image.proofs.writing.header.Reads as header-reads
 use Rattle.image.proofs.writing.states.Reads as states-reads
 use Rattle.image.proofs.writing.transitions.Reads as transitions-reads
-use Rattle.plan.proofs.within.Reads as within-reads
+use Rattle.plan.proofs.in_limits.Reads as in-limits-reads
 
-within-requires : tie.Need-within-requires
-within-requires c κs = search needs
+in-limits-requires : tie.Need-in-limits-requires
+in-limits-requires c κs = search needs
 
 returns : tie.Need-returns
 unfolding writeRule
 returns c =
-    let w : within (view (c .before .before .before .args .t1)) ≡ false = sym (c .before .within .ensures) ∙ not-true _ (c .if1 .taken) in
+    let w : within (view (c .before .before .before .before .before .before .before .before .before .args .t1)) ≡ false = sym (c .before .in-limits .ensures) ∙ not-true _ (c .if1 .taken) in
     record { answer = rw w; buffer = rw w }
 
 -- past the first test the plan is within the limits
-sound : (c : tie.Else1) → within (view (c .before .before .before .args .t1)) ≡ true
-sound c = sym (c .before .within .ensures) ∙ not-false _ (c .if1 .left)
+sound : (c : tie.Else1) → within (view (c .before .before .before .before .before .before .before .before .before .args .t1)) ≡ true
+sound c = sym (c .before .in-limits .ensures) ∙ not-false _ (c .if1 .left)
 
-limits : (c : tie.Else1) → Limited (view (c .before .before .before .args .t1))
-limits c = limited (view (c .before .before .before .args .t1)) (sound c)
+limits : (c : tie.Else1) → Limited (view (c .before .before .before .before .before .before .before .before .before .args .t1))
+limits c = limited (view (c .before .before .before .before .before .before .before .before .before .args .t1)) (sound c)
 
 size-requires : tie.Need-size-requires
-size-requires c κs = let p = c .before .before .before .args .t1 in omega (arith, limits c, states-view p, count-view p)
+size-requires c κs = let p = c .before .before .before .before .before .before .before .before .before .args .t1 in omega (arith, limits c, states-view p, count-view p)
 
 returns-2 : tie.Need-returns-2
 unfolding writeRule
 returns-2 c =
-    let p = c .before .before .before .before .before .args .t1 in
-    let b = c .before .before .before .before .before .args .buffer .now in
+    let p = c .before .before .before .before .before .before .before .before .before .before .before .args .t1 in
+    let b = c .before .before .before .before .before .before .before .before .before .before .before .args .buffer .now in
     let N = imageLength (p .states) (p .transitions) in
     let l : ltb (length b) N ≡ true = lt-ltb (length b) N (omega (arith, c .if2 .taken, c .before .size .ensures)) in
     record { answer = rw (sound (c .before .before), states-view p, count-view p, l); buffer = rw (sound (c .before .before), states-view p, count-view p, l) }
 
 -- past the second the buffer has the image's length
-room : (c : tie.Else2) → imageLength (c .before .before .before .before .before .args .t1 .states) (c .before .before .before .before .before .args .t1 .transitions) ≤ length (c .before .before .before .before .before .args .buffer .now)
+room : (c : tie.Else2) → imageLength (c .before .before .before .before .before .before .before .before .before .before .before .args .t1 .states) (c .before .before .before .before .before .before .before .before .before .before .before .args .t1 .transitions) ≤ length (c .before .before .before .before .before .before .before .before .before .before .before .args .buffer .now)
 room c = omega (arith, c .if2 .left, c .before .size .ensures)
 
 header-requires : tie.Need-header-requires
-header-requires c κs = let p = c .before .before .before .before .before .before .args .t1 in omega (arith, limits (c .before .before .before), states-view p, count-view p, room (c .before))
+header-requires c κs = let p = c .before .before .before .before .before .before .before .before .before .before .before .before .args .t1 in omega (arith, limits (c .before .before .before), states-view p, count-view p, room (c .before))
 
 states-requires : tie.Need-states-requires
-states-requires c κs = let p = c .before .before .before .before .before .before .before .before .before .before .before .before .args .t1 in omega (arith, limits (c .before .before .before .before .before .before .before .before .before), states-view p, count-view p, room (c .before .before .before .before .before .before .before), c .before .before .before .before .before .header .kept .0)
+states-requires c κs = let p = c .before .before .before .before .before .before .before .before .before .before .before .before .before .before .before .before .before .before .args .t1 in omega (arith, limits (c .before .before .before .before .before .before .before .before .before), states-view p, count-view p, room (c .before .before .before .before .before .before .before), c .before .before .before .before .before .header .kept .0)
 
 transitions-requires : tie.Need-transitions-requires
 unfolding view
 transitions-requires c κs =
-    let p = c .before .before .before .before .before .before .before .before .before .before .before .before .before .before .before .before .before .before .before .before .before .args .t1 in
+    let p = c .before .before .before .before .before .before .before .before .before .before .before .before .before .before .before .before .before .before .before .before .before .before .before .before .before .before .before .args .t1 in
     let l = limits (c .before .before .before .before .before .before .before .before .before .before .before .before .before .before .before .before .before .before) in (
       (omega (arith, l, states-view p), omega (arith, l, count-view p), omega (arith, room (c .before .before .before .before .before .before .before .before .before .before .before .before .before .before .before .before), c .before .before .before .before .before .before .before .before .before .before .before .before .before .before .header .kept .0, c .before .before .before .before .before .before .before .before .states .kept .0)),
       ap (λ (k : ℕ). all (transitionOk k) (transitionsOf (p .transitions) (p .from) (p .to) (p .low) (p .high))) (sym (states-view p)) ∙ l .each-transition,
@@ -81,8 +81,8 @@ same-length c = search needs
 returns-3 : tie.Need-returns-3
 unfolding writeRule
 returns-3 c =
-    let p = c .before .before .before .before .before .before .before .before .before .before .before .before .before .before .before .before .before .before .before .before .before .before .before .before .args .t1 in
-    let b = c .before .before .before .before .before .before .before .before .before .before .before .before .before .before .before .before .before .before .before .before .before .before .before .before .args .buffer .now in
+    let p = c .before .before .before .before .before .before .before .before .before .before .before .before .before .before .before .before .before .before .before .before .before .before .before .before .before .before .before .before .before .before .args .t1 in
+    let b = c .before .before .before .before .before .before .before .before .before .before .before .before .before .before .before .before .before .before .before .before .before .before .before .before .before .before .before .before .before .before .args .buffer .now in
     let n = p .states in
     let m = p .transitions in
     let w = sound (c .before .before .before .before .before .before .before .before .before .before .before .before .before .before .before .before .before .before .before .before .before) in
@@ -92,14 +92,14 @@ returns-3 c =
     let e : c .before .before .transitions .last .0 ≡ putAll (putAll (putAll b 0 (headerFields n m)) 32 S) (32 + 8 * n) T =
     c .before .before .transitions .ensures
     ∙ ap (λ (x : List ℕ). putAll x (32 + 8 * n) T) (c .before .before .before .before .before .before .before .before .before .before .before .states .ensures ∙ ap (λ (x : List ℕ). putAll x 32 S) (c .before .before .before .before .before .before .before .before .before .before .before .before .before .before .before .before .before .header .ensures)) in
-    let f = put-view p b (λ i. c .before .before .before .before .before .before .before .before .before .before .before .before .before .before .before .before .before .before .before .before .before .before .before .slice-known .given i .fits) (room (c .before .before .before .before .before .before .before .before .before .before .before .before .before .before .before .before .before .before .before)) in
+    let f = put-view p b (λ i. c .before .before .before .before .before .before .before .before .before .before .before .before .before .before .before .before .before .before .before .before .before .before .before .before .before .before .before .before .before .slice-known .given i .fits) (room (c .before .before .before .before .before .before .before .before .before .before .before .before .before .before .before .before .before .before .before)) in
     record { answer = rw (w, states-view p, count-view p, k) (ap accepted (c .before .before .before .before .before .before .before .before .before .before .before .before .before .before .before .before .before .before .before .before .size .ensures)); buffer = rw (w, states-view p, count-view p, k) (e ∙ f) }
 
 pub write-spec : {M : Type 1} → statement M
 write-spec =
     tie.close
     (tie.spec
-    within-requires
+    in-limits-requires
     returns
     size-requires
     returns-2

@@ -18,13 +18,13 @@ abbrev μ-loop : tie.MeasureT-loop
 μ-loop places₀ at field i₀ places i = 2048 - i
 
 loop-holds : tie.Need-loop-holds Inv-loop μ-loop
-loop-holds c = (omega arith, search needs, paste-zero (c .args .places .now) (c .args .at) (c .args .t3))
+loop-holds c = (omega arith, search needs, paste-zero (c .args .places .now) (c .args .at) (c .args .field .now))
 
 mul-places : tie.Need-mul-places Inv-loop μ-loop
 mul-places c = omega arith
 
-array-read-places : tie.Need-array-read-places Inv-loop μ-loop
-array-read-places c = omega arith
+element-copy-out-places : tie.Need-element-copy-out-places Inv-loop μ-loop
+element-copy-out-places c = omega arith
 
 add-places : tie.Need-add-places Inv-loop μ-loop
 add-places c = omega arith
@@ -43,12 +43,12 @@ loop-less c = omega arith
 
 loop-again : tie.Need-loop-again Inv-loop μ-loop
 loop-again c =
-    let l = c .before .loop in
-    let a = c .before .before .args in
-    let h : length (a .t3) ≡ 2048 = search needs in (
+    let l = c .before .before .loop in
+    let a = c .before .before .before .args in
+    let h : length (a .field .now) ≡ 2048 = search needs in (
       omega arith,
       length-set (l .places) (a .at + l .i) _ ∙ l .inv .1,
-      ap (λ (o : List ℕ). set o (a .at + l .i) (getD (a .t3) (l .i) 0)) (l .inv .2) ∙ paste-more (a .places .now) (a .t3) (a .at) (l .i) (omega arith) (omega arith),
+      ap (λ (o : List ℕ). set o (a .at + l .i) (getD (a .field .now) (l .i) 0)) (l .inv .2) ∙ paste-more (a .places .now) (a .field .now) (a .at) (l .i) (omega arith) (omega arith),
     )
 
 same-length : tie.Need-same-length Inv-loop μ-loop
@@ -59,7 +59,7 @@ returns c =
     let l = c .before .loop in
     let a = c .before .before .args in
     let e : l .i ≡ 2048 = omega arith in
-    l .inv .2 ∙ ap (λ (k : ℕ). paste (a .places .now) (a .at) (a .t3) k) e
+    l .inv .2 ∙ ap (λ (k : ℕ). paste (a .places .now) (a .at) (a .field .now) k) e
 
 pub put-field-spec : {M : Type 1} → statement M
 put-field-spec =
@@ -69,7 +69,7 @@ put-field-spec =
     μ-loop
     loop-holds
     mul-places
-    array-read-places
+    element-copy-out-places
     add-places
     mul-places-2
     slice-write-places

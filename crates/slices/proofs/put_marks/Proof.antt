@@ -18,10 +18,10 @@ abbrev μ-loop : tie.MeasureT-loop
 μ-loop places₀ marks i₀ places i = 512 - i
 
 loop-holds : tie.Need-loop-holds Inv-loop μ-loop
-loop-holds c = (omega arith, search needs, paste-zero (c .args .places .now) 0 (c .args .t2))
+loop-holds c = (omega arith, search needs, paste-zero (c .args .places .now) 0 (c .args .marks .now))
 
-array-read-places : tie.Need-array-read-places Inv-loop μ-loop
-array-read-places c = omega arith
+element-copy-out-places : tie.Need-element-copy-out-places Inv-loop μ-loop
+element-copy-out-places c = omega arith
 
 slice-write-places : tie.Need-slice-write-places Inv-loop μ-loop
 slice-write-places c = omega arith
@@ -34,12 +34,12 @@ loop-less c = omega arith
 
 loop-again : tie.Need-loop-again Inv-loop μ-loop
 loop-again c =
-    let l = c .before .loop in
-    let a = c .before .before .args in
-    let h : length (a .t2) ≡ 512 = search needs in (
+    let l = c .before .before .loop in
+    let a = c .before .before .before .args in
+    let h : length (a .marks .now) ≡ 512 = search needs in (
       omega arith,
       length-set (l .places) (l .i) _ ∙ l .inv .1,
-      ap (λ (o : List ℕ). set o (l .i) (getD (a .t2) (l .i) 0)) (l .inv .2) ∙ copy-more (a .places .now) (a .t2) (l .i) (omega arith) (omega arith),
+      ap (λ (o : List ℕ). set o (l .i) (getD (a .marks .now) (l .i) 0)) (l .inv .2) ∙ copy-more (a .places .now) (a .marks .now) (l .i) (omega arith) (omega arith),
     )
 
 same-length : tie.Need-same-length Inv-loop μ-loop
@@ -49,7 +49,7 @@ returns : tie.Need-returns Inv-loop μ-loop
 returns c =
     let l = c .before .loop in
     let e : l .i ≡ 512 = omega arith in
-    l .inv .2 ∙ ap (λ (k : ℕ). paste (c .before .before .args .places .now) 0 (c .before .before .args .t2) k) e
+    l .inv .2 ∙ ap (λ (k : ℕ). paste (c .before .before .args .places .now) 0 (c .before .before .args .marks .now) k) e
 
 pub put-marks-spec : {M : Type 1} → statement M
 put-marks-spec =
@@ -58,7 +58,7 @@ put-marks-spec =
     Inv-loop
     μ-loop
     loop-holds
-    array-read-places
+    element-copy-out-places
     slice-write-places
     add-i
     loop-less

@@ -1,14 +1,22 @@
--- `slices::store` meets its contract: each part is copied to its own places.
--- Assumes nothing.
+-- `slices::store`: the counts are set and each part is copied to its own places, one behind another (`stored`, proofs/Stores.antt). Assumes nothing.
 use Prim.Native.Nat.{ℕ}
 use mathlib.Core.List.{List}
 use mathlib.Core.Path.{ap, _∙_}
-use borrow.Author.Needs.{needs}
+use native.Mathlib.Omega.{arith}
 use lib.Seq.{paste}
 use Rattle.plan.proofs.Values.{Sized}
 use Rattle.slices.proofs.Stores.{stored}
+use borrow.Author.Needs.{needs}
 use Rattle.slices.proofs.store.Statement.{statement}
 use Rattle.slices.proofs.store.Tie as tie
+use Rattle.slices.proofs.store.Reads as reads
+use Rattle.slices.proofs.store.Lts as lts
+use Rattle.slices.proofs.put_field.Reads as put-field-reads
+use Rattle.slices.proofs.put_marks.Reads as put-marks-reads
+
+-- the arrays of a plan value have their lengths
+sized : (c : tie.Start) → Sized (c .args .t1)
+sized c = record { marks = search needs; from = search needs; to = search needs; low = search needs; high = search needs }
 
 slice-write-counts : tie.Need-slice-write-counts
 slice-write-counts c = search needs
@@ -29,7 +37,7 @@ put-field-requires-3 : tie.Need-put-field-requires-3
 put-field-requires-3 c κs = search needs
 
 put-field-requires-4 : tie.Need-put-field-requires-4
-put-field-requires-4 c κs = search needs
+put-field-requires-4 c κs = (omega (arith, c .before .before .before .before .before .before .before .before .before .before .before .before .before .before .before .before .before .before .before .before .before .before .before .before .before .before .before .before .before .before .pre .transitions, c .before .before .before .before .before .before .before .before .before .before .before .before .before .before .before .before .before .put-field .kept, c .before .before .before .before .before .before .before .before .before .before .before .put-field2 .kept, c .before .before .before .before .before .put-field3 .kept), sized (c .before .before .before .before .before .before .before .before .before .before .before .before .before .before .before .before .before .before .before .before .before .before .before .before .before .before .before .before .before .before) .high)
 
 same-length : tie.Need-same-length
 same-length c = search needs
@@ -40,22 +48,17 @@ same-length-2 c = search needs
 same-length-3 : tie.Need-same-length-3
 same-length-3 c = search needs
 
--- the arrays of a plan value have their lengths
-sized : (c : tie.Start) → Sized (c .args .plan)
-sized c = record { marks = search needs; from = search needs; to = search needs; low = search needs; high = search needs }
-
 returns : tie.Need-returns
 returns c =
-    let a = c .before .before .before .before .before .before .before .before .before .before .before .before .before .before .before .before .before .before .before .before .before .before .before .before .before .before .before .before .args in
-    let p = a .plan in
-    let z : Sized p = sized (c .before .before .before .before .before .before .before .before .before .before .before .before .before .before .before .before .before .before .before .before .before .before .before .before .before .before .before .before) in
+    let a = c .before .before .before .before .before .before .before .before .before .before .before .before .before .before .before .before .before .before .before .before .before .before .before .before .before .before .before .before .before .before .before .before .before .args in
+    let p = a .t1 in
     let P : List ℕ → ℕ → List ℕ → List ℕ = λ d at s. paste d at s 2048 in
-    stored p z (a .counts .now) (a .marks .now) (a .fields .now) (c .before .before .before .before .before .before .before .before .before .before .before .before .before .before .before .before .before .before .put-marks .last .0) (c .before .before .put-field4 .last .0) (c .before .before .before .before .before .before .before .before .before .before .before .before .before .before .before .before .before .before .before .before .before .before .before .before .before .before .before .before .pre)
-    (c .before .before .before .before .before .before .before .before .before .before .before .before .before .before .before .before .before .before .put-marks .ensures)
+    stored p (sized (c .before .before .before .before .before .before .before .before .before .before .before .before .before .before .before .before .before .before .before .before .before .before .before .before .before .before .before .before .before .before .before .before .before)) (a .counts .now) (a .marks .now) (a .fields .now) (c .before .before .before .before .before .before .before .before .before .before .before .before .before .before .before .before .before .before .before .before .before .before .before .before .before .before .put-marks .last .0) (c .before .before .put-field4 .last .0) (c .before .before .before .before .before .before .before .before .before .before .before .before .before .before .before .before .before .before .before .before .before .before .before .before .before .before .before .before .before .before .before .before .before .pre)
+    (c .before .before .before .before .before .before .before .before .before .before .before .before .before .before .before .before .before .before .before .before .before .before .before .before .before .before .put-marks .ensures)
     (c .before .before .put-field4 .ensures
     ∙ ap (λ (d : List ℕ). P d 6144 (p .high))
-    (c .before .before .before .before .before .before .put-field3 .ensures
-    ∙ ap (λ (d : List ℕ). P d 4096 (p .low)) (c .before .before .before .before .before .before .before .before .before .before .put-field2 .ensures ∙ ap (λ (d : List ℕ). P d 2048 (p .to)) (c .before .before .before .before .before .before .before .before .before .before .before .before .before .before .put-field .ensures))))
+    (c .before .before .before .before .before .before .before .before .put-field3 .ensures
+    ∙ ap (λ (d : List ℕ). P d 4096 (p .low)) (c .before .before .before .before .before .before .before .before .before .before .before .before .before .before .put-field2 .ensures ∙ ap (λ (d : List ℕ). P d 2048 (p .to)) (c .before .before .before .before .before .before .before .before .before .before .before .before .before .before .before .before .before .before .before .before .put-field .ensures))))
 
 pub store-spec : {M : Type 1} → statement M
 store-spec =
