@@ -28,12 +28,12 @@ valueAt i fs = getD fs i (field 0 0) .value
 abbrev fields : List ℕ → List Field
 fields os = unpack os 0 (2 ∷ 20 ∷ 2 ∷ 20 ∷ 2 ∷ 20 ∷ 2 ∷ 20 ∷ [])
 
-at : {g : Graph} {os : List ℕ} → fields os ≡ recordFields g → (which : Which) → FigureAt os (22 * place which) (figureFor which g)
+at : (g : Graph) (os : List ℕ) → fields os ≡ recordFields g → (which : Which) → FigureAt os (22 * place which) (figureFor which g)
 unfolding recordFields unpack valueAt
-at f LeastDelay = (ap (valueAt 0) f, ap (valueAt 1) f)
-at f GreatestDelay = (ap (valueAt 2) f, ap (valueAt 3) f)
-at f LeastCount = (ap (valueAt 4) f, ap (valueAt 5) f)
-at f GreatestCount = (ap (valueAt 6) f, ap (valueAt 7) f)
+at g os f LeastDelay = (ap (valueAt 0) f, ap (valueAt 1) f)
+at g os f GreatestDelay = (ap (valueAt 2) f, ap (valueAt 3) f)
+at g os f LeastCount = (ap (valueAt 4) f, ap (valueAt 5) f)
+at g os f GreatestCount = (ap (valueAt 6) f, ap (valueAt 7) f)
 
 pub recorded : (c : Calculator) → Promises c → {p : Plan} {before after : List ℕ} (n : ℕ) → c .records p before after (Length n)
     → Recorded (view p) before after
@@ -45,5 +45,5 @@ recorded c keeps {p} {before} {after} n x =
     record {
       octets = e ∙ ap {B = List ℕ} (λ (k : ℕ). recordOctets g ++ drop k before) (accepted-record g before n a .0);
       long = length-record g;
-      each = at f;
+      each = at g after f;
     }

@@ -1,7 +1,7 @@
 -- How long lines are: the lengths of what they are put together from, added up, and what four of them can need. Assumes nothing.
 use Prim.Native.Nat.{ℕ, _+_, _^_, _≤_, _<_}
 use mathlib.Core.List.{List}
-use mathlib.Core.Path.{_≡_}
+use mathlib.Core.Path.{_≡_, refl}
 use native.Mathlib.Omega.{arith}
 use lib.ListN.{length, length-append}
 use Rattle.graph.specs.declared.Which.{Which}
@@ -24,13 +24,6 @@ pub refused-sum : (n : ℕ) → length (refusedLine n) ≡ length (digits n) + 9
 unfolding octets refusedLine
 refused-sum n = simp length-append (omega arith)
 
-name-length : (which : Which) → length (nameText which) ≤ 14
-unfolding octets nameText
-name-length LeastDelay = omega arith
-name-length GreatestDelay = omega arith
-name-length LeastCount = omega arith
-name-length GreatestCount = omega arith
-
 figure-length : (f : Figure) → value f < 2 ^ 32 → length (figureText f) ≤ 10
 unfolding octets figureText
 figure-length (number k) h = digits-length-u32 k h
@@ -45,8 +38,12 @@ added-length NONE j h = omega arith
 added-length STRANDED j h = omega arith
 added-length ENDLESS j h = omega (arith, digits-length-u32 j h)
 
--- a line is at most 39 octets longer than its transitions
+-- a line is at most 25 octets longer than its name and its transitions
 pub line-length : (which : Which) (f : Figure) (walk : List ℕ) (j : ℕ) → value f < 2 ^ 32 → j < 2 ^ 32
-    → length (line which f walk j) ≤ length (listed walk) + 39
-line-length which f walk j h i =
-    omega (arith, line-sum which f walk j, heading-sum which f, name-length which, figure-length f h, added-length f j i)
+    → length (line which f walk j) ≤ length (nameText which) + length (listed walk) + 25
+line-length which f walk j h i = omega (arith, line-sum which f walk j, heading-sum which f, figure-length f h, added-length f j i)
+
+-- the four names
+pub names-length : length (nameText LeastDelay) + length (nameText GreatestDelay) + length (nameText LeastCount) + length (nameText GreatestCount) ≡ 50
+unfolding octets nameText
+names-length = refl

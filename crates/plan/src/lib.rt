@@ -64,7 +64,15 @@ pub fn within(plan: Plan) -> bool
 {
     let n = plan.states;
     let m = plan.transitions;
-    in_limits(n, m, &plan.marks, &plan.from, &plan.to, &plan.low, &plan.high)
+    in_limits(
+        n,
+        m,
+        &plan.marks,
+        &plan.from,
+        &plan.to,
+        &plan.low,
+        &plan.high,
+    )
 }
 
 // A refusal, with the plan as it was.
@@ -118,7 +126,15 @@ pub fn mark(mut plan: Plan, state: usize, value: usize) -> Edited
 {
     let n = plan.states;
     let m = plan.transitions;
-    let sound = in_limits(n, m, &plan.marks, &plan.from, &plan.to, &plan.low, &plan.high);
+    let sound = in_limits(
+        n,
+        m,
+        &plan.marks,
+        &plan.from,
+        &plan.to,
+        &plan.low,
+        &plan.high,
+    );
     if !sound {
         return refuse(plan, Refusal::PlanLimits); // 0: the plan
     }
@@ -138,7 +154,15 @@ pub fn join(mut plan: Plan, from: usize, to: usize, low: usize, high: usize) -> 
 {
     let n = plan.states;
     let m = plan.transitions;
-    let sound = in_limits(n, m, &plan.marks, &plan.from, &plan.to, &plan.low, &plan.high);
+    let sound = in_limits(
+        n,
+        m,
+        &plan.marks,
+        &plan.from,
+        &plan.to,
+        &plan.low,
+        &plan.high,
+    );
     if !sound {
         return refuse(plan, Refusal::PlanLimits);
     }
@@ -163,7 +187,15 @@ pub fn unjoin(plan: Plan, number: usize) -> Edited
 {
     let n = plan.states;
     let m = plan.transitions;
-    let sound = in_limits(n, m, &plan.marks, &plan.from, &plan.to, &plan.low, &plan.high);
+    let sound = in_limits(
+        n,
+        m,
+        &plan.marks,
+        &plan.from,
+        &plan.to,
+        &plan.low,
+        &plan.high,
+    );
     if !sound {
         return refuse(plan, Refusal::PlanLimits);
     }
@@ -219,7 +251,15 @@ pub fn read(plan: Plan, octets: &[u8]) -> Edited
 {
     let n = plan.states;
     let m = plan.transitions;
-    let sound = in_limits(n, m, &plan.marks, &plan.from, &plan.to, &plan.low, &plan.high);
+    let sound = in_limits(
+        n,
+        m,
+        &plan.marks,
+        &plan.from,
+        &plan.to,
+        &plan.low,
+        &plan.high,
+    );
     if !sound {
         return refuse(plan, Refusal::PlanLimits);
     }
@@ -240,7 +280,15 @@ pub fn write(plan: Plan, buffer: &mut [u8]) -> Written
 {
     let n = plan.states;
     let m = plan.transitions;
-    let sound = in_limits(n, m, &plan.marks, &plan.from, &plan.to, &plan.low, &plan.high);
+    let sound = in_limits(
+        n,
+        m,
+        &plan.marks,
+        &plan.from,
+        &plan.to,
+        &plan.low,
+        &plan.high,
+    );
     if !sound {
         return Written::Refused(Refusal::PlanLimits);
     }

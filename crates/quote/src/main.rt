@@ -2,10 +2,10 @@
 use libc::STDIN_FILENO;
 use libc::STDOUT_FILENO;
 
-// The longest image has 10,756 octets: of a longer input one octet more says all that read has to know. 12,438 octets are room for any four lines.
+// The longest image has 10,756 octets: of a longer input one octet more says all that read has to know.
 fn main() {
     let mut octets = [0u8; 10757];
-    let mut buffer = [0u8; 12438];
+    let mut buffer = [0u8; lines::ROOM];
     let n = io::read_full(STDIN_FILENO, &mut octets);
     let length = lines::answer(&octets[..n], &mut buffer);
     io::write_all(STDOUT_FILENO, &buffer[..length]);

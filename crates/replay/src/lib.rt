@@ -16,6 +16,7 @@ ghost use Rattle.graph.specs.Which.{four};
 ghost use Rattle.replay.specs.Replayed.{Replays};
 ghost use Rattle.replay.specs.Applied.{Applies, Callable, InTurn};
 use arrays::limits;
+use graph::Which;
 use plan::Edited;
 use plan::Plan;
 use rules::Answer;
@@ -193,10 +194,10 @@ pub fn replay(
 {
     let applied = apply(n, kinds, arguments, octets, answers);
     let plan = applied.plan;
-    let least_delay = quotation::least_delay(plan, shortest);
-    let greatest_delay = quotation::greatest_delay(plan, longest);
-    let least_count = quotation::least_count(plan, fewest);
-    let greatest_count = quotation::greatest_count(plan, most);
+    let least_delay = quotation::quote(Which::LeastDelay, plan, shortest);
+    let greatest_delay = quotation::quote(Which::GreatestDelay, plan, longest);
+    let least_count = quotation::quote(Which::LeastCount, plan, fewest);
+    let greatest_count = quotation::quote(Which::GreatestCount, plan, most);
     Replayed {
         applied,
         least_delay,

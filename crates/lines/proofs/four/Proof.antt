@@ -2,7 +2,7 @@
 use Prim.Native.Nat.{_+_}
 use native.Mathlib.Omega.{arith}
 use Rattle.graph.specs.declared.Which.the-variants.{LeastDelay, GreatestDelay, LeastCount, GreatestCount}
-use Rattle.lines.proofs.InRow.{part-long, long, lines-sum, still-room, four-put}
+use Rattle.lines.proofs.InRow.{part-long, long, lines-sum, lines-room, still-room, four-put}
 use borrow.Author.Needs.{needs}
 use Rattle.lines.proofs.four.Statement.{statement}
 use Rattle.lines.proofs.four.Tie as tie
@@ -23,8 +23,9 @@ line-requires : tie.Need-line-requires
 line-requires c κs =
     let q = c .before .before .before .before .before .before .before .before .args .quotes in
     let w = c .before .before .before .before .before .before .before .before .args .walks .now in
+    let z = lines-room q w (c .before .before .before .before .before .before .before .before .pre .1 .0) (λ i. omega (arith, c .before .before .before .before .before .before .before .shared-slice-known .given i)) (c .before .before .before .before .before .before .before .before .pre .0 .0) (c .before .before .before .before .before .before .before .before .pre .0 .1) in
     let s = lines-sum q w in
-    (c .before .before .before .before .before .before .before .before .pre .0 LeastDelay, omega (arith, c .before .before .before .before .before .before .before .before .pre .0 LeastDelay .0, part-long LeastDelay w (c .before .before .before .before .before .before .before .before .pre .1)), omega (arith, s, c .before .before .before .before .before .before .before .before .pre .2))
+    (c .before .before .before .before .before .before .before .before .pre .0 .0 LeastDelay, omega (arith, c .before .before .before .before .before .before .before .before .pre .0 .0 LeastDelay .0, part-long LeastDelay w (c .before .before .before .before .before .before .before .before .pre .1 .0)), omega (arith, s, c .before .before .before .before .before .before .before .before .pre .1 .1, z))
 
 sub-line-2 : tie.Need-sub-line-2
 sub-line-2 c = search needs
@@ -39,9 +40,10 @@ line-requires-2 : tie.Need-line-requires-2
 line-requires-2 c κs =
     let q = c .before .before .before .before .before .before .before .before .before .before .before .before .before .args .quotes in
     let w = c .before .before .before .before .before .before .before .before .before .before .before .before .before .args .walks .now in
+    let z = lines-room q w (c .before .before .before .before .before .before .before .before .before .before .before .before .before .pre .1 .0) (λ i. omega (arith, c .before .before .before .before .before .before .before .before .before .before .before .before .shared-slice-known .given i)) (c .before .before .before .before .before .before .before .before .before .before .before .before .before .pre .0 .0) (c .before .before .before .before .before .before .before .before .before .before .before .before .before .pre .0 .1) in
     let s = lines-sum q w in
-    let r1 = still-room (c .before .before .before .before .line .ensures) (long q w GreatestDelay + long q w LeastCount + long q w GreatestCount) (omega (arith, s, c .before .before .before .before .before .before .before .before .before .before .before .before .before .pre .2)) in
-    (c .before .before .before .before .before .before .before .before .before .before .before .before .before .pre .0 GreatestDelay, omega (arith, c .before .before .before .before .before .before .before .before .before .before .before .before .before .pre .0 GreatestDelay .0, part-long GreatestDelay w (c .before .before .before .before .before .before .before .before .before .before .before .before .before .pre .1)), omega (arith, s, r1))
+    let r1 = still-room (c .before .before .before .before .line .ensures) (long q w GreatestDelay + long q w LeastCount + long q w GreatestCount) (omega (arith, s, c .before .before .before .before .before .before .before .before .before .before .before .before .before .pre .1 .1, z)) in
+    (c .before .before .before .before .before .before .before .before .before .before .before .before .before .pre .0 .0 GreatestDelay, omega (arith, c .before .before .before .before .before .before .before .before .before .before .before .before .before .pre .0 .0 GreatestDelay .0, part-long GreatestDelay w (c .before .before .before .before .before .before .before .before .before .before .before .before .before .pre .1 .0)), omega (arith, s, r1))
 
 sub-line-3 : tie.Need-sub-line-3
 sub-line-3 c = search needs
@@ -56,10 +58,11 @@ line-requires-3 : tie.Need-line-requires-3
 line-requires-3 c κs =
     let q = c .before .before .before .before .before .before .before .before .before .before .before .before .before .before .before .before .before .before .args .quotes in
     let w = c .before .before .before .before .before .before .before .before .before .before .before .before .before .before .before .before .before .before .args .walks .now in
+    let z = lines-room q w (c .before .before .before .before .before .before .before .before .before .before .before .before .before .before .before .before .before .before .pre .1 .0) (λ i. omega (arith, c .before .before .before .before .before .before .before .before .before .before .before .before .before .before .before .before .before .shared-slice-known .given i)) (c .before .before .before .before .before .before .before .before .before .before .before .before .before .before .before .before .before .before .pre .0 .0) (c .before .before .before .before .before .before .before .before .before .before .before .before .before .before .before .before .before .before .pre .0 .1) in
     let s = lines-sum q w in
-    let r1 = still-room (c .before .before .before .before .before .before .before .before .before .line .ensures) (long q w GreatestDelay + long q w LeastCount + long q w GreatestCount) (omega (arith, s, c .before .before .before .before .before .before .before .before .before .before .before .before .before .before .before .before .before .before .pre .2)) in
+    let r1 = still-room (c .before .before .before .before .before .before .before .before .before .line .ensures) (long q w GreatestDelay + long q w LeastCount + long q w GreatestCount) (omega (arith, s, c .before .before .before .before .before .before .before .before .before .before .before .before .before .before .before .before .before .before .pre .1 .1, z)) in
     let r2 = still-room (c .before .before .before .before .line2 .ensures) (long q w LeastCount + long q w GreatestCount) (omega (arith, s, r1)) in
-    (c .before .before .before .before .before .before .before .before .before .before .before .before .before .before .before .before .before .before .pre .0 LeastCount, omega (arith, c .before .before .before .before .before .before .before .before .before .before .before .before .before .before .before .before .before .before .pre .0 LeastCount .0, part-long LeastCount w (c .before .before .before .before .before .before .before .before .before .before .before .before .before .before .before .before .before .before .pre .1)), omega (arith, s, r2))
+    (c .before .before .before .before .before .before .before .before .before .before .before .before .before .before .before .before .before .before .pre .0 .0 LeastCount, omega (arith, c .before .before .before .before .before .before .before .before .before .before .before .before .before .before .before .before .before .before .pre .0 .0 LeastCount .0, part-long LeastCount w (c .before .before .before .before .before .before .before .before .before .before .before .before .before .before .before .before .before .before .pre .1 .0)), omega (arith, s, r2))
 
 sub-line-4 : tie.Need-sub-line-4
 sub-line-4 c = search needs
@@ -74,11 +77,12 @@ line-requires-4 : tie.Need-line-requires-4
 line-requires-4 c κs =
     let q = c .before .before .before .before .before .before .before .before .before .before .before .before .before .before .before .before .before .before .before .before .before .before .before .args .quotes in
     let w = c .before .before .before .before .before .before .before .before .before .before .before .before .before .before .before .before .before .before .before .before .before .before .before .args .walks .now in
+    let z = lines-room q w (c .before .before .before .before .before .before .before .before .before .before .before .before .before .before .before .before .before .before .before .before .before .before .before .pre .1 .0) (λ i. omega (arith, c .before .before .before .before .before .before .before .before .before .before .before .before .before .before .before .before .before .before .before .before .before .before .shared-slice-known .given i)) (c .before .before .before .before .before .before .before .before .before .before .before .before .before .before .before .before .before .before .before .before .before .before .before .pre .0 .0) (c .before .before .before .before .before .before .before .before .before .before .before .before .before .before .before .before .before .before .before .before .before .before .before .pre .0 .1) in
     let s = lines-sum q w in
-    let r1 = still-room (c .before .before .before .before .before .before .before .before .before .before .before .before .before .before .line .ensures) (long q w GreatestDelay + long q w LeastCount + long q w GreatestCount) (omega (arith, s, c .before .before .before .before .before .before .before .before .before .before .before .before .before .before .before .before .before .before .before .before .before .before .before .pre .2)) in
+    let r1 = still-room (c .before .before .before .before .before .before .before .before .before .before .before .before .before .before .line .ensures) (long q w GreatestDelay + long q w LeastCount + long q w GreatestCount) (omega (arith, s, c .before .before .before .before .before .before .before .before .before .before .before .before .before .before .before .before .before .before .before .before .before .before .before .pre .1 .1, z)) in
     let r2 = still-room (c .before .before .before .before .before .before .before .before .before .line2 .ensures) (long q w LeastCount + long q w GreatestCount) (omega (arith, s, r1)) in
     let r3 = still-room (c .before .before .before .before .line3 .ensures) (long q w GreatestCount) (omega (arith, s, r2)) in
-    (c .before .before .before .before .before .before .before .before .before .before .before .before .before .before .before .before .before .before .before .before .before .before .before .pre .0 GreatestCount, omega (arith, c .before .before .before .before .before .before .before .before .before .before .before .before .before .before .before .before .before .before .before .before .before .before .before .pre .0 GreatestCount .0, part-long GreatestCount w (c .before .before .before .before .before .before .before .before .before .before .before .before .before .before .before .before .before .before .before .before .before .before .before .pre .1)), omega (arith, s, r3))
+    (c .before .before .before .before .before .before .before .before .before .before .before .before .before .before .before .before .before .before .before .before .before .before .before .pre .0 .0 GreatestCount, omega (arith, c .before .before .before .before .before .before .before .before .before .before .before .before .before .before .before .before .before .before .before .before .before .before .before .pre .0 .0 GreatestCount .0, part-long GreatestCount w (c .before .before .before .before .before .before .before .before .before .before .before .before .before .before .before .before .before .before .before .before .before .before .before .pre .1 .0)), omega (arith, s, r3))
 
 same-length : tie.Need-same-length
 same-length c = search needs
