@@ -154,7 +154,7 @@ pub fn join(mut plan: Plan, from: usize, to: usize, low: usize, high: usize) -> 
 {
     let n = plan.states;
     let m = plan.transitions;
-    let sound = in_limits(
+    let limited = in_limits(
         n,
         m,
         &plan.marks,
@@ -163,7 +163,7 @@ pub fn join(mut plan: Plan, from: usize, to: usize, low: usize, high: usize) -> 
         &plan.low,
         &plan.high,
     );
-    if !sound {
+    if !limited {
         return refuse(plan, Refusal::PlanLimits);
     }
     let grounds = limits::checked(n, from, to, low, high);
@@ -187,7 +187,7 @@ pub fn unjoin(plan: Plan, number: usize) -> Edited
 {
     let n = plan.states;
     let m = plan.transitions;
-    let sound = in_limits(
+    let limited = in_limits(
         n,
         m,
         &plan.marks,
@@ -196,7 +196,7 @@ pub fn unjoin(plan: Plan, number: usize) -> Edited
         &plan.low,
         &plan.high,
     );
-    if !sound {
+    if !limited {
         return refuse(plan, Refusal::PlanLimits);
     }
     if m <= number {
@@ -251,7 +251,7 @@ pub fn read(plan: Plan, octets: &[u8]) -> Edited
 {
     let n = plan.states;
     let m = plan.transitions;
-    let sound = in_limits(
+    let limited = in_limits(
         n,
         m,
         &plan.marks,
@@ -260,7 +260,7 @@ pub fn read(plan: Plan, octets: &[u8]) -> Edited
         &plan.low,
         &plan.high,
     );
-    if !sound {
+    if !limited {
         return refuse(plan, Refusal::PlanLimits);
     }
     replace(plan, octets)
@@ -280,7 +280,7 @@ pub fn write(plan: Plan, buffer: &mut [u8]) -> Written
 {
     let n = plan.states;
     let m = plan.transitions;
-    let sound = in_limits(
+    let limited = in_limits(
         n,
         m,
         &plan.marks,
@@ -289,7 +289,7 @@ pub fn write(plan: Plan, buffer: &mut [u8]) -> Written
         &plan.low,
         &plan.high,
     );
-    if !sound {
+    if !limited {
         return Written::Refused(Refusal::PlanLimits);
     }
     let length = image::size(n, m);
