@@ -124,55 +124,54 @@ module _ {A : Arrays} {weight close : List ℕ} where
           settled t q (inl e) h = rw e (a .2)
           settled t q (inr ne) h = q t (omega (arith, ne))
 
--- the keys with the closes of the final states below i: what is known of the key of u
-abbrev Seeded : List ℕ → List ℕ → ℕ → List ℕ → ℕ → Type 0
-Seeded marks close i key u = (FinalIn marks u × (u < i) × (at key u ≡ at close u)) ⊎ ((u < i → UnfinishedIn marks u) × (at key u ≡ far))
+-- what the search begins with: the close of a final state for its key, and no key for any other
+abbrev Seeded : List ℕ → List ℕ → List ℕ → ℕ → Type 0
+Seeded marks close key u = (FinalIn marks u × (at key u ≡ at close u)) ⊎ (UnfinishedIn marks u × (at key u ≡ far))
 
-pub record Seeding (n : ℕ) (marks close : List ℕ) (i : ℕ) (key : List ℕ) : Type 0 where
+-- .. of the states below i
+pub record Seeding (marks close : List ℕ) (i : ℕ) (key : List ℕ) : Type 0 where
   pub sized : 512 ≤ length key
-  pub each : (u : ℕ) → u < n → Seeded marks close i key u
+  pub each : (u : ℕ) → u < i → Seeded marks close key u
 
-module _ {n : ℕ} {marks close : List ℕ} where
-  pub seeding-none : {key : List ℕ} → n ≤ 512 → 512 ≤ length key → ((s : ℕ) → s < 512 → at key s ≡ far) → Seeding n marks close 0 key
-  seeding-none fits sized h = record { sized = sized; each = λ u l. inr ((λ q. absurd (omega arith)), h u (omega arith)) }
+module _ {marks close : List ℕ} where
+  pub seeding-none : {key : List ℕ} → 512 ≤ length key → Seeding marks close 0 key
+  seeding-none sized = record { sized = sized; each = λ u l. absurd (omega arith) }
 
-  pub seeding-final : {key : List ℕ} {i : ℕ} → n ≤ 512 → i < n → FinalIn marks i → Seeding n marks close i key → Seeding n marks close (suc i) (set key i (at close i))
-  seeding-final {key} {i} fits l f k = record { sized = rw length-set (k .sized); each = λ u h. go u (k .each u h) (at-set key i _ u (omega (arith, k .sized))) }
+  -- one state more
+  seeding-more : {key : List ℕ} {i : ℕ} (x : ℕ) → i < 512 → (at (set key i x) i ≡ x → Seeded marks close (set key i x) i) → Seeding marks close i key → Seeding marks close (suc i) (set key i x)
+  seeding-more {key} {i} x l new k = record { sized = rw length-set (k .sized); each = λ u h. go u h (at-set key i x u (omega (arith, k .sized))) }
     where
-      key′ : List ℕ
-      key′ = set key i (at close i)
+      kept : (u : ℕ) → at (set key i x) u ≡ at key u → Seeded marks close key u → Seeded marks close (set key i x) u
+      kept u e (inl q) = inl (q .0, e ∙ q .1)
+      kept u e (inr q) = inr (q .0, e ∙ q .1)
 
-      go : (u : ℕ) → Seeded marks close i key u → ((u ≡ i) × (at key′ u ≡ at close i)) ⊎ ((u ≢ i) × (at key′ u ≡ at key u)) → Seeded marks close (suc i) key′ u
-      go u q (inl e) = inl (rw (e .0) f, omega (arith, e .0), rw (e .0) (rw (e .0) at (e .1)))
-      go u (inl q) (inr e) = inl (q .0, omega (arith, q .1), e .1 ∙ q .2)
-      go u (inr q) (inr e) = inr ((λ h. q .0 (omega (arith, e .0))), e .1 ∙ q .1)
+      go : (u : ℕ) → u < suc i → ((u ≡ i) × (at (set key i x) u ≡ x)) ⊎ ((u ≢ i) × (at (set key i x) u ≡ at key u)) → Seeded marks close (set key i x) u
+      go u h (inl e) = rw (e .0) (new (rw (e .0) at (e .1)))
+      go u h (inr e) = kept u (e .1) (k .each u (omega (arith, e .0)))
 
-  pub seeding-other : {key : List ℕ} {i : ℕ} → UnfinishedIn marks i → Seeding n marks close i key → Seeding n marks close (suc i) key
-  seeding-other {key} {i} o k = record { sized = k .sized; each = λ u h. go u (k .each u h) (same-or-not u i) }
-    where
-      go : (u : ℕ) → Seeded marks close i key u → (u ≡ i) ⊎ (u ≢ i) → Seeded marks close (suc i) key u
-      go u (inl q) e = inl (q .0, omega (arith, q .1), q .2)
-      go u (inr q) (inl e) = inr ((λ h. rw e o), q .1)
-      go u (inr q) (inr ne) = inr ((λ h. q .0 (omega (arith, ne))), q .1)
+  pub seeding-final : {key : List ℕ} {i : ℕ} → i < 512 → FinalIn marks i → Seeding marks close i key → Seeding marks close (suc i) (set key i (at close i))
+  seeding-final {key} {i} l f = seeding-more (at close i) l (λ e. inl (f, e))
 
-  pub seeded : {key : List ℕ} → ((s : ℕ) → at close s ≤ heaviest) → Seeding n marks close n key
-      → (m : ℕ) (from to weight : List ℕ) → Keys (arrays n m marks from to) weight close key
-  seeded {key} w k m from to weight = record {
+  pub seeding-other : {key : List ℕ} {i : ℕ} → i < 512 → UnfinishedIn marks i → Seeding marks close i key → Seeding marks close (suc i) (set key i far)
+  seeding-other {key} {i} l o = seeding-more far l (λ e. inr (o, e))
+
+  pub seeded : {key : List ℕ} {n : ℕ} → ((s : ℕ) → at close s ≤ heaviest) → Seeding marks close n key → (m : ℕ) (from to weight : List ℕ) → Keys (arrays n m marks from to) weight close key
+  seeded {key} {n} w k m from to weight = record {
     sized = k .sized;
-    most = λ s h. most s h (k .each s h);
-    at-final = λ s h f. at-final s h f (k .each s h);
+    most = λ s h. most s (k .each s h);
+    at-final = λ s h f. at-final s f (k .each s h);
     accounted = λ s h o b. absurd (known s o b (k .each s h));
   }
     where
-      most : (s : ℕ) → s < n → Seeded marks close n key s → at key s ≤ far
-      most s h (inl q) = rw (q .2) (omega (arith, w s))
-      most s h (inr q) = rw (q .1) (le-refl _)
+      most : (s : ℕ) → Seeded marks close key s → at key s ≤ far
+      most s (inl q) = rw (q .1) (omega (arith, w s))
+      most s (inr q) = rw (q .1) (le-refl _)
 
-      at-final : (s : ℕ) → s < n → FinalIn marks s → Seeded marks close n key s → at key s ≡ at close s
-      at-final s h f (inl q) = q .2
-      at-final s h f (inr q) = absurd (never-both f (q .0 h))
+      at-final : (s : ℕ) → FinalIn marks s → Seeded marks close key s → at key s ≡ at close s
+      at-final s f (inl q) = q .1
+      at-final s f (inr q) = absurd (never-both f (q .0))
 
-      known : (s : ℕ) → UnfinishedIn marks s → at key s < far → Seeded marks close n key s → ⊥
+      known : (s : ℕ) → UnfinishedIn marks s → at key s < far → Seeded marks close key s → ⊥
       known s o b (inl q) = never-both (q .0) o
       known s o b (inr q) = omega (arith, q .1)
 

@@ -4,7 +4,6 @@
 // Inside the search arrays are lent one by one: a struct of them would be copied at every step.
 ghost use mathlib.Core.Bool.{true, false};
 ghost use mathlib.Core.List.{List};
-ghost use mathlib.Core.Path.{_≡_};
 ghost use Prim.Native.Nat.{ℕ, _+_, _≤_, _<_};
 ghost use lib.ListN.{length};
 ghost use Rattle.search.specs.Arrays.{arrays, at, Bounded, Below};
@@ -54,7 +53,7 @@ fn offer(
     size + 1
 }
 
-// Gives each final state its close for a key, and makes it pending. Returns how many states are pending.
+// Gives each final state its close for a key, and makes it pending; no other state has a key. Returns how many states are pending.
 fn seed(
     n: usize,
     marks: &[u8; 512],
@@ -64,7 +63,7 @@ fn seed(
     place: &mut [u16; 512],
 ) -> usize
     requires { ⌜ (n ≤ 512) × ((s : ℕ) → at (now close) s ≤ heaviest) × (512 ≤ length (now key))
-        × ((s : ℕ) → s < 512 → at (now key) s ≡ far) × Below n (now heap) × Below 512 (now place) ⌝ }
+        × Below n (now heap) × Below 512 (now place) ⌝ }
     ensures { λ r. ⌜ (r ≤ 512)
         × ((m : ℕ) (from to weight : List ℕ) → Keys (arrays n m (now (marks .entry)) from to) weight (now (close .entry)) (now (key .exit)))
         × Below n (now (heap .exit)) × Below 512 (now (place .exit)) ⌝ }
@@ -77,6 +76,8 @@ fn seed(
             key[s] = last;
             nearest::rise(heap, place, key, size, s as u16);
             size += 1;
+        } else {
+            key[s] = FAR;
         }
         s += 1;
     }
@@ -112,7 +113,7 @@ fn relax_into<'a>(
     pending
 }
 
-// Spreads keys from the final states back, nearest first, until a start is nearest. Each state is taken once.
+// Spreads keys from the final states back, nearest first, until a start is nearest. Each state is taken once. Whatever the keys were before is lost.
 pub fn spread<'a, 'b>(
     n: usize,
     marks: &[u8; 512],
@@ -121,15 +122,16 @@ pub fn spread<'a, 'b>(
     close: &'a [u32; 512],
     head: &'b [u16; 512],
     link: &'b [u16; 2048],
-) -> [u32; 512]
+    key: &mut [u32; 512],
+)
+    requires { ⌜ 512 ≤ length (now key) ⌝ }
     requires { ⌜ ((m : ℕ) × (to : List ℕ) × Bounded (arrays n m (now marks) (now from) to) × Weighed m (now weight) (now close) × Chains to m (now head) (now link)) ⌝ }
     ensures { λ r. ⌜ ((m : ℕ) (to : List ℕ) → Bounded (arrays n m (now (marks .entry)) (now (from .entry)) to) → Weighed m (now (weight .entry)) (now (close .entry))
-        → Chains to m (now (head .entry)) (now (link .entry)) → Keys (arrays n m (now (marks .entry)) (now (from .entry)) to) (now (weight .entry)) (now (close .entry)) r) ⌝ }
+        → Chains to m (now (head .entry)) (now (link .entry)) → Keys (arrays n m (now (marks .entry)) (now (from .entry)) to) (now (weight .entry)) (now (close .entry)) (now (key .exit))) ⌝ }
 {
-    let mut key = [FAR; 512];
     let mut heap = [0u16; 512];
     let mut place = [0u16; 512];
-    let mut size = seed(n, marks, close, &mut key, &mut heap, &mut place);
+    let mut size = seed(n, marks, close, key, &mut heap, &mut place);
     let mut taken = 0;
     while taken < n {
         if size == 0 {
@@ -138,7 +140,7 @@ pub fn spread<'a, 'b>(
         let s = wide(heap[0]);
         size -= 1;
         let last = heap[size];
-        nearest::sink(&mut heap, &mut place, &key, size, last);
+        nearest::sink(&mut heap, &mut place, key, size, last);
         if is_start(marks[s]) {
             break;
         }
@@ -149,14 +151,13 @@ pub fn spread<'a, 'b>(
             weight,
             head,
             link,
-            &mut key,
+            key,
             &mut heap,
             &mut place,
             size,
         );
         taken += 1;
     }
-    key
 }
 
 // Lowers the key of the state that t leaves, where the way by t is cheaper, and cheaper than the bound. Returns whether it did.

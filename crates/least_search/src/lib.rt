@@ -34,7 +34,8 @@ pub fn least<'a>(
     ensures { λ r. ⌜ ((g : Graph) → StandsIn (arrays n m (now (marks .entry)) (now (from .entry)) (now (to .entry))) g
         → Quoted (IsLeast g (costIn weights)) g (costIn weights) (meant (r .figure)) (r .k) (r .j) (now (walk .entry)) (now (walk .exit))) ⌝ }
 {
-    let mut key = keys::spread(
+    let mut key = [0u32; 512];
+    keys::spread(
         n,
         marks,
         from,
@@ -42,6 +43,7 @@ pub fn least<'a>(
         &weights.close,
         &ways.into.head,
         &ways.into.link,
+        &mut key,
     );
     let best = keys::settle(n, m, marks, from, to, &weights.weight, &mut key);
     if n <= best {

@@ -1,4 +1,5 @@
 -- `least_search::least` meets its contract: keys that spread and are settled by the nearest start give the figure, and a route is read off them (LeastFigure). Assumes nothing.
+use native.Mathlib.Nat.{le-refl}
 use native.Mathlib.Omega.{arith}
 use borrow.Author.Needs.{needs}
 use Rattle.search.specs.Arrays.{Arrays, arrays}
@@ -11,36 +12,36 @@ abbrev graph : tie.Start → Arrays
 graph c = arrays (c .args .n) (c .args .m) (c .args .marks .now) (c .args .from .now) (c .args .to .now)
 
 -- the keys as they spread
-keyed : (c : tie.After-spread) → Keyed (graph (c .before .before .before .before .before .before .before .before)) (c .before .before .before .before .before .before .before .before .args .t7 .weight) (c .before .before .before .before .before .before .before .before .args .t7 .close) (c .spread .result)
+keyed : (c : tie.After-spread) → Keyed (graph (c .before .before .before .before .before .before .before .before .before)) (c .before .before .before .before .before .before .before .before .before .args .t7 .weight) (c .before .before .before .before .before .before .before .before .before .args .t7 .close) (c .spread .last .1 .1 .1 .1 .1 .1 .1 .0)
 keyed c =
-    let p = c .before .before .before .before .before .before .before .before .pre in
+    let p = c .before .before .before .before .before .before .before .before .before .pre in
     record { bounded = p .0 .0; weighed = p .0 .1; keys = c .spread .ensures _ _ (p .0 .0) (p .0 .1) (p .1 .0) }
 
 -- .. and as they are settled
-ready : (c : tie.After-settle) → Ready (graph (c .before .before .before .before .before .before .before .before .before .before .before .before)) (c .before .before .before .before .before .before .before .before .before .before .before .before .args .t7 .weight) (c .before .before .before .before .before .before .before .before .before .before .before .before .args .t7 .close) (c .settle .result) (c .settle .last .1 .1 .1 .1 .1 .1 .0)
-ready c = c .settle .ensures (c .before .before .before .before .before .before .before .before .before .before .before .before .args .t7 .close) (keyed (c .before .before .before .before))
+ready : (c : tie.After-settle) → Ready (graph (c .before .before .before .before .before .before .before .before .before .before .before .before .before)) (c .before .before .before .before .before .before .before .before .before .before .before .before .before .args .t7 .weight) (c .before .before .before .before .before .before .before .before .before .before .before .before .before .args .t7 .close) (c .settle .result) (c .settle .last .1 .1 .1 .1 .1 .1 .0)
+ready c = c .settle .ensures (c .before .before .before .before .before .before .before .before .before .before .before .before .before .args .t7 .close) (keyed (c .before .before .before .before))
 
 spread-requires : tie.Need-spread-requires
 spread-requires c κs =
-    let s = c .before .before .before .before .before .before .before in
-    (s .args .m, s .args .to .now, s .pre .0 .0, s .pre .0 .1, s .pre .1 .0)
+    let s = c .before .before .before .before .before .before .before .before in
+    (le-refl 512, (s .args .m, s .args .to .now, s .pre .0 .0, s .pre .0 .1, s .pre .1 .0))
 
 settle-requires : tie.Need-settle-requires
 settle-requires c κs = (_, keyed (c .before .before .before))
 
 returns : tie.Need-returns
-returns c = λ g held. none-quoted (ready (c .before)) held (c .if1 .taken) (c .before .before .before .before .before .before .before .before .before .before .before .before .before .args .walk .now)
+returns c = λ g held. none-quoted (ready (c .before)) held (c .if1 .taken) (c .before .before .before .before .before .before .before .before .before .before .before .before .before .before .args .walk .now)
 
 trace-requires : tie.Need-trace-requires
 trace-requires c κs =
-    let s = c .before .before .before .before .before .before .before .before .before .before .before .before .before .before .before .before .before .before .before .before in
+    let s = c .before .before .before .before .before .before .before .before .before .before .before .before .before .before .before .before .before .before .before .before .before in
     (s .args .n, s .args .m, s .args .from .now, s .args .t7 .close, s .pre .0 .2, readable (ready (c .before .before .before .before .before .before .before .before)) (s .pre .1 .1) (omega arith))
 
-mul-t29 : tie.Need-mul-t29
-mul-t29 c = omega (arith, c .before .before .before .before .before .before .before .before .before .before .before .before .before .before .before .before .before .before .before .before .before .before .before .pre .0 .0 .states, c .before .before .before .before .before .before .before .before .before .before .if1 .left)
+mul-t30 : tie.Need-mul-t30
+mul-t30 c = omega (arith, c .before .before .before .before .before .before .before .before .before .before .before .before .before .before .before .before .before .before .before .before .before .before .before .before .pre .0 .0 .states, c .before .before .before .before .before .before .before .before .before .before .if1 .left)
 
-array-read-t32 : tie.Need-array-read-t32
-array-read-t32 c = omega (arith, c .before .before .before .before .before .before .before .before .before .before .before .before .before .before .before .before .before .before .before .before .before .before .before .pre .0 .0 .states, c .before .before .before .before .before .before .before .before .before .before .if1 .left)
+array-read-t33 : tie.Need-array-read-t33
+array-read-t33 c = omega (arith, c .before .before .before .before .before .before .before .before .before .before .before .before .before .before .before .before .before .before .before .before .before .before .before .before .pre .0 .0 .states, c .before .before .before .before .before .before .before .before .before .before .if1 .left)
 
 same-length : tie.Need-same-length
 same-length c = search needs
@@ -48,7 +49,7 @@ same-length c = search needs
 returns-2 : tie.Need-returns-2
 returns-2 c =
     let t = c .before .before .trace in
-    let s = c .before .before .before .before .before .before .before .before .before .before .before .before .before .before .before .before .before .before .before .before .before .before .before in
+    let s = c .before .before .before .before .before .before .before .before .before .before .before .before .before .before .before .before .before .before .before .before .before .before .before .before in
     let r = ready (c .before .before .before .before .before .before .before .before .before .before .before) in
     λ g held.
     least-quoted r held (omega (arith, c .before .before .before .before .before .before .before .before .before .before .if1 .left)) (t .kept .1 .1 .1 .1 .1 .1 .1 .0) (s .pre .0 .2)
@@ -62,7 +63,7 @@ least-spec =
     settle-requires
     returns
     trace-requires
-    mul-t29
-    array-read-t32
+    mul-t30
+    array-read-t33
     same-length
     returns-2)

@@ -1,4 +1,4 @@
--- `least_search::keys::seed` meets its contract. The loop's invariant: the final states passed have their closes for keys, no other state has a key, and no more
+-- `least_search::keys::seed` meets its contract. The loop's invariant: the final states passed have their closes for keys, no other state passed has a key, and no more
 -- states are pending than are passed. The measure is what is left of the states. Assumes nothing.
 use Prim.Native.Nat.{_-_, _≤_}
 use mathlib.Core.Logic.{⊎-elim}
@@ -13,13 +13,13 @@ use Rattle.least_search.proofs.keys.seed.Tie as tie
 
 abbrev Inv-loop : tie.InvT-loop
 Inv-loop n marks close key₀ heap₀ place₀ size₀ s₀ key heap place size s =
-    (s ≤ n) × (size ≤ s) × Below n heap × Below 512 place × Seeding n marks close s key
+    (s ≤ n) × (size ≤ s) × Below n heap × Below 512 place × Seeding marks close s key
 
 abbrev μ-loop : tie.MeasureT-loop
 μ-loop n marks close key₀ heap₀ place₀ size₀ s₀ key heap place size s = n - s
 
 loop-holds : tie.Need-loop-holds Inv-loop μ-loop
-loop-holds c = (search needs, search needs, c .pre .4, c .pre .5, seeding-none (c .pre .0) (c .pre .2) (c .pre .3))
+loop-holds c = (search needs, search needs, c .pre .3, c .pre .4, seeding-none (c .pre .2))
 
 element-copy-out-is-final : tie.Need-element-copy-out-is-final Inv-loop μ-loop
 element-copy-out-is-final c = search needs
@@ -51,6 +51,12 @@ rise-requires c κs =
 add-size : tie.Need-add-size Inv-loop μ-loop
 add-size c = search needs
 
+mul-key-2 : tie.Need-mul-key-2 Inv-loop μ-loop
+mul-key-2 c = search needs
+
+element-write-key-2 : tie.Need-element-write-key-2 Inv-loop μ-loop
+element-write-key-2 c = omega (arith, c .before .before .before .before .loop .inv .4 .sized)
+
 add-s : tie.Need-add-s Inv-loop μ-loop
 add-s c = search needs
 
@@ -68,14 +74,14 @@ loop-again c =
       omega (arith, w .9),
       rw (w .7) (w .5 .ensures .1 _ (omega arith) (l .inv .2)),
       rw (w .8) (w .5 .ensures .0),
-      rw (add-one, w .6) (seeding-final (p .0) (omega arith) (sym e ∙ w .0 .taken) (l .inv .4)),
+      rw (add-one, w .6) (seeding-final (omega arith) (sym e ∙ w .0 .taken) (l .inv .4)),
     ))
     (λ w. (
       omega arith,
       omega (arith, w .4),
       rw (w .2) (l .inv .2),
       rw (w .3) (l .inv .3),
-      rw (add-one, w .1) (seeding-other (sym e ∙ w .0 .left) (l .inv .4)),
+      rw (add-one, w .1) (seeding-other (omega arith) (sym e ∙ w .0 .left) (l .inv .4)),
     ))
     (c .if1 .came)
 
@@ -102,6 +108,8 @@ seed-spec =
     cast-rise
     rise-requires
     add-size
+    mul-key-2
+    element-write-key-2
     add-s
     loop-less
     loop-again

@@ -2,10 +2,8 @@
 -- the measure is what is left of n. Assumes nothing.
 use Prim.Native.Nat.{ℕ, _-_, _≤_, _<_}
 use mathlib.Core.List.{List}
-use native.Mathlib.Nat.{le-refl}
 use native.Mathlib.Omega.{arith}
 use borrow.Author.Needs.{needs}
-use lib.ListN.{getD-replicate}
 use Rattle.search.specs.Arrays.{arrays, Bounded, Below}
 use Rattle.search.specs.Chain.{Chains}
 use Rattle.least_search.specs.Keys.{Weighed, Keys, Spreading}
@@ -21,16 +19,18 @@ abbrev μ-loop : tie.MeasureT-loop
 μ-loop n marks from weight close head link key₀ heap₀ place₀ size₀ taken₀ key heap place size taken = n - taken
 
 few : (c : tie.Start Inv-loop μ-loop) → c .args .n ≤ 512
-few c = c .pre .2 .states
+few c = c .pre .1 .2 .states
 
 -- the state that is taken
+
 taken-below : (c : tie.After-wide Inv-loop μ-loop) → c .wide .result < c .before .before .before .before .before .before .before .before .args .n
 taken-below c = omega (arith, c .wide .ensures, c .before .before .before .loop .inv .2 0)
 
 seed-requires : tie.Need-seed-requires Inv-loop μ-loop
 seed-requires c κs =
-    let p = c .before .before .before .pre in
-    (p .2 .states, p .3 .close-most, le-refl 512, (λ s h. getD-replicate 512 s 4000000000 0 h), below-zeros 512 (p .2 .some), below-zeros 512 (omega arith))
+    let s = c .before .before .before in
+    let p = s .pre .1 in
+    (p .2 .states, p .3 .close-most, s .pre .0, below-zeros 512 (p .2 .some), below-zeros 512 (omega arith))
 
 loop-holds : tie.Need-loop-holds Inv-loop μ-loop
 loop-holds c = let s = c .seed .ensures in (omega arith, s .0, s .2, s .3, λ m to b w h. s .1 m _ to _)
@@ -63,6 +63,7 @@ is-start-requires : tie.Need-is-start-requires Inv-loop μ-loop
 is-start-requires c κs = search needs
 
 -- what the keys are spread over
+
 spreading : (c : tie.At-loop Inv-loop μ-loop) (m : ℕ) (to : List ℕ)
     → Bounded (arrays (c .before .before .before .before .before .args .n) m (c .before .before .before .before .before .args .marks .now) (c .before .before .before .before .before .args .from .now) to)
     → Weighed m (c .before .before .before .before .before .args .weight .now) (c .before .before .before .before .before .args .close .now) → Chains to m (c .before .before .before .before .before .args .head .now) (c .before .before .before .before .before .args .link .now)
@@ -73,7 +74,7 @@ spreading c m to b w h = record { keyed = record { bounded = b; weighed = w; key
 relax-into-requires : tie.Need-relax-into-requires Inv-loop μ-loop
 relax-into-requires c κs =
     let l = c .before .before .before .before .before .before .before .before .before .before .before .before .before in
-    let p = l .before .before .before .before .before .pre in
+    let p = l .before .before .before .before .before .pre .1 in
     let s = c .before .before .before .before .before .before .sink .ensures in
     (omega arith, s .0, (l .before .before .before .before .before .args .n, p .0, p .1, l .before .before .before .before .before .args .close .now, taken-below (c .before .before .before .before .before .before .before .before .before .before), spreading l (p .0) (p .1) (p .2) (p .3) (p .4), s .1 _ (l .loop .inv .2 _) (l .loop .inv .2)))
 
@@ -87,7 +88,7 @@ loop-again : tie.Need-loop-again Inv-loop μ-loop
 loop-again c =
     let l = c .before .before .before .before .before .before .before .before .before .before .before .before .before .before in
     let a = l .before .before .before .before .before .args in
-    let p = l .before .before .before .before .before .pre in
+    let p = l .before .before .before .before .before .pre .1 in
     let o = c .relax-into .ensures in
     let s = c .before .before .before .before .before .before .before .sink .ensures in
     let t = taken-below (c .before .before .before .before .before .before .before .before .before .before .before) in
