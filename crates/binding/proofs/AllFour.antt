@@ -20,7 +20,7 @@ use Rattle.plan.specs.Promise.{Held}
 use Rattle.plan.specs.View.{view}
 use Rattle.plan.proofs.Holding.{held-within, held-plan}
 use Rattle.quotation.proofs.Small.{four-small}
-use Rattle.quotation.proofs.Together.{all-done, all-not-refused}
+use Rattle.quotation.proofs.Kept.{all-done, all-not-refused}
 use Rattle.answers.specs.Answered.{AllSmall, AllAnswered}
 use Rattle.binding.specs.Quoted.{canQuote, LentQuotes}
 use Rattle.binding.proofs.Edits.{true-false}
