@@ -9,7 +9,7 @@ ghost use Rattle.plan.specs.Promise.{Edit};
 ghost use Rattle.plan.specs.View.{view, noPlan};
 ghost use Rattle.rules.specs.Calls.{step, mark, join, unjoin, read};
 ghost use Rattle.rules.specs.Image.{image};
-ghost use Rattle.rules.specs.Quotations.{Quotes, Write, recordOctets, recordRule};
+ghost use Rattle.rules.specs.Quotations.{Write, recordOctets, recordRule};
 ghost use Rattle.rules.specs.Rules.{freshRule, writeRule};
 ghost use Rattle.slices.specs.Lent.{lentPlan, slices};
 ghost use Rattle.binding.specs.Lent.{LentEdit, LentWrite};
@@ -19,7 +19,6 @@ use graph::Which;
 use plan::Edited;
 use plan::Plan;
 use rules::Answer;
-use rules::Quotation;
 use rules::Written;
 
 // An edit of the plan that lent slices hold. The octets of a read are lent beside it.
@@ -213,18 +212,6 @@ pub extern "C" fn callplan_lent_write(
     fill(Content::Image, counts, marks, fields, buffer)
 }
 
-// One quotation of a plan.
-fn ask(which: Which, plan: Plan, walk: &mut [u16]) -> Quotation
-    ensures { λ r. ⌜ Quotes which (view plan) (now (walk .entry)) (now (walk .exit)) r ⌝ }
-{
-    match which {
-        Which::LeastDelay => quotation::least_delay(plan, walk),
-        Which::GreatestDelay => quotation::greatest_delay(plan, walk),
-        Which::LeastCount => quotation::least_count(plan, walk),
-        Which::GreatestCount => quotation::greatest_count(plan, walk),
-    }
-}
-
 // One quotation of the plan that lent slices hold.
 fn quote(
     which: Which,
@@ -244,7 +231,7 @@ fn quote(
     if out.len() < 4 {
         return 255;
     }
-    let quotation = ask(which, slices::load(counts, marks, fields), walk);
+    let quotation = quotation::quote(which, slices::load(counts, marks, fields), walk);
     answers::one(quotation, out)
 }
 

@@ -33,11 +33,11 @@ returns-2 c =
 load-requires : tie.Need-load-requires
 load-requires c κs = has-room _ _ _ (room (c .before))
 
-ask-requires : tie.Need-ask-requires
-ask-requires c κs = search needs
+quote-requires : tie.Need-quote-requires
+quote-requires c κs = search needs
 
 one-requires : tie.Need-one-requires
-one-requires c κs = (small (c .before .before .before .before .before .before .before .before .before .before .before .before .before .before .args .which) (view (c .before .before .before .before .before .load .result)) (c .before .before .before .before .before .before .before .before .before .before .before .before .before .before .args .walk .now) _ (c .before .before .before .ask .result) (c .before .before .before .ask .ensures), c .before .before .before .before .before .before .if2 .left)
+one-requires c κs = (small (c .before .before .before .before .before .before .before .before .before .before .before .before .before .before .args .which) (view (c .before .before .before .before .before .load .result)) (c .before .before .before .before .before .before .before .before .before .before .before .before .before .before .args .walk .now) _ (c .before .before .before .quote .result) (c .before .before .before .quote .ensures), c .before .before .before .before .before .before .if2 .left)
 
 same-length : tie.Need-same-length
 same-length c = search needs
@@ -49,7 +49,7 @@ returns-3 : tie.Need-returns-3
 returns-3 c =
     let a = c .before .before .before .before .before .before .before .before .before .before .before .before .before .before .before .before .before .args in
     let s = slices (a .counts .now) (a .marks .now) (a .fields .now) in
-    quote-finished (a .which) (c .before .before .before .before .before .before .before .before .load .result) s (a .walk .now) _ (a .out .now) _ (c .before .before .before .before .before .before .ask .result) _ (enough s (a .out .now) (room (c .before .before .before .before .before .before .before .before .before .before)) (c .before .before .before .before .before .before .before .before .before .if2 .left)) (c .before .before .before .before .before .before .before .before .load .ensures) (c .before .before .before .before .before .before .ask .ensures)
+    quote-finished (a .which) (c .before .before .before .before .before .before .before .before .load .result) s (a .walk .now) _ (a .out .now) _ (c .before .before .before .before .before .before .quote .result) _ (enough s (a .out .now) (room (c .before .before .before .before .before .before .before .before .before .before)) (c .before .before .before .before .before .before .before .before .before .if2 .left)) (c .before .before .before .before .before .before .before .before .load .ensures) (c .before .before .before .before .before .before .quote .ensures)
     (c .before .before .one .ensures)
 
 pub quote-spec : {M : Type 1} → statement M
@@ -60,7 +60,7 @@ quote-spec =
     returns
     returns-2
     load-requires
-    ask-requires
+    quote-requires
     one-requires
     same-length
     same-length-2
