@@ -12,7 +12,10 @@ pub record Filled (k : ℕ) (f : ℕ → ℕ) (xs : List ℕ) : Type 0 where
   pub each : (i : ℕ) → i < k → getD xs i 0 ≡ f i
   pub later : (i : ℕ) → k ≤ i → getD xs i 0 ≡ 0
 
--- a state adds nothing where it is the last
+-- no transition weighs anything, and no state adds anything where it is the last
+abbrev pub noWeight : List ℕ
+noWeight = replicate 2048 0
+
 abbrev pub noClose : List ℕ
 noClose = replicate 512 0
 

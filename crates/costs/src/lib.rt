@@ -7,7 +7,7 @@ ghost use Prim.Native.Nat.{ℕ, _≤_, _<_};
 ghost use lib.ListN.{getD};
 ghost use Rattle.graph.specs.Graph.{countedMark};
 ghost use Rattle.graph.specs.Route.{one};
-ghost use Rattle.costs.specs.Arrays.{Filled, delayWeight, countWeight, countClose, noClose};
+ghost use Rattle.costs.specs.Arrays.{Filled, delayWeight, countWeight, countClose, noWeight, noClose};
 ghost use Rattle.costs.specs.Scaled.{scale as scaleOf};
 use arrays::limits::wide;
 use search::Weights;
@@ -22,47 +22,64 @@ fn counted(marks: u8) -> u32
     if search::is_counted(marks) { 1 } else { 0 }
 }
 
-// The weights of the first m transitions from their durations, lows or highs.
-fn durations_of(durations: &[u16; 2048], m: usize, scale: u32, extra: u32) -> [u32; 2048]
-    requires { ⌜ (m ≤ 2048) × (scale ≤ scaleOf) × (extra ≤ 1) × ((t : ℕ) → t < m → getD (now durations) t 0 ≤ 2047) ⌝ }
-    ensures { λ r. ⌜ Filled m (delayWeight scale extra (now (durations .entry))) r ⌝ }
+// No weights: each is zero.
+fn none() -> Weights
+    ensures { λ r. ⌜ (r .weight ≡ noWeight) × (r .close ≡ noClose) ⌝ }
 {
-    let mut weight = [0u32; 2048];
+    Weights {
+        weight: [0u32; 2048],
+        close: [0u32; 512],
+    }
+}
+
+// Fills the weights of the first m transitions from their durations, lows or highs.
+fn fill_durations(
+    durations: &[u16; 2048],
+    m: usize,
+    scale: u32,
+    extra: u32,
+    weight: &mut [u32; 2048],
+)
+    requires { ⌜ (m ≤ 2048) × (scale ≤ scaleOf) × (extra ≤ 1) × ((t : ℕ) → t < m → getD (now durations) t 0 ≤ 2047) × (now weight ≡ noWeight) ⌝ }
+    ensures { λ r. ⌜ Filled m (delayWeight scale extra (now (durations .entry))) (now (weight .exit)) ⌝ }
+{
     let mut t = 0;
     while t < m {
         weight[t] = scale * durations[t] as u32 + extra;
         t += 1;
     }
-    weight
 }
 
-// The weights of the first m transitions from the marks of the states that they leave.
-fn leaving(marks: &[u8; 512], from: &[u16; 2048], m: usize, scale: u32, extra: u32) -> [u32; 2048]
-    requires { ⌜ (m ≤ 2048) × (scale ≤ scaleOf) × (extra ≤ 1) × ((t : ℕ) → t < m → getD (now from) t 0 < 512) ⌝ }
-    ensures { λ r. ⌜ Filled m (countWeight scale extra (now (marks .entry)) (now (from .entry))) r ⌝ }
+// Fills the weights of the first m transitions from the marks of the states that they leave.
+fn fill_leaving(
+    marks: &[u8; 512],
+    from: &[u16; 2048],
+    m: usize,
+    scale: u32,
+    extra: u32,
+    weight: &mut [u32; 2048],
+)
+    requires { ⌜ (m ≤ 2048) × (scale ≤ scaleOf) × (extra ≤ 1) × ((t : ℕ) → t < m → getD (now from) t 0 < 512) × (now weight ≡ noWeight) ⌝ }
+    ensures { λ r. ⌜ Filled m (countWeight scale extra (now (marks .entry)) (now (from .entry))) (now (weight .exit)) ⌝ }
 {
-    let mut weight = [0u32; 2048];
     let mut t = 0;
     while t < m {
         let s = wide(from[t]);
         weight[t] = scale * counted(marks[s]) + extra;
         t += 1;
     }
-    weight
 }
 
-// The closes of the first n states from their marks.
-fn closes(marks: &[u8; 512], n: usize, scale: u32) -> [u32; 512]
-    requires { ⌜ (n ≤ 512) × (scale ≤ scaleOf) ⌝ }
-    ensures { λ r. ⌜ Filled n (countClose scale (now (marks .entry))) r ⌝ }
+// Fills the closes of the first n states from their marks.
+fn fill_closes(marks: &[u8; 512], n: usize, scale: u32, close: &mut [u32; 512])
+    requires { ⌜ (n ≤ 512) × (scale ≤ scaleOf) × (now close ≡ noClose) ⌝ }
+    ensures { λ r. ⌜ Filled n (countClose scale (now (marks .entry))) (now (close .exit)) ⌝ }
 {
-    let mut close = [0u32; 512];
     let mut s = 0;
     while s < n {
         close[s] = scale * counted(marks[s]);
         s += 1;
     }
-    close
 }
 
 // The weights of a delay: the durations of the first m transitions, and no closes.
@@ -70,9 +87,9 @@ pub fn delays(durations: &[u16; 2048], m: usize, scale: u32, extra: u32) -> Weig
     requires { ⌜ (m ≤ 2048) × (scale ≤ scaleOf) × (extra ≤ 1) × ((t : ℕ) → t < m → getD (now durations) t 0 ≤ 2047) ⌝ }
     ensures { λ r. ⌜ Filled m (delayWeight scale extra (now (durations .entry))) (r .weight) × (r .close ≡ noClose) ⌝ }
 {
-    let weight = durations_of(durations, m, scale, extra);
-    let close = [0u32; 512];
-    Weights { weight, close }
+    let mut weights = none();
+    fill_durations(durations, m, scale, extra, &mut weights.weight);
+    weights
 }
 
 // The weights of a count: the marks of the states that the first m transitions leave, and those of the n states for the last one.
@@ -88,7 +105,8 @@ pub fn counts<'a>(
     ensures { λ r. ⌜ Filled m (countWeight scale extra (now (marks .entry)) (now (from .entry))) (r .weight)
         × Filled n (countClose scale (now (marks .entry))) (r .close) ⌝ }
 {
-    let weight = leaving(marks, from, m, scale, extra);
-    let close = closes(marks, n, scale);
-    Weights { weight, close }
+    let mut weights = none();
+    fill_leaving(marks, from, m, scale, extra, &mut weights.weight);
+    fill_closes(marks, n, scale, &mut weights.close);
+    weights
 }

@@ -1,4 +1,6 @@
 -- What a figure of a plan is searched over, by which figure it is. Assumes nothing.
+use mathlib.Core.List.{List}
+use mathlib.Core.Path.{_≡_}
 use Prim.Native.Nat.{ℕ, _≤_, _<_}
 use Rattle.graph.specs.declared.Which.{Which}
 use Rattle.graph.specs.declared.Which.the-variants.{LeastDelay, GreatestDelay, LeastCount, GreatestCount}
@@ -38,6 +40,20 @@ pub record WeighsAs (times extra : ℕ) (p : Plan) (c : Cost) (w : Weights) : Ty
 -- they are the figure's
 abbrev pub Weighs : Which → Plan → Weights → Type 0
 Weighs which p w = WeighsAs (timesFor which) (extraFor which) p (costFor which (view p)) w
+
+-- the plan value of two counts and five arrays
+abbrev pub planOf : ℕ → ℕ → List ℕ → List ℕ → List ℕ → List ℕ → List ℕ → Plan
+planOf n m marks from to low high =
+    record { states = n; transitions = m; marks = marks; from = from; to = to; low = low; high = high }
+
+-- the counts and arrays are the plan's
+pub record Lends (p : Plan) (n m : ℕ) (marks from low high : List ℕ) : Type 0 where
+  pub states : p .states ≡ n
+  pub transitions : p .transitions ≡ m
+  pub marks-are : p .marks ≡ marks
+  pub from-are : p .from ≡ from
+  pub lows-are : p .low ≡ low
+  pub highs-are : p .high ≡ high
 
 -- the arrays of a plan that the searches see
 abbrev pub arraysOf : Plan → Arrays

@@ -6,10 +6,10 @@ ghost use mathlib.Core.Path.{_≡_};
 ghost use Prim.Native.Nat.{ℕ, _≤_, _<_, _^_};
 ghost use lib.ListN.{length};
 ghost use Rattle.field.specs.Field.{Within, putAll};
-ghost use Rattle.figures.specs.Figures.{OutOf, Into, ReachedIn};
 ghost use Rattle.graph.specs.declared.Which.{Which};
 ghost use Rattle.graph.specs.declared.Which.the-variants.{LeastDelay, GreatestDelay, LeastCount, GreatestCount};
 ghost use Rattle.graph.specs.Figure.{value};
+ghost use Rattle.figures.specs.Figures.{planOf};
 ghost use Rattle.graph.specs.Which.{isLeast};
 ghost use Rattle.plan.specs.View.{view};
 ghost use Rattle.rules.specs.Limits.{within as withinLimits};
@@ -17,7 +17,6 @@ ghost use Rattle.rules.specs.Quotations.{meant, says, Stated, figureFields, quo
 ghost use Rattle.rules.specs.Refusal.{said};
 use graph::Which;
 use plan::Plan;
-use reach::Searched;
 use reach::explore;
 use rules::Answer;
 use rules::FourQuotes;
@@ -27,8 +26,6 @@ use rules::Quote;
 use rules::Refusal;
 use rules::Written;
 use search::chain;
-use search::chain::Chain;
-use search::chain::Ways;
 
 // Whether a quotation is refused that was lent so many places: the plan's limits, then the places.
 fn ask(plan: Plan, places: usize) -> Answer
@@ -56,36 +53,30 @@ fn is_least(which: Which) -> bool
     }
 }
 
-// The transitions of a plan by state, both ways.
-fn ways(plan: Plan) -> Ways
-    requires { ⌜ withinLimits (view plan) ≡ true ⌝ }
-    ensures { λ r. ⌜ Into plan (r .into) × OutOf plan (r .out) ⌝ }
-{
-    let m = plan.transitions;
-    chain::both(&plan.from, &plan.to, m)
-}
-
-// What the starts of a plan reach.
-fn searched(plan: Plan, out: Chain) -> Searched
-    requires { ⌜ (withinLimits (view plan) ≡ true) × OutOf plan out ⌝ }
-    ensures { λ r. ⌜ ReachedIn plan r ⌝ }
-{
-    let n = plan.states;
-    explore::reach(n, &plan.marks, &plan.to, &out.head, &out.link)
-}
-
 // A figure of a plan, with the walk that shows it.
 fn show(which: Which, plan: Plan, walk: &mut [u16]) -> Quote
     requires { ⌜ (withinLimits (view plan) ≡ true) × (plan .states ≤ length (now walk)) ⌝ }
     ensures { λ r. ⌜ Stated (says which (view plan)) r (now (walk .entry)) (now (walk .exit)) ⌝ }
 {
-    let ways = ways(plan);
+    let n = plan.states;
+    let m = plan.transitions;
+    let weights = figures::weights(which, n, m, &plan.marks, &plan.from, &plan.low, &plan.high);
+    let ways = chain::both(&plan.from, &plan.to, m);
     if is_least(which) {
-        return figures::least(which, plan, ways, walk);
+        return figures::least(n, m, &plan.marks, &plan.from, &plan.to, ways, weights, walk);
     }
     let out = ways.out;
-    let searched = searched(plan, out);
-    figures::greatest(which, plan, out, searched, walk)
+    let searched = explore::reach(n, &plan.marks, &plan.to, &out.head, &out.link);
+    figures::greatest(
+        n,
+        &plan.marks,
+        &plan.from,
+        &plan.to,
+        out,
+        searched,
+        weights,
+        walk,
+    )
 }
 
 // A quotation of a figure, with the walk that shows it.
@@ -127,35 +118,38 @@ pub fn greatest_count(plan: Plan, walk: &mut [u16]) -> Quotation
     quote(Which::GreatestCount, plan, walk)
 }
 
-// The four figures of a plan within the limits, by one search for both greatest ones; the walks stand in four parts of 512 places.
-fn show_all(plan: Plan, walks: &mut [u16]) -> FourQuotes
-    requires { ⌜ (withinLimits (view plan) ≡ true) × (2048 ≤ length (now walks)) ⌝ }
-    ensures { λ r. ⌜ AllStated (view plan) r (now (walks .entry)) (now (walks .exit)) ⌝ }
+// The four figures of the plan in the arrays, by one search for both greatest ones; the walks stand in four parts of 512 places.
+fn show_all<'a>(
+    n: usize,
+    m: usize,
+    marks: &'a [u8; 512],
+    from: &'a [u16; 2048],
+    to: &'a [u16; 2048],
+    low: &'a [u16; 2048],
+    high: &'a [u16; 2048],
+    walks: &mut [u16],
+) -> FourQuotes
+    requires { ⌜ (withinLimits (view (planOf n m (now marks) (now from) (now to) (now low) (now high))) ≡ true) × (2048 ≤ length (now walks)) ⌝ }
+    ensures { λ r. ⌜ AllStated
+        (view (planOf n m (now (marks .entry)) (now (from .entry)) (now (to .entry)) (now (low .entry)) (now (high .entry))))
+        r (now (walks .entry)) (now (walks .exit)) ⌝ }
 {
-    let ways = ways(plan);
+    let ways = chain::both(from, to, m);
     let out = ways.out;
-    let searched = searched(plan, out);
-    let least_delay = figures::least(Which::LeastDelay, plan, ways, &mut walks[0..512]);
-    let greatest_delay = figures::greatest(
-        Which::GreatestDelay,
-        plan,
-        out,
-        searched,
-        &mut walks[512..1024],
-    );
-    let least_count = figures::least(Which::LeastCount, plan, ways, &mut walks[1024..1536]);
-    let greatest_count = figures::greatest(
-        Which::GreatestCount,
-        plan,
-        out,
-        searched,
-        &mut walks[1536..2048],
-    );
+    let reached = explore::reach(n, marks, to, &out.head, &out.link);
+    let a = figures::weights(Which::LeastDelay, n, m, marks, from, low, high);
+    let b = figures::weights(Which::GreatestDelay, n, m, marks, from, low, high);
+    let c = figures::weights(Which::LeastCount, n, m, marks, from, low, high);
+    let d = figures::weights(Which::GreatestCount, n, m, marks, from, low, high);
+    let first = figures::least(n, m, marks, from, to, ways, a, &mut walks[0..512]);
+    let second = figures::greatest(n, marks, from, to, out, reached, b, &mut walks[512..1024]);
+    let third = figures::least(n, m, marks, from, to, ways, c, &mut walks[1024..1536]);
+    let fourth = figures::greatest(n, marks, from, to, out, reached, d, &mut walks[1536..2048]);
     FourQuotes {
-        least_delay,
-        greatest_delay,
-        least_count,
-        greatest_count,
+        least_delay: first,
+        greatest_delay: second,
+        least_count: third,
+        greatest_count: fourth,
     }
 }
 
@@ -169,7 +163,18 @@ pub fn all(plan: Plan, walks: &mut [u16]) -> Quotations
     if walks.len() < 2048 {
         return Quotations::Refused(Refusal::BufferLength);
     }
-    Quotations::Quoted(show_all(plan, walks))
+    let n = plan.states;
+    let m = plan.transitions;
+    Quotations::Quoted(show_all(
+        n,
+        m,
+        &plan.marks,
+        &plan.from,
+        &plan.to,
+        &plan.low,
+        &plan.high,
+        walks,
+    ))
 }
 
 // Puts the kind and the number of a quoted figure at a bit position: 2 bits and 20.
@@ -211,7 +216,18 @@ pub fn record(plan: Plan, buffer: &mut [u8]) -> Written
         return Written::Refused(Refusal::BufferLength);
     }
     let mut walks = [0u16; 2048];
-    let quotes = show_all(plan, &mut walks);
+    let n = plan.states;
+    let m = plan.transitions;
+    let quotes = show_all(
+        n,
+        m,
+        &plan.marks,
+        &plan.from,
+        &plan.to,
+        &plan.low,
+        &plan.high,
+        &mut walks,
+    );
     put_record(buffer, quotes);
     Written::Length(11)
 }

@@ -16,19 +16,19 @@ within-requires : tie.Need-within-requires
 within-requires c κs = search needs
 
 returns : tie.Need-returns
-returns c = all-refusal (view (c .before .before .before .args .plan)) _ PlanLimits (all-limits (view (c .before .before .before .args .plan)) _ (sym (c .before .within .ensures) ∙ not-true _ (c .if1 .taken)))
+returns c = all-refusal (view (c .before .before .before .args .t1)) _ PlanLimits (all-limits (view (c .before .before .before .args .t1)) _ (sym (c .before .within .ensures) ∙ not-true _ (c .if1 .taken)))
 
 returns-2 : tie.Need-returns-2
-returns-2 c = all-refusal (view (c .before .before .before .before .args .plan)) _ BufferLength (all-short (view (c .before .before .before .before .args .plan)) _ (sym (c .before .before .within .ensures) ∙ not-false _ (c .before .if1 .left)) (c .if2 .taken))
+returns-2 c = all-refusal (view (c .before .before .before .before .args .t1)) _ BufferLength (all-short (view (c .before .before .before .before .args .t1)) _ (sym (c .before .before .within .ensures) ∙ not-false _ (c .before .if1 .left)) (c .if2 .taken))
 
 show-all-requires : tie.Need-show-all-requires
-show-all-requires c κs = ((sym (c .before .before .before .within .ensures) ∙ not-false _ (c .before .before .if1 .left)), c .before .if2 .left)
+show-all-requires c κs = ((sym (c .before .before .before .before .before .before .before .before .before .within .ensures) ∙ not-false _ (c .before .before .before .before .before .before .before .before .if1 .left)), c .before .before .before .before .before .before .before .if2 .left)
 
 same-length : tie.Need-same-length
 same-length c = search needs
 
 returns-3 : tie.Need-returns-3
-returns-3 c = all-acceptance (view (c .before .before .before .before .before .before .before .before .args .plan)) _ _ _ (all-done (view (c .before .before .before .before .before .before .before .before .args .plan)) _ (sym (c .before .before .before .before .before .before .within .ensures) ∙ not-false _ (c .before .before .before .before .before .if1 .left)) (c .before .before .before .before .if2 .left)) (c .before .before .show-all .ensures)
+returns-3 c = all-acceptance (view (c .before .before .before .before .before .before .before .before .before .before .before .before .before .before .args .t1)) _ _ _ (all-done (view (c .before .before .before .before .before .before .before .before .before .before .before .before .before .before .args .t1)) _ (sym (c .before .before .before .before .before .before .before .before .before .before .before .before .within .ensures) ∙ not-false _ (c .before .before .before .before .before .before .before .before .before .before .before .if1 .left)) (c .before .before .before .before .before .before .before .before .before .before .if2 .left)) (c .before .before .show-all .ensures)
 
 pub all-spec : {M : Type 1} → statement M
 all-spec =

@@ -1,6 +1,6 @@
--- `costs::durations_of`: the first t weights are filled, and the products fit a word. Assumes nothing.
+-- `costs::fill_durations`: the first t weights are filled, and the products fit a word. Assumes nothing.
 use Prim.Native.Nat.{ℕ, _+_, _-_, _*_, _≤_}
-use mathlib.Core.Path.{_≡_, refl, ap, _∙_}
+use mathlib.Core.Path.{_≡_, refl, sym, ap, _∙_, subst}
 use native.Mathlib.Omega.{arith}
 use borrow.Author.Needs.{needs}
 use lib.ListN.{length, getD, length-set, length-replicate}
@@ -8,10 +8,10 @@ use Rattle.graph.specs.Graph.{countedMark}
 use Rattle.graph.specs.Route.{one}
 use Rattle.costs.specs.Arrays.{Filled, delayWeight, countWeight, countClose}
 use Rattle.costs.proofs.Filled.{filled-none, filled-more, scaled-le, counted-le}
-use Rattle.costs.proofs.durations_of.Statement.{statement}
-use Rattle.costs.proofs.durations_of.Tie as tie
-use Rattle.costs.proofs.durations_of.Reads as reads
-use Rattle.costs.proofs.durations_of.Lts as lts
+use Rattle.costs.proofs.fill_durations.Statement.{statement}
+use Rattle.costs.proofs.fill_durations.Tie as tie
+use Rattle.costs.proofs.fill_durations.Reads as reads
+use Rattle.costs.proofs.fill_durations.Lts as lts
 
 abbrev Inv-loop : tie.InvT-loop
 Inv-loop durations m scale extra weight₀ t₀ weight t = (t ≤ m) × (length weight ≡ 2048) × Filled t (delayWeight scale extra durations) weight
@@ -20,7 +20,7 @@ abbrev μ-loop : tie.MeasureT-loop
 μ-loop durations m scale extra weight₀ t₀ weight t = m - t
 
 loop-holds : tie.Need-loop-holds Inv-loop μ-loop
-loop-holds c = (search needs, length-replicate {A = ℕ} 2048 0, filled-none _ 2048)
+loop-holds c = (search needs, ap length (c .pre .4) ∙ length-replicate {A = ℕ} 2048 0, subst (Filled 0 _) (sym (c .pre .4)) (filled-none _ 2048))
 
 mul-weight : tie.Need-mul-weight Inv-loop μ-loop
 mul-weight c = search needs
@@ -49,8 +49,8 @@ add-weight c =
 mul-weight-3 : tie.Need-mul-weight-3 Inv-loop μ-loop
 mul-weight-3 c = search needs
 
-array-write-weight : tie.Need-array-write-weight Inv-loop μ-loop
-array-write-weight c = omega arith
+element-write-weight : tie.Need-element-write-weight Inv-loop μ-loop
+element-write-weight c = omega arith
 
 add-t : tie.Need-add-t Inv-loop μ-loop
 add-t c = search needs
@@ -68,8 +68,8 @@ returns c =
     let e : c .before .loop .t ≡ c .before .before .args .m = omega arith in
     rw e at (c .before .loop .inv .2)
 
-pub durations-of-spec : {M : Type 1} → statement M
-durations-of-spec =
+pub fill-durations-spec : {M : Type 1} → statement M
+fill-durations-spec =
     tie.close
     (tie.spec
     Inv-loop
@@ -81,7 +81,7 @@ durations-of-spec =
     mul-weight-2
     add-weight
     mul-weight-3
-    array-write-weight
+    element-write-weight
     add-t
     loop-less
     loop-again

@@ -1,6 +1,6 @@
--- `costs::closes`: the first s closes are filled, and the products fit a word. Assumes nothing.
+-- `costs::fill_closes`: the first s closes are filled, and the products fit a word. Assumes nothing.
 use Prim.Native.Nat.{ℕ, _+_, _-_, _*_, _≤_}
-use mathlib.Core.Path.{_≡_, refl, ap, _∙_}
+use mathlib.Core.Path.{_≡_, refl, sym, ap, _∙_, subst}
 use native.Mathlib.Omega.{arith}
 use borrow.Author.Needs.{needs}
 use lib.ListN.{length, getD, length-set, length-replicate}
@@ -8,10 +8,10 @@ use Rattle.graph.specs.Graph.{countedMark}
 use Rattle.graph.specs.Route.{one}
 use Rattle.costs.specs.Arrays.{Filled, delayWeight, countWeight, countClose}
 use Rattle.costs.proofs.Filled.{filled-none, filled-more, scaled-le, counted-le}
-use Rattle.costs.proofs.closes.Statement.{statement}
-use Rattle.costs.proofs.closes.Tie as tie
-use Rattle.costs.proofs.closes.Reads as reads
-use Rattle.costs.proofs.closes.Lts as lts
+use Rattle.costs.proofs.fill_closes.Statement.{statement}
+use Rattle.costs.proofs.fill_closes.Tie as tie
+use Rattle.costs.proofs.fill_closes.Reads as reads
+use Rattle.costs.proofs.fill_closes.Lts as lts
 use Rattle.costs.proofs.counted.Reads as counted-reads
 
 abbrev Inv-loop : tie.InvT-loop
@@ -21,7 +21,7 @@ abbrev μ-loop : tie.MeasureT-loop
 μ-loop marks n scale close₀ s₀ close s = n - s
 
 loop-holds : tie.Need-loop-holds Inv-loop μ-loop
-loop-holds c = (search needs, length-replicate {A = ℕ} 512 0, filled-none _ 512)
+loop-holds c = (search needs, ap length (c .pre .2) ∙ length-replicate {A = ℕ} 512 0, subst (Filled 0 _) (sym (c .pre .2)) (filled-none _ 512))
 
 element-copy-out-counted : tie.Need-element-copy-out-counted Inv-loop μ-loop
 element-copy-out-counted c = omega arith
@@ -38,8 +38,8 @@ mul-close c =
 mul-close-2 : tie.Need-mul-close-2 Inv-loop μ-loop
 mul-close-2 c = search needs
 
-array-write-close : tie.Need-array-write-close Inv-loop μ-loop
-array-write-close c = omega arith
+element-write-close : tie.Need-element-write-close Inv-loop μ-loop
+element-write-close c = omega arith
 
 add-s : tie.Need-add-s Inv-loop μ-loop
 add-s c = search needs
@@ -58,8 +58,8 @@ returns c =
     let e : c .before .loop .s ≡ c .before .before .args .n = omega arith in
     rw e at (c .before .loop .inv .2)
 
-pub closes-spec : {M : Type 1} → statement M
-closes-spec =
+pub fill-closes-spec : {M : Type 1} → statement M
+fill-closes-spec =
     tie.close
     (tie.spec
     Inv-loop
@@ -69,7 +69,7 @@ closes-spec =
     counted-requires
     mul-close
     mul-close-2
-    array-write-close
+    element-write-close
     add-s
     loop-less
     loop-again

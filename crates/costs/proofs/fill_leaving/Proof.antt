@@ -1,6 +1,6 @@
--- `costs::leaving`: the first t weights are filled, and the products fit a word. Assumes nothing.
+-- `costs::fill_leaving`: the first t weights are filled, and the products fit a word. Assumes nothing.
 use Prim.Native.Nat.{ℕ, _+_, _-_, _*_, _≤_}
-use mathlib.Core.Path.{_≡_, refl, ap, _∙_}
+use mathlib.Core.Path.{_≡_, refl, sym, ap, _∙_, subst}
 use native.Mathlib.Omega.{arith}
 use borrow.Author.Needs.{needs}
 use lib.ListN.{length, getD, length-set, length-replicate}
@@ -8,10 +8,10 @@ use Rattle.graph.specs.Graph.{countedMark}
 use Rattle.graph.specs.Route.{one}
 use Rattle.costs.specs.Arrays.{Filled, delayWeight, countWeight, countClose}
 use Rattle.costs.proofs.Filled.{filled-none, filled-more, scaled-le, counted-le}
-use Rattle.costs.proofs.leaving.Statement.{statement}
-use Rattle.costs.proofs.leaving.Tie as tie
-use Rattle.costs.proofs.leaving.Reads as reads
-use Rattle.costs.proofs.leaving.Lts as lts
+use Rattle.costs.proofs.fill_leaving.Statement.{statement}
+use Rattle.costs.proofs.fill_leaving.Tie as tie
+use Rattle.costs.proofs.fill_leaving.Reads as reads
+use Rattle.costs.proofs.fill_leaving.Lts as lts
 use Rattle.arrays.proofs.limits.wide.Reads as wide-reads
 use Rattle.costs.proofs.counted.Reads as counted-reads
 
@@ -22,7 +22,7 @@ abbrev μ-loop : tie.MeasureT-loop
 μ-loop marks from m scale extra weight₀ t₀ weight t = m - t
 
 loop-holds : tie.Need-loop-holds Inv-loop μ-loop
-loop-holds c = (search needs, length-replicate {A = ℕ} 2048 0, filled-none _ 2048)
+loop-holds c = (search needs, ap length (c .pre .4) ∙ length-replicate {A = ℕ} 2048 0, subst (Filled 0 _) (sym (c .pre .4)) (filled-none _ 2048))
 
 mul-wide : tie.Need-mul-wide Inv-loop μ-loop
 mul-wide c = search needs
@@ -56,8 +56,8 @@ add-weight c =
 mul-weight-2 : tie.Need-mul-weight-2 Inv-loop μ-loop
 mul-weight-2 c = search needs
 
-array-write-weight : tie.Need-array-write-weight Inv-loop μ-loop
-array-write-weight c = omega arith
+element-write-weight : tie.Need-element-write-weight Inv-loop μ-loop
+element-write-weight c = omega arith
 
 add-t : tie.Need-add-t Inv-loop μ-loop
 add-t c = search needs
@@ -78,8 +78,8 @@ returns c =
     let e : c .before .loop .t ≡ c .before .before .args .m = omega arith in
     rw e at (c .before .loop .inv .2)
 
-pub leaving-spec : {M : Type 1} → statement M
-leaving-spec =
+pub fill-leaving-spec : {M : Type 1} → statement M
+fill-leaving-spec =
     tie.close
     (tie.spec
     Inv-loop
@@ -93,7 +93,7 @@ leaving-spec =
     mul-weight
     add-weight
     mul-weight-2
-    array-write-weight
+    element-write-weight
     add-t
     loop-less
     loop-again
