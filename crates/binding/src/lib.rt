@@ -5,7 +5,6 @@
 // Edits, fillings and quotations are each one private function, by an index; the exported functions hand on to it.
 ghost use Rattle.arrays.specs.Tables.{transition};
 ghost use Rattle.graph.specs.declared.Which.the-variants.{LeastDelay, GreatestDelay, LeastCount, GreatestCount};
-ghost use Rattle.plan.specs.Promise.{Edit};
 ghost use Rattle.plan.specs.View.{view, noPlan};
 ghost use Rattle.rules.specs.Calls.{step, mark, join, unjoin, read};
 ghost use Rattle.rules.specs.Image.{image};
@@ -16,7 +15,6 @@ ghost use Rattle.binding.specs.Lent.{LentEdit, LentWrite};
 ghost use Rattle.binding.specs.Shapes.{callOf, octetsOf, ruleOf};
 ghost use Rattle.binding.specs.Quoted.{LentQuote, LentQuotes};
 use graph::Which;
-use plan::Edited;
 use plan::Plan;
 use rules::Answer;
 use rules::Written;
@@ -35,19 +33,7 @@ enum Content {
     Record,
 }
 
-// One edit of a plan.
-fn changed(change: Change, plan: Plan, octets: &[u8]) -> Edited
-    ensures { λ r. ⌜ Edit plan (step (view plan) (callOf change (now (octets .entry)))) r ⌝ }
-{
-    match change {
-        Change::Mark(state, value) => plan::mark(plan, state, value),
-        Change::Join(from, to, low, high) => plan::join(plan, from, to, low, high),
-        Change::Unjoin(number) => plan::unjoin(plan, number),
-        Change::Read => plan::read(plan, octets),
-    }
-}
-
-// One edit of the plan that lent slices hold.
+// One edit of the plan that lent slices hold. Each arm stores its own answer: an answer that several arms share costs a copy of the plan more.
 fn edit(
     change: Change,
     octets: &[u8],
@@ -64,8 +50,22 @@ fn edit(
     if !slices::has_room(counts.len(), marks.len(), fields.len()) {
         return 255;
     }
-    let edited = changed(change, slices::load(counts, marks, fields), octets);
-    slices::finish(edited, counts, marks, fields)
+    let plan = slices::load(counts, marks, fields);
+    match change {
+        Change::Mark(state, value) => {
+            slices::finish(plan::mark(plan, state, value), counts, marks, fields)
+        }
+        Change::Join(from, to, low, high) => slices::finish(
+            plan::join(plan, from, to, low, high),
+            counts,
+            marks,
+            fields,
+        ),
+        Change::Unjoin(number) => {
+            slices::finish(plan::unjoin(plan, number), counts, marks, fields)
+        }
+        Change::Read => slices::finish(plan::read(plan, octets), counts, marks, fields),
+    }
 }
 
 // A fresh plan with n states.
