@@ -1,7 +1,5 @@
 // Keys: a bound from above on what a route from each state costs. They spread from the final states back, nearest first, until a start is nearest; then
 // every key that could still be lowered to less than the best start's is lowered, which one pass over the transitions finds to be none.
-//
-// Inside the search arrays are lent one by one: a struct of them would be copied at every step.
 ghost use mathlib.Core.Bool.{true, false};
 ghost use mathlib.Core.List.{List};
 ghost use Prim.Native.Nat.{ℕ, _+_, _≤_, _<_};
@@ -85,6 +83,7 @@ fn seed(
 }
 
 // Offers the state behind each transition into s what the way through s costs. Returns how many states are pending.
+// Lent one by one: a struct of the arrays would be copied for every state.
 fn relax_into<'a>(
     s: usize,
     marks: &[u8; 512],

@@ -1,7 +1,5 @@
 // The depth-first search through the unfinished states that starts reach. A step to a state on the stack is a walk that goes on forever; where
 // there is none, the order of leaving is a rank that falls along every transition.
-//
-// Inside the search arrays are lent one by one: a struct of them would be copied at every step.
 ghost use mathlib.Core.List.{List};
 ghost use mathlib.Core.Path.{_≡_};
 ghost use Prim.Native.Nat.{ℕ, _+_, _<_};
@@ -40,6 +38,7 @@ fn enter(
 }
 
 // One turn at the state on top of the stack, with its cursor: leaves the state, passes a transition, or enters the state that it leads to.
+// Lent one by one: a struct of the arrays would be copied at every turn.
 fn turn(
     d: usize,
     done: usize,
@@ -94,6 +93,7 @@ fn turn(
 }
 
 // Searches from a start that was not entered yet, until all that was entered is left, or a loop is found.
+// Lent one by one: a struct of the arrays would be copied for every start.
 fn descend(
     s: usize,
     done: usize,
@@ -145,7 +145,7 @@ fn descend(
     Reach::Ends(left)
 }
 
-// Searches from every start. The ranks are zero before it.
+// Searches from every start. The ranks are zero before it. Lent one by one: the fields of one struct cannot be lent as `&mut` together.
 fn explore(
     n: usize,
     marks: &[u8; 512],

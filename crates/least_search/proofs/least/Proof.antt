@@ -30,7 +30,7 @@ settle-requires : tie.Need-settle-requires
 settle-requires c κs = (_, keyed (c .before .before .before))
 
 returns : tie.Need-returns
-returns c = λ g held. none-quoted (ready (c .before)) held (c .if1 .taken) (c .before .before .before .before .before .before .before .before .before .before .before .before .before .before .args .walk .now)
+returns c = λ g held. none-quoted (ready (c .before)) held (omega (arith, c .if1 .taken)) (c .before .before .before .before .before .before .before .before .before .before .before .before .before .before .args .walk .now)
 
 trace-requires : tie.Need-trace-requires
 trace-requires c κs =

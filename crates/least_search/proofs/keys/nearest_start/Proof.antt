@@ -50,7 +50,7 @@ loop-again c =
     let k = l .inv .1 in (
       omega arith,
       rw add-one (⊎-elim
-          (λ w. rw (w .4, w .5) (nearing-nearer (omega arith) (sym e ∙ w .0 .taken) (w .2 .taken) (nearing-most k) k))
+          (λ w. rw (w .4, w .5) (nearing-nearer (omega arith) (sym e ∙ w .0 .taken) (omega (arith, w .2 .taken)) (nearing-most k) k))
           (⊎-elim
           (λ w. rw (w .3, w .4) (nearing-kept (λ o. w .2 .left) k))
           (λ w. rw (w .1, w .2) (nearing-kept (λ o. absurd (never-both o (sym e ∙ w .0 .left))) k)))

@@ -49,14 +49,14 @@ returns c =
     let f = c .before .before .before .before .before in
     λ m from w.
     let r = ranked f m from w .0 in
-    reached-dead {a = behind (f .before .before)} r (c .before .hunt .ensures m from (ranked-entered {a = behind (f .before .before)} r w)) (c .if1 .taken)
+    reached-dead {a = behind (f .before .before)} r (c .before .hunt .ensures m from (ranked-entered {a = behind (f .before .before)} r w)) (omega (arith, c .if1 .taken))
 
 returns-2 : tie.Need-returns-2
 returns-2 c =
     let f = c .before .before .before .before .before in
     λ m from w.
     let (r, started) = ranked f m from w in
-    reached-end {a = behind (f .before .before)} r (w .bounded .states) started (c .before .hunt .ensures m from (ranked-entered {a = behind (f .before .before)} r w)) (c .if1 .left)
+    reached-end {a = behind (f .before .before)} r (w .bounded .states) started (c .before .hunt .ensures m from (ranked-entered {a = behind (f .before .before)} r w)) (omega (arith, c .if1 .left))
 
 returns-3 : tie.Need-returns-3
 returns-3 c = λ m from w. reached-early (graph (c .before .before .before .before .before .before .before) m from) (behind (c .before)) (c .before .explore .result) not-over (c .before .explore .ensures m from w)

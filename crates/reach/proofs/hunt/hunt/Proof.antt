@@ -188,7 +188,7 @@ returns c = let l = c .before .states in λ m from e. inr (l .inv .1, hunted-non
 returns-2 : tie.Need-returns-2 Inv-transitions μ-transitions Inv-states μ-states
 returns-2 c =
     let l = c .before .before .before .before .before .before .before .states-test .taken in
-    λ m from e. inl (l, c .before .before .before .before .before .if1 .taken, none-leaves e _ l (sym (c .before .before .before .wide .ensures) ∙ c .before .before .if2 .taken))
+    λ m from e. inl (l, omega (arith, c .before .before .before .before .before .if1 .taken), none-leaves e _ l (sym (c .before .before .before .wide .ensures) ∙ c .before .before .if2 .taken))
 
 returns-3 : tie.Need-returns-3 Inv-transitions μ-transitions Inv-states μ-states
 returns-3 c =
