@@ -1,7 +1,7 @@
 -- The graph that a plan value stands for, place by place, and what its limits give the searches: the arrays are bounded, the graph stands in them, and
 -- no duration is above 2,047. Assumes nothing.
 use mathlib.Core.Bool.{true}
-use mathlib.Core.Path.{_≡_, ap, _∙_}
+use mathlib.Core.Path.{_≡_, ap}
 use Prim.Native.Nat.{ℕ, _≤_, _<_}
 use native.Mathlib.Omega.{arith}
 use lib.ListN.{getD}

@@ -9,14 +9,14 @@ use native.Mathlib.Nat.{mul-zero}
 use native.Mathlib.Omega.{arith}
 use lib.ListN.{length, getD}
 use Rattle.costs.specs.Arrays.{Filled, delayWeight, countWeight, countClose, noClose}
-use Rattle.costs.specs.Scaled.{Scaled, scale, divided}
+use Rattle.costs.specs.Scaled.{scale, divided}
 use Rattle.costs.proofs.Filled.{zeros, weights-some, weights-most, closes-most}
 use Rattle.costs.proofs.Quoted.{least-answered, greatest-answered}
 use Rattle.graph.specs.declared.Which.{Which}
 use Rattle.graph.specs.declared.Which.the-variants.{LeastDelay, GreatestDelay, LeastCount, GreatestCount}
 use Rattle.graph.specs.Figure.{Figure, IsLeast, IsGreatest}
 use Rattle.graph.specs.Graph.{Closed, states, counted, countedMark, from}
-use Rattle.graph.specs.Route.{Cost, counts, one}
+use Rattle.graph.specs.Route.{counts, one}
 use Rattle.graph.specs.Which.{isLeast}
 use Rattle.graph.proofs.Cost.{one-le}
 use Rattle.least_search.specs.Keys.{Weighed}
@@ -26,12 +26,11 @@ use Rattle.plan.proofs.Values.{states-view, count-view}
 use Rattle.rules.specs.Limits.{within}
 use Rattle.rules.specs.Quotations.{says}
 use Rattle.search.specs.declared.Weights.{Weights}
-use Rattle.search.specs.Arrays.{at}
 use Rattle.search.specs.Quoted.{Quoted}
 use Rattle.search.specs.Weights.{costIn}
 use Rattle.search.proofs.Held.{held-closed}
-use Rattle.figures.specs.Figures.{extraFor, WeighsAs, Weighs, Lends}
-use Rattle.figures.proofs.Held.{marks-view, from-view, stands, bounded-in, lows-most, highs-most, from-small}
+use Rattle.figures.specs.Figures.{extraFor, WeighsAs, Weighs}
+use Rattle.figures.proofs.Held.{marks-view, from-view, stands, bounded-in}
 
 counted-view : (p : Plan) (s : ℕ) → s < p .states → counted (view p) s ≡ countedMark (getD (p .marks) s 0)
 unfolding counted
@@ -89,15 +88,6 @@ isLeast-extra LeastDelay e = refl
 isLeast-extra LeastCount e = refl
 isLeast-extra GreatestDelay e = absurd (let z : _≡_ {A = ℕ} 0 1 = cc in omega arith)
 isLeast-extra GreatestCount e = absurd (let z : _≡_ {A = ℕ} 0 1 = cc in omega arith)
-
--- what the function that makes the weights asks for, and that a plan lends its own arrays
-pub weights-asked : (p : Plan) → within (view p) ≡ true
-    → (p .states ≤ 512) × (p .transitions ≤ 2048)
-    × ((t : ℕ) → t < p .transitions → (at (p .from) t < 512) × (at (p .low) t ≤ 2047) × (at (p .high) t ≤ 2047))
-weights-asked p w = (bounded-in p w .states, bounded-in p w .count, λ t h. (from-small p w t h, lows-most p w t h, highs-most p w t h))
-
-pub lends : (p : Plan) → Lends p (p .states) (p .transitions) (p .marks) (p .from) (p .low) (p .high)
-lends p = record { states = refl; transitions = refl; marks-are = refl; from-are = refl; lows-are = refl; highs-are = refl }
 
 -- what the least search asks of a least figure's weights
 pub weighed : (which : Which) (p : Plan) (r : Weights) → isLeast which ≡ true → Weighs which p r → Weighed (p .transitions) (r .weight) (r .close)

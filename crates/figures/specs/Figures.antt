@@ -1,6 +1,5 @@
 -- What a figure of a plan is searched over, by which figure it is. Assumes nothing.
 use mathlib.Core.List.{List}
-use mathlib.Core.Path.{_≡_}
 use Prim.Native.Nat.{ℕ, _≤_, _<_}
 use Rattle.graph.specs.declared.Which.{Which}
 use Rattle.graph.specs.declared.Which.the-variants.{LeastDelay, GreatestDelay, LeastCount, GreatestCount}
@@ -9,11 +8,8 @@ use Rattle.graph.specs.Route.{Cost}
 use Rattle.costs.specs.Scaled.{Scaled, scale}
 use Rattle.plan.specs.declared.Plan.{Plan}
 use Rattle.plan.specs.View.{view}
-use Rattle.reach.specs.declared.Searched.{Searched}
-use Rattle.reach.specs.Explored.{tableOf, Reached}
 use Rattle.search.specs.declared.Weights.{Weights}
 use Rattle.search.specs.declared.chain.Chain.{Chain}
-use Rattle.search.specs.declared.chain.Ways.{Ways}
 use Rattle.search.specs.Arrays.{Arrays, arrays, at}
 use Rattle.search.specs.Chain.{Chains}
 use Rattle.search.specs.Weights.{costIn, Light}
@@ -46,26 +42,10 @@ abbrev pub planOf : ℕ → ℕ → List ℕ → List ℕ → List ℕ → List 
 planOf n m marks from to low high =
     record { states = n; transitions = m; marks = marks; from = from; to = to; low = low; high = high }
 
--- the counts and arrays are the plan's
-pub record Lends (p : Plan) (n m : ℕ) (marks from low high : List ℕ) : Type 0 where
-  pub states : p .states ≡ n
-  pub transitions : p .transitions ≡ m
-  pub marks-are : p .marks ≡ marks
-  pub from-are : p .from ≡ from
-  pub lows-are : p .low ≡ low
-  pub highs-are : p .high ≡ high
-
 -- the arrays of a plan that the searches see
 abbrev pub arraysOf : Plan → Arrays
 arraysOf p = arrays (p .states) (p .transitions) (p .marks) (p .from) (p .to)
 
--- the chains of a plan's transitions, out of the states and into them
+-- the chains of a plan's transitions out of the states
 abbrev pub OutOf : Plan → Chain → Type 0
 OutOf p c = Chains (p .from) (p .transitions) (c .head) (c .link)
-
-abbrev pub Into : Plan → Chain → Type 0
-Into p c = Chains (p .to) (p .transitions) (c .head) (c .link)
-
--- what the starts of a plan reach
-abbrev pub ReachedIn : Plan → Searched → Type 0
-ReachedIn p s = Reached (arraysOf p) (tableOf s) (s .found)

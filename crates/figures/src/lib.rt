@@ -1,21 +1,18 @@
 // Each figure of a plan: its weights, the search over them, and the walk that shows it.
 ghost use mathlib.Core.Bool.{true, false};
+ghost use mathlib.Core.List.{List};
 ghost use mathlib.Core.Path.{_≡_};
-ghost use Prim.Native.Nat.{ℕ, _≤_, _<_};
+ghost use Prim.Native.Nat.{ℕ, _≤_};
 ghost use lib.ListN.{length};
 ghost use Rattle.costs.specs.Scaled.{divided};
-ghost use Rattle.graph.specs.declared.Which.{Which};
 ghost use Rattle.graph.specs.Which.{isLeast};
-ghost use Rattle.least_search.specs.Keys.{Weighed};
-ghost use Rattle.plan.specs.declared.Plan.{Plan};
 ghost use Rattle.plan.specs.View.{view};
 ghost use Rattle.reach.specs.Explored.{tableOf, Reached};
 ghost use Rattle.rules.specs.Limits.{within};
 ghost use Rattle.rules.specs.Quotations.{meant, says, Stated};
-ghost use Rattle.search.specs.Arrays.{arrays, at, Bounded};
-ghost use Rattle.search.specs.Chain.{Chains, Linked};
-ghost use Rattle.search.specs.Weights.{Light};
-ghost use Rattle.figures.specs.Figures.{Weighs, Lends, OutOf, ReachedIn, arraysOf};
+ghost use Rattle.search.specs.Arrays.{arrays};
+ghost use Rattle.search.specs.Chain.{Chains};
+ghost use Rattle.figures.specs.Figures.{planOf, Weighs};
 use graph::Which;
 use reach::Searched;
 use rules::Figure;
@@ -37,7 +34,7 @@ fn divide(figure: Figure) -> Figure
 }
 
 // The weights of a figure of the plan in the arrays.
-pub fn weights<'a>(
+fn weights<'a>(
     which: Which,
     n: usize,
     m: usize,
@@ -46,9 +43,9 @@ pub fn weights<'a>(
     low: &'a [u16; 2048],
     high: &'a [u16; 2048],
 ) -> Weights
-    requires { ⌜ (n ≤ 512) × (m ≤ 2048) × ((t : ℕ) → t < m → (at (now from) t < 512) × (at (now low) t ≤ 2047) × (at (now high) t ≤ 2047)) ⌝ }
-    ensures { λ r. ⌜ ((p : Plan) → within (view p) ≡ true → Lends p n m (now (marks .entry)) (now (from .entry)) (now (low .entry)) (now (high .entry))
-        → Weighs which p r) ⌝ }
+    requires { ⌜ ((to : List ℕ) × (within (view (planOf n m (now marks) (now from) to (now low) (now high))) ≡ true)) ⌝ }
+    ensures { λ r. ⌜ ((to : List ℕ) → within (view (planOf n m (now (marks .entry)) (now (from .entry)) to (now (low .entry)) (now (high .entry)))) ≡ true
+        → Weighs which (planOf n m (now (marks .entry)) (now (from .entry)) to (now (low .entry)) (now (high .entry))) r) ⌝ }
 {
     match which {
         Which::LeastDelay => costs::delays(low, m, costs::SCALE, 1),
@@ -58,23 +55,26 @@ pub fn weights<'a>(
     }
 }
 
-// A least figure from its weights, with a route that attains it.
+// A least figure of the plan in the arrays, with a route that attains it. The arrays are lent one by one: a plan by value would be copied for each figure.
 pub fn least<'a>(
+    which: Which,
     n: usize,
     m: usize,
     marks: &'a [u8; 512],
     from: &'a [u16; 2048],
     to: &'a [u16; 2048],
+    low: &'a [u16; 2048],
+    high: &'a [u16; 2048],
     ways: Ways,
-    weights: Weights,
     walk: &mut [u16],
 ) -> Quote
-    requires { ⌜ Bounded (arrays n m (now marks) (now from) (now to)) × Weighed m (weights .weight) (weights .close) × (n ≤ length (now walk)) ⌝ }
-    requires { ⌜ Chains (now to) m (ways .into .head) (ways .into .link) × Chains (now from) m (ways .out .head) (ways .out .link) ⌝ }
-    ensures { λ r. ⌜ ((which : Which) (p : Plan) → isLeast which ≡ true → within (view p) ≡ true
-        → arraysOf p ≡ arrays n m (now (marks .entry)) (now (from .entry)) (now (to .entry)) → Weighs which p weights
-        → Stated (says which (view p)) r (now (walk .entry)) (now (walk .exit))) ⌝ }
+    requires { ⌜ (isLeast which ≡ true) × (within (view (planOf n m (now marks) (now from) (now to) (now low) (now high))) ≡ true)
+        × (n ≤ length (now walk)) × Chains (now to) m (ways .into .head) (ways .into .link) × Chains (now from) m (ways .out .head) (ways .out .link) ⌝ }
+    ensures { λ r. ⌜ Stated
+        (says which (view (planOf n m (now (marks .entry)) (now (from .entry)) (now (to .entry)) (now (low .entry)) (now (high .entry)))))
+        r (now (walk .entry)) (now (walk .exit)) ⌝ }
 {
+    let weights = weights(which, n, m, marks, from, low, high);
     let found = least_search::least(n, m, marks, from, to, ways, weights, walk);
     let figure = found.figure;
     Quote {
@@ -84,23 +84,27 @@ pub fn least<'a>(
     }
 }
 
-// A greatest figure from its weights and from what the starts reach, with the walk that shows it.
+// A greatest figure of the plan in the arrays, from what the starts reach, with the walk that shows it. The arrays are lent one by one, as above.
 pub fn greatest<'a>(
+    which: Which,
     n: usize,
+    m: usize,
     marks: &'a [u8; 512],
     from: &'a [u16; 2048],
     to: &'a [u16; 2048],
+    low: &'a [u16; 2048],
+    high: &'a [u16; 2048],
     out: Chain,
-    searched: Searched,
-    weights: Weights,
+    reached: Searched,
     walk: &mut [u16],
 ) -> Quote
-    requires { ⌜ (n ≤ length (now walk)) × Light weights ⌝ }
-    requires { ⌜ ((m : ℕ) × Linked (arrays n m (now marks) (now from) (now to)) (out .head) (out .link)
-        × Reached (arrays n m (now marks) (now from) (now to)) (tableOf searched) (searched .found)) ⌝ }
-    ensures { λ r. ⌜ ((which : Which) (p : Plan) → isLeast which ≡ false → within (view p) ≡ true
-        → arraysOf p ≡ arrays n (p .transitions) (now (marks .entry)) (now (from .entry)) (now (to .entry)) → OutOf p out → ReachedIn p searched
-        → Weighs which p weights → Stated (says which (view p)) r (now (walk .entry)) (now (walk .exit))) ⌝ }
+    requires { ⌜ (isLeast which ≡ false) × (within (view (planOf n m (now marks) (now from) (now to) (now low) (now high))) ≡ true)
+        × (n ≤ length (now walk)) × Chains (now from) m (out .head) (out .link)
+        × Reached (arrays n m (now marks) (now from) (now to)) (tableOf reached) (reached .found) ⌝ }
+    ensures { λ r. ⌜ Stated
+        (says which (view (planOf n m (now (marks .entry)) (now (from .entry)) (now (to .entry)) (now (low .entry)) (now (high .entry)))))
+        r (now (walk .entry)) (now (walk .exit)) ⌝ }
 {
-    greatest_search::greatest(n, marks, from, to, out, searched, weights, walk)
+    let weights = weights(which, n, m, marks, from, low, high);
+    greatest_search::greatest(n, marks, from, to, out, reached, weights, walk)
 }

@@ -1,8 +1,8 @@
 -- Four parts of 512 places of a list, replaced one after another. A part that was replaced holds what was put there; a part before or after it, and
 -- all that lies after it, is as it was; so each of the four calls that were lent the parts says its fact of the parts of the whole. Assumes nothing.
 use mathlib.Core.List.{List, _++_}
-use mathlib.Core.Path.{_≡_, refl, sym, ap, _∙_, subst}
-use Prim.Native.Nat.{ℕ, _+_, _-_, _≤_, _<_}
+use mathlib.Core.Path.{_≡_, sym, ap, _∙_, subst}
+use Prim.Native.Nat.{ℕ, _+_, _-_, _≤_}
 use native.Mathlib.Omega.{arith}
 use borrow.Rule.Slice.PartMut.{same-len-mid}
 use lib.ListN.{length, take, drop, take-append-drop, length-drop}

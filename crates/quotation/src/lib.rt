@@ -60,21 +60,34 @@ fn show(which: Which, plan: Plan, walk: &mut [u16]) -> Quote
 {
     let n = plan.states;
     let m = plan.transitions;
-    let weights = figures::weights(which, n, m, &plan.marks, &plan.from, &plan.low, &plan.high);
     let ways = chain::both(&plan.from, &plan.to, m);
     if is_least(which) {
-        return figures::least(n, m, &plan.marks, &plan.from, &plan.to, ways, weights, walk);
+        return figures::least(
+            which,
+            n,
+            m,
+            &plan.marks,
+            &plan.from,
+            &plan.to,
+            &plan.low,
+            &plan.high,
+            ways,
+            walk,
+        );
     }
     let out = ways.out;
-    let searched = explore::reach(n, &plan.marks, &plan.to, &out.head, &out.link);
+    let reached = explore::reach(n, &plan.marks, &plan.to, &out.head, &out.link);
     figures::greatest(
+        which,
         n,
+        m,
         &plan.marks,
         &plan.from,
         &plan.to,
+        &plan.low,
+        &plan.high,
         out,
-        searched,
-        weights,
+        reached,
         walk,
     )
 }
@@ -137,14 +150,56 @@ fn show_all<'a>(
     let ways = chain::both(from, to, m);
     let out = ways.out;
     let reached = explore::reach(n, marks, to, &out.head, &out.link);
-    let a = figures::weights(Which::LeastDelay, n, m, marks, from, low, high);
-    let b = figures::weights(Which::GreatestDelay, n, m, marks, from, low, high);
-    let c = figures::weights(Which::LeastCount, n, m, marks, from, low, high);
-    let d = figures::weights(Which::GreatestCount, n, m, marks, from, low, high);
-    let first = figures::least(n, m, marks, from, to, ways, a, &mut walks[0..512]);
-    let second = figures::greatest(n, marks, from, to, out, reached, b, &mut walks[512..1024]);
-    let third = figures::least(n, m, marks, from, to, ways, c, &mut walks[1024..1536]);
-    let fourth = figures::greatest(n, marks, from, to, out, reached, d, &mut walks[1536..2048]);
+    let first = figures::least(
+        Which::LeastDelay,
+        n,
+        m,
+        marks,
+        from,
+        to,
+        low,
+        high,
+        ways,
+        &mut walks[0..512],
+    );
+    let second = figures::greatest(
+        Which::GreatestDelay,
+        n,
+        m,
+        marks,
+        from,
+        to,
+        low,
+        high,
+        out,
+        reached,
+        &mut walks[512..1024],
+    );
+    let third = figures::least(
+        Which::LeastCount,
+        n,
+        m,
+        marks,
+        from,
+        to,
+        low,
+        high,
+        ways,
+        &mut walks[1024..1536],
+    );
+    let fourth = figures::greatest(
+        Which::GreatestCount,
+        n,
+        m,
+        marks,
+        from,
+        to,
+        low,
+        high,
+        out,
+        reached,
+        &mut walks[1536..2048],
+    );
     FourQuotes {
         least_delay: first,
         greatest_delay: second,

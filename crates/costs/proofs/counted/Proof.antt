@@ -1,7 +1,5 @@
 -- `costs::counted`: the test is the mark, and 1 stands for yes. Assumes nothing.
-use mathlib.Core.Path.{sym, ap, _∙_}
-use mathlib.Core.Bool.{Bool}
-use Rattle.graph.specs.Route.{one}
+use mathlib.Core.Path.{sym, _∙_}
 use borrow.Author.Needs.{needs}
 use Rattle.costs.proofs.counted.Statement.{statement}
 use Rattle.costs.proofs.counted.Tie as tie

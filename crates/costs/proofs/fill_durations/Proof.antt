@@ -1,13 +1,11 @@
 -- `costs::fill_durations`: the first t weights are filled, and the products fit a word. Assumes nothing.
-use Prim.Native.Nat.{ℕ, _+_, _-_, _*_, _≤_}
+use Prim.Native.Nat.{ℕ, _-_, _≤_}
 use mathlib.Core.Path.{_≡_, refl, sym, ap, _∙_, subst}
 use native.Mathlib.Omega.{arith}
 use borrow.Author.Needs.{needs}
-use lib.ListN.{length, getD, length-set, length-replicate}
-use Rattle.graph.specs.Graph.{countedMark}
-use Rattle.graph.specs.Route.{one}
-use Rattle.costs.specs.Arrays.{Filled, delayWeight, countWeight, countClose}
-use Rattle.costs.proofs.Filled.{filled-none, filled-more, scaled-le, counted-le}
+use lib.ListN.{length, length-set, length-replicate}
+use Rattle.costs.specs.Arrays.{Filled, delayWeight}
+use Rattle.costs.proofs.Filled.{filled-none, filled-more, scaled-le}
 use Rattle.costs.proofs.fill_durations.Statement.{statement}
 use Rattle.costs.proofs.fill_durations.Tie as tie
 use Rattle.costs.proofs.fill_durations.Reads as reads

@@ -1,12 +1,12 @@
 -- `costs::fill_leaving`: the first t weights are filled, and the products fit a word. Assumes nothing.
 use Prim.Native.Nat.{ℕ, _+_, _-_, _*_, _≤_}
-use mathlib.Core.Path.{_≡_, refl, sym, ap, _∙_, subst}
+use mathlib.Core.Path.{_≡_, sym, ap, _∙_, subst}
 use native.Mathlib.Omega.{arith}
 use borrow.Author.Needs.{needs}
 use lib.ListN.{length, getD, length-set, length-replicate}
 use Rattle.graph.specs.Graph.{countedMark}
 use Rattle.graph.specs.Route.{one}
-use Rattle.costs.specs.Arrays.{Filled, delayWeight, countWeight, countClose}
+use Rattle.costs.specs.Arrays.{Filled, countWeight}
 use Rattle.costs.proofs.Filled.{filled-none, filled-more, scaled-le, counted-le}
 use Rattle.costs.proofs.fill_leaving.Statement.{statement}
 use Rattle.costs.proofs.fill_leaving.Tie as tie

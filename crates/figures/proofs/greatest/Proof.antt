@@ -1,11 +1,8 @@
--- `figures::greatest`: what the search found is the figure, of every plan that the arrays are of. Assumes nothing.
-use mathlib.Core.Path.{_≡_, ap, subst}
-use native.Mathlib.Omega.{arith}
+-- `figures::greatest`: the limits and the chains give what the search asks for, and what it found is the figure. Assumes nothing.
+use Rattle.plan.specs.declared.Plan.{Plan}
 use Rattle.plan.specs.View.{view}
 use Rattle.rules.specs.Quotations.{meant}
-use Rattle.search.specs.Arrays.{Arrays, arrays, StandsIn}
-use Rattle.reach.specs.Explored.{tableOf, Reached}
-use Rattle.search.specs.Chain.{Linked}
+use Rattle.figures.specs.Figures.{planOf}
 use Rattle.figures.proofs.Held.{stands, linked-in}
 use Rattle.figures.proofs.Weighed.{greatest-said}
 use borrow.Author.Needs.{needs}
@@ -13,25 +10,30 @@ use Rattle.figures.proofs.greatest.Statement.{statement}
 use Rattle.figures.proofs.greatest.Tie as tie
 use Rattle.figures.proofs.greatest.Reads as reads
 use Rattle.figures.proofs.greatest.Lts as lts
+use Rattle.figures.proofs.weights.Reads as weights-reads
 use Rattle.greatest_search.proofs.greatest.Reads as greatest-reads
 
+weights-requires : tie.Need-weights-requires
+weights-requires c κs = search needs
+
 greatest-requires : tie.Need-greatest-requires
-greatest-requires c κs = search needs
+greatest-requires c κs =
+    let p : Plan = planOf (c .before .before .before .args .n) (c .before .before .before .args .m) (c .before .before .before .args .marks .now) (c .before .before .before .args .from .now) (c .before .before .before .args .to .now) (c .before .before .before .args .low .now) (c .before .before .before .args .high .now) in
+    let q = c .before .before .before .pre in
+    let l = linked-in p (q .1) (c .before .before .before .args .out) (q .3) in
+    ((q .2, c .before .weights .ensures (p .to) (q .1) .light), (p .transitions, l, q .4))
 
 same-length : tie.Need-same-length
 same-length c = search needs
 
 returns : tie.Need-returns
 returns c =
-    λ which p e w a o y x.
+    let p : Plan = planOf (c .before .before .before .before .before .before .args .n) (c .before .before .before .before .before .before .args .m) (c .before .before .before .before .before .before .args .marks .now) (c .before .before .before .before .before .before .args .from .now) (c .before .before .before .before .before .before .args .to .now) (c .before .before .before .before .before .before .args .low .now) (c .before .before .before .before .before .before .args .high .now) in
+    let q = c .before .before .before .before .before .before .pre in
     let r = c .before .before .greatest .result in
-    let A : Arrays = arrays (c .before .before .before .before .before .args .n) (p .transitions) (c .before .before .before .before .before .args .marks .now) (c .before .before .before .before .before .args .from .now) (c .before .before .before .before .before .args .to .now) in
-    let s : StandsIn A (view p) = rw a at (stands p) in
-    let l : Linked A (c .before .before .before .before .before .args .out .head) (c .before .before .before .before .before .args .out .link) = rw a at (linked-in p w (c .before .before .before .before .before .args .out) o) in
-    let y′ : Reached A (tableOf (c .before .before .before .before .before .args .searched)) (c .before .before .before .before .before .args .searched .found) = subst (λ (B : Arrays). Reached B (tableOf (c .before .before .before .before .before .args .searched)) (c .before .before .before .before .before .args .searched .found)) a y in
-    let n : p .states ≡ c .before .before .before .before .before .args .n = ap (λ (A : Arrays). A .n) a in
-    greatest-said p w (c .before .before .before .before .before .args .weights) (meant (r .figure)) (r .k) (r .j) _ _ (omega (arith, n, c .before .before .before .before .before .pre .0 .0)) (c .before .before .greatest .kept .1 .1 .1 .1 .1 .1 .1 .0) which e x
-    (c .before .before .greatest .ensures (p .transitions) l y′ (view p) s)
+    let l = linked-in p (q .1) (c .before .before .before .before .before .before .args .out) (q .3) in
+    greatest-said p (q .1) (c .before .before .before .before .weights .result) (meant (r .figure)) (r .k) (r .j) _ _ (q .2) (c .before .before .greatest .kept .1 .1 .1 .1 .1 .1 .1 .0) (c .before .before .before .before .before .before .args .which) (q .0)
+    (c .before .before .before .before .weights .ensures (p .to) (q .1)) (c .before .before .greatest .ensures (p .transitions) l (q .4) (view p) (stands p))
 
 pub greatest-spec : {M : Type 1} → statement M
-greatest-spec = tie.close (tie.spec greatest-requires same-length returns)
+greatest-spec = tie.close (tie.spec weights-requires greatest-requires same-length returns)

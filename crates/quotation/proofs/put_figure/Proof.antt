@@ -1,14 +1,8 @@
 -- `quotation::put_figure` meets its contract: two fields put one after the other. Assumes nothing.
-use Prim.Native.Nat.{ℕ, _+_, _≤_, _<_}
-use mathlib.Core.Bool.{Bool, true, false, not}
+use Prim.Native.Nat.{ℕ, _+_}
 use mathlib.Core.List.{List}
-use mathlib.Core.Path.{_≡_, refl, sym, ap, _∙_}
+use mathlib.Core.Path.{ap, _∙_}
 use native.Mathlib.Omega.{arith}
-use native.Mathlib.Nat.{le-refl}
-use borrow.Author.Tests.{lt-ltb, le-ltb, not-true, not-false}
-use lib.ListN.{length, getD-replicate}
-use Rattle.rules.specs.Limits.{within}
-use Rattle.plan.specs.View.{view}
 use Rattle.quotation.proofs.Recorded.{kind-below}
 use Rattle.rules.specs.Quotations.{meant}
 use Rattle.field.specs.Field.{withField, putAll}

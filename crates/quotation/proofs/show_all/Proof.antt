@@ -5,8 +5,6 @@ use native.Mathlib.Omega.{arith}
 use lib.ListN.{length}
 use Rattle.figures.specs.Figures.{planOf}
 use Rattle.figures.proofs.Held.{bounded-in, from-small, to-small, linked-in}
-use Rattle.figures.proofs.Weighed.{weights-asked, lends, weighed}
-use Rattle.graph.specs.declared.Which.the-variants.{LeastDelay, GreatestDelay, LeastCount, GreatestCount}
 use Rattle.plan.specs.declared.Plan.{Plan}
 use Rattle.plan.specs.View.{view}
 use Rattle.quotation.proofs.Parts.{put, cut, cut-length, put-length, all-stated}
@@ -17,7 +15,6 @@ use Rattle.quotation.proofs.show_all.Reads as reads
 use Rattle.quotation.proofs.show_all.Lts as lts
 use Rattle.figures.proofs.greatest.Reads as greatest-reads
 use Rattle.figures.proofs.least.Reads as least-reads
-use Rattle.figures.proofs.weights.Reads as weights-reads
 use Rattle.reach.proofs.explore.reach.Reads as reach-reads
 use Rattle.search.proofs.chain.both.Reads as both-reads
 
@@ -31,31 +28,7 @@ reach-requires : tie.Need-reach-requires
 reach-requires c κs =
     let p : Plan = planOf (c .before .before .before .before .before .before .args .n) (c .before .before .before .before .before .before .args .m) (c .before .before .before .before .before .before .args .marks .now) (c .before .before .before .before .before .before .args .from .now) (c .before .before .before .before .before .before .args .to .now) (c .before .before .before .before .before .before .args .low .now) (c .before .before .before .before .before .before .args .high .now) in
     let v = c .before .before .before .before .before .before .pre .0 in
-    (p .transitions, p .from, linked-in p v (c .before .before .before .before .both .result .out) (c .before .before .before .before .both .ensures .1))
-
-weights-requires : tie.Need-weights-requires
-weights-requires c κs =
-    let p : Plan = planOf (c .before .before .before .before .before .before .before .args .n) (c .before .before .before .before .before .before .before .args .m) (c .before .before .before .before .before .before .before .args .marks .now) (c .before .before .before .before .before .before .before .args .from .now) (c .before .before .before .before .before .before .before .args .to .now) (c .before .before .before .before .before .before .before .args .low .now) (c .before .before .before .before .before .before .before .args .high .now) in
-    let v = c .before .before .before .before .before .before .before .pre .0 in
-    weights-asked p v
-
-weights-requires-2 : tie.Need-weights-requires-2
-weights-requires-2 c κs =
-    let p : Plan = planOf (c .before .before .before .before .before .before .before .before .args .n) (c .before .before .before .before .before .before .before .before .args .m) (c .before .before .before .before .before .before .before .before .args .marks .now) (c .before .before .before .before .before .before .before .before .args .from .now) (c .before .before .before .before .before .before .before .before .args .to .now) (c .before .before .before .before .before .before .before .before .args .low .now) (c .before .before .before .before .before .before .before .before .args .high .now) in
-    let v = c .before .before .before .before .before .before .before .before .pre .0 in
-    weights-asked p v
-
-weights-requires-3 : tie.Need-weights-requires-3
-weights-requires-3 c κs =
-    let p : Plan = planOf (c .before .before .before .before .before .before .before .before .before .args .n) (c .before .before .before .before .before .before .before .before .before .args .m) (c .before .before .before .before .before .before .before .before .before .args .marks .now) (c .before .before .before .before .before .before .before .before .before .args .from .now) (c .before .before .before .before .before .before .before .before .before .args .to .now) (c .before .before .before .before .before .before .before .before .before .args .low .now) (c .before .before .before .before .before .before .before .before .before .args .high .now) in
-    let v = c .before .before .before .before .before .before .before .before .before .pre .0 in
-    weights-asked p v
-
-weights-requires-4 : tie.Need-weights-requires-4
-weights-requires-4 c κs =
-    let p : Plan = planOf (c .before .before .before .before .before .before .before .before .before .before .args .n) (c .before .before .before .before .before .before .before .before .before .before .args .m) (c .before .before .before .before .before .before .before .before .before .before .args .marks .now) (c .before .before .before .before .before .before .before .before .before .before .args .from .now) (c .before .before .before .before .before .before .before .before .before .before .args .to .now) (c .before .before .before .before .before .before .before .before .before .before .args .low .now) (c .before .before .before .before .before .before .before .before .before .before .args .high .now) in
-    let v = c .before .before .before .before .before .before .before .before .before .before .pre .0 in
-    weights-asked p v
+    (p .transitions, p .from, (linked-in p v (c .before .before .before .before .both .result .out) (c .before .before .before .before .both .ensures .1)))
 
 sub-least : tie.Need-sub-least
 sub-least c = search needs
@@ -64,24 +37,17 @@ part-least-start : tie.Need-part-least-start
 part-least-start c = search needs
 
 part-least-end : tie.Need-part-least-end
-part-least-end c =
-    let p : Plan = planOf (c .before .before .before .before .before .before .before .before .before .before .before .args .n) (c .before .before .before .before .before .before .before .before .before .before .before .args .m) (c .before .before .before .before .before .before .before .before .before .before .before .args .marks .now) (c .before .before .before .before .before .before .before .before .before .before .before .args .from .now) (c .before .before .before .before .before .before .before .before .before .before .before .args .to .now) (c .before .before .before .before .before .before .before .before .before .before .before .args .low .now) (c .before .before .before .before .before .before .before .before .before .before .before .args .high .now) in
-    let v = c .before .before .before .before .before .before .before .before .before .before .before .pre .0 in
-    let w = c .before .before .before .before .before .before .before .before .before .before .before .args .walks .now in
-    let q = c .before .before .before .before .before .before .before .before .before .before .before .pre .1 in
-    let n = bounded-in p v .states in
-    let g : 512 ≤ length (w) = omega (arith, q) in
-    g
+part-least-end c = search needs
 
 least-requires : tie.Need-least-requires
 least-requires c κs =
-    let p : Plan = planOf (c .before .before .before .before .before .before .before .before .before .before .before .before .args .n) (c .before .before .before .before .before .before .before .before .before .before .before .before .args .m) (c .before .before .before .before .before .before .before .before .before .before .before .before .args .marks .now) (c .before .before .before .before .before .before .before .before .before .before .before .before .args .from .now) (c .before .before .before .before .before .before .before .before .before .before .before .before .args .to .now) (c .before .before .before .before .before .before .before .before .before .before .before .before .args .low .now) (c .before .before .before .before .before .before .before .before .before .before .before .before .args .high .now) in
-    let v = c .before .before .before .before .before .before .before .before .before .before .before .before .pre .0 in
-    let w = c .before .before .before .before .before .before .before .before .before .before .before .before .args .walks .now in
-    let q = c .before .before .before .before .before .before .before .before .before .before .before .before .pre .1 in
+    let p : Plan = planOf (c .before .before .before .before .before .before .before .before .args .n) (c .before .before .before .before .before .before .before .before .args .m) (c .before .before .before .before .before .before .before .before .args .marks .now) (c .before .before .before .before .before .before .before .before .args .from .now) (c .before .before .before .before .before .before .before .before .args .to .now) (c .before .before .before .before .before .before .before .before .args .low .now) (c .before .before .before .before .before .before .before .before .args .high .now) in
+    let v = c .before .before .before .before .before .before .before .before .pre .0 in
+    let w = c .before .before .before .before .before .before .before .before .args .walks .now in
+    let q = c .before .before .before .before .before .before .before .before .pre .1 in
     let n = bounded-in p v .states in
     let l : length (cut 0 (w)) ≡ 512 = cut-length 0 (w) (omega (arith, q)) in
-    ((bounded-in p v, weighed LeastDelay p (c .before .before .before .before .weights .result) refl (c .before .before .before .before .weights .ensures p v (lends p)), omega (arith, l, n)), c .before .before .before .before .before .before .before .before .before .before .both .ensures)
+    (refl, v, omega (arith, l, n), c .before .before .before .before .before .before .both .ensures .0, c .before .before .before .before .before .before .both .ensures .1)
 
 sub-greatest : tie.Need-sub-greatest
 sub-greatest c = search needs
@@ -90,30 +56,20 @@ part-greatest-start : tie.Need-part-greatest-start
 part-greatest-start c = search needs
 
 part-greatest-end : tie.Need-part-greatest-end
-part-greatest-end c =
-    let p : Plan = planOf (c .before .before .before .before .before .before .before .before .before .before .before .before .before .before .before .args .n) (c .before .before .before .before .before .before .before .before .before .before .before .before .before .before .before .args .m) (c .before .before .before .before .before .before .before .before .before .before .before .before .before .before .before .args .marks .now) (c .before .before .before .before .before .before .before .before .before .before .before .before .before .before .before .args .from .now) (c .before .before .before .before .before .before .before .before .before .before .before .before .before .before .before .args .to .now) (c .before .before .before .before .before .before .before .before .before .before .before .before .before .before .before .args .low .now) (c .before .before .before .before .before .before .before .before .before .before .before .before .before .before .before .args .high .now) in
-    let v = c .before .before .before .before .before .before .before .before .before .before .before .before .before .before .before .pre .0 in
-    let w = c .before .before .before .before .before .before .before .before .before .before .before .before .before .before .before .args .walks .now in
-    let q = c .before .before .before .before .before .before .before .before .before .before .before .before .before .before .before .pre .1 in
-    let n = bounded-in p v .states in
-    let a = c .before .before .least .last .1 .1 .1 .1 .1 .1 .1 .0 in
-    let la : length a ≡ 512 = c .before .before .least .kept .1 .1 .1 .1 .1 .1 .1 .0 ∙ cut-length 0 (w) (omega (arith, q)) in
-    let k1 : length (put 0 a (w)) ≡ length (w) = put-length 0 a (w) (omega (arith, q)) la in
-    let g : 1024 ≤ length (put 0 a (w)) = omega (arith, q, k1) in
-    g
+part-greatest-end c = search needs
 
 greatest-requires : tie.Need-greatest-requires
 greatest-requires c κs =
-    let p : Plan = planOf (c .before .before .before .before .before .before .before .before .before .before .before .before .before .before .before .before .args .n) (c .before .before .before .before .before .before .before .before .before .before .before .before .before .before .before .before .args .m) (c .before .before .before .before .before .before .before .before .before .before .before .before .before .before .before .before .args .marks .now) (c .before .before .before .before .before .before .before .before .before .before .before .before .before .before .before .before .args .from .now) (c .before .before .before .before .before .before .before .before .before .before .before .before .before .before .before .before .args .to .now) (c .before .before .before .before .before .before .before .before .before .before .before .before .before .before .before .before .args .low .now) (c .before .before .before .before .before .before .before .before .before .before .before .before .before .before .before .before .args .high .now) in
-    let v = c .before .before .before .before .before .before .before .before .before .before .before .before .before .before .before .before .pre .0 in
-    let w = c .before .before .before .before .before .before .before .before .before .before .before .before .before .before .before .before .args .walks .now in
-    let q = c .before .before .before .before .before .before .before .before .before .before .before .before .before .before .before .before .pre .1 in
+    let p : Plan = planOf (c .before .before .before .before .before .before .before .before .before .before .before .before .args .n) (c .before .before .before .before .before .before .before .before .before .before .before .before .args .m) (c .before .before .before .before .before .before .before .before .before .before .before .before .args .marks .now) (c .before .before .before .before .before .before .before .before .before .before .before .before .args .from .now) (c .before .before .before .before .before .before .before .before .before .before .before .before .args .to .now) (c .before .before .before .before .before .before .before .before .before .before .before .before .args .low .now) (c .before .before .before .before .before .before .before .before .before .before .before .before .args .high .now) in
+    let v = c .before .before .before .before .before .before .before .before .before .before .before .before .pre .0 in
+    let w = c .before .before .before .before .before .before .before .before .before .before .before .before .args .walks .now in
+    let q = c .before .before .before .before .before .before .before .before .before .before .before .before .pre .1 in
     let n = bounded-in p v .states in
-    let a = c .before .before .before .least .last .1 .1 .1 .1 .1 .1 .1 .0 in
-    let la : length a ≡ 512 = c .before .before .before .least .kept .1 .1 .1 .1 .1 .1 .1 .0 ∙ cut-length 0 (w) (omega (arith, q)) in
+    let a = c .before .before .before .least .last .1 .1 .1 .1 .1 .1 .1 .1 .1 .0 in
+    let la : length a ≡ 512 = c .before .before .before .least .kept .1 .1 .1 .1 .1 .1 .1 .1 .1 .0 ∙ cut-length 0 (w) (omega (arith, q)) in
     let k1 : length (put 0 a (w)) ≡ length (w) = put-length 0 a (w) (omega (arith, q)) la in
     let l : length (cut 512 (put 0 a (w))) ≡ 512 = cut-length 512 (put 0 a (w)) (omega (arith, q, k1)) in
-    ((omega (arith, l, n), (c .before .before .before .before .before .before .before .weights2 .ensures p v (lends p)) .light), (p .transitions, linked-in p v (c .before .before .before .before .before .before .before .before .before .before .before .before .before .before .both .result .out) (c .before .before .before .before .before .before .before .before .before .before .before .before .before .before .both .ensures .1), (c .before .before .before .before .before .before .before .before .before .reach .ensures (p .transitions) (p .from) (linked-in p v (c .before .before .before .before .before .before .before .before .before .before .before .before .before .before .both .result .out) (c .before .before .before .before .before .before .before .before .before .before .before .before .before .before .both .ensures .1)))))
+    (refl, v, omega (arith, l, n), c .before .before .before .before .before .before .before .before .before .before .both .ensures .1, (c .before .before .before .before .before .reach .ensures (p .transitions) (p .from) (linked-in p v (c .before .before .before .before .before .before .before .before .before .before .both .result .out) (c .before .before .before .before .before .before .before .before .before .before .both .ensures .1))))
 
 sub-least-2 : tie.Need-sub-least-2
 sub-least-2 c = search needs
@@ -123,35 +79,35 @@ part-least-start-2 c = search needs
 
 part-least-end-2 : tie.Need-part-least-end-2
 part-least-end-2 c =
-    let p : Plan = planOf (c .before .before .before .before .before .before .before .before .before .before .before .before .before .before .before .before .before .before .before .args .n) (c .before .before .before .before .before .before .before .before .before .before .before .before .before .before .before .before .before .before .before .args .m) (c .before .before .before .before .before .before .before .before .before .before .before .before .before .before .before .before .before .before .before .args .marks .now) (c .before .before .before .before .before .before .before .before .before .before .before .before .before .before .before .before .before .before .before .args .from .now) (c .before .before .before .before .before .before .before .before .before .before .before .before .before .before .before .before .before .before .before .args .to .now) (c .before .before .before .before .before .before .before .before .before .before .before .before .before .before .before .before .before .before .before .args .low .now) (c .before .before .before .before .before .before .before .before .before .before .before .before .before .before .before .before .before .before .before .args .high .now) in
-    let v = c .before .before .before .before .before .before .before .before .before .before .before .before .before .before .before .before .before .before .before .pre .0 in
-    let w = c .before .before .before .before .before .before .before .before .before .before .before .before .before .before .before .before .before .before .before .args .walks .now in
-    let q = c .before .before .before .before .before .before .before .before .before .before .before .before .before .before .before .before .before .before .before .pre .1 in
+    let p : Plan = planOf (c .before .before .before .before .before .before .before .before .before .before .before .before .before .before .before .args .n) (c .before .before .before .before .before .before .before .before .before .before .before .before .before .before .before .args .m) (c .before .before .before .before .before .before .before .before .before .before .before .before .before .before .before .args .marks .now) (c .before .before .before .before .before .before .before .before .before .before .before .before .before .before .before .args .from .now) (c .before .before .before .before .before .before .before .before .before .before .before .before .before .before .before .args .to .now) (c .before .before .before .before .before .before .before .before .before .before .before .before .before .before .before .args .low .now) (c .before .before .before .before .before .before .before .before .before .before .before .before .before .before .before .args .high .now) in
+    let v = c .before .before .before .before .before .before .before .before .before .before .before .before .before .before .before .pre .0 in
+    let w = c .before .before .before .before .before .before .before .before .before .before .before .before .before .before .before .args .walks .now in
+    let q = c .before .before .before .before .before .before .before .before .before .before .before .before .before .before .before .pre .1 in
     let n = bounded-in p v .states in
-    let a = c .before .before .before .before .before .before .least .last .1 .1 .1 .1 .1 .1 .1 .0 in
-    let la : length a ≡ 512 = c .before .before .before .before .before .before .least .kept .1 .1 .1 .1 .1 .1 .1 .0 ∙ cut-length 0 (w) (omega (arith, q)) in
+    let a = c .before .before .before .before .before .before .least .last .1 .1 .1 .1 .1 .1 .1 .1 .1 .0 in
+    let la : length a ≡ 512 = c .before .before .before .before .before .before .least .kept .1 .1 .1 .1 .1 .1 .1 .1 .1 .0 ∙ cut-length 0 (w) (omega (arith, q)) in
     let k1 : length (put 0 a (w)) ≡ length (w) = put-length 0 a (w) (omega (arith, q)) la in
-    let b = c .before .before .greatest .last .1 .1 .1 .1 .1 .1 .1 .0 in
-    let lb : length b ≡ 512 = c .before .before .greatest .kept .1 .1 .1 .1 .1 .1 .1 .0 ∙ cut-length 512 (put 0 a (w)) (omega (arith, q, k1)) in
+    let b = c .before .before .greatest .last .1 .1 .1 .1 .1 .1 .1 .1 .1 .1 .0 in
+    let lb : length b ≡ 512 = c .before .before .greatest .kept .1 .1 .1 .1 .1 .1 .1 .1 .1 .1 .0 ∙ cut-length 512 (put 0 a (w)) (omega (arith, q, k1)) in
     let k2 : length (put 512 b (put 0 a (w))) ≡ length (put 0 a (w)) = put-length 512 b (put 0 a (w)) (omega (arith, q, k1)) lb in
     let g : 1536 ≤ length (put 512 b (put 0 a (w))) = omega (arith, q, k1, k2) in
     g
 
 least-requires-2 : tie.Need-least-requires-2
 least-requires-2 c κs =
-    let p : Plan = planOf (c .before .before .before .before .before .before .before .before .before .before .before .before .before .before .before .before .before .before .before .before .args .n) (c .before .before .before .before .before .before .before .before .before .before .before .before .before .before .before .before .before .before .before .before .args .m) (c .before .before .before .before .before .before .before .before .before .before .before .before .before .before .before .before .before .before .before .before .args .marks .now) (c .before .before .before .before .before .before .before .before .before .before .before .before .before .before .before .before .before .before .before .before .args .from .now) (c .before .before .before .before .before .before .before .before .before .before .before .before .before .before .before .before .before .before .before .before .args .to .now) (c .before .before .before .before .before .before .before .before .before .before .before .before .before .before .before .before .before .before .before .before .args .low .now) (c .before .before .before .before .before .before .before .before .before .before .before .before .before .before .before .before .before .before .before .before .args .high .now) in
-    let v = c .before .before .before .before .before .before .before .before .before .before .before .before .before .before .before .before .before .before .before .before .pre .0 in
-    let w = c .before .before .before .before .before .before .before .before .before .before .before .before .before .before .before .before .before .before .before .before .args .walks .now in
-    let q = c .before .before .before .before .before .before .before .before .before .before .before .before .before .before .before .before .before .before .before .before .pre .1 in
+    let p : Plan = planOf (c .before .before .before .before .before .before .before .before .before .before .before .before .before .before .before .before .args .n) (c .before .before .before .before .before .before .before .before .before .before .before .before .before .before .before .before .args .m) (c .before .before .before .before .before .before .before .before .before .before .before .before .before .before .before .before .args .marks .now) (c .before .before .before .before .before .before .before .before .before .before .before .before .before .before .before .before .args .from .now) (c .before .before .before .before .before .before .before .before .before .before .before .before .before .before .before .before .args .to .now) (c .before .before .before .before .before .before .before .before .before .before .before .before .before .before .before .before .args .low .now) (c .before .before .before .before .before .before .before .before .before .before .before .before .before .before .before .before .args .high .now) in
+    let v = c .before .before .before .before .before .before .before .before .before .before .before .before .before .before .before .before .pre .0 in
+    let w = c .before .before .before .before .before .before .before .before .before .before .before .before .before .before .before .before .args .walks .now in
+    let q = c .before .before .before .before .before .before .before .before .before .before .before .before .before .before .before .before .pre .1 in
     let n = bounded-in p v .states in
-    let a = c .before .before .before .before .before .before .before .least .last .1 .1 .1 .1 .1 .1 .1 .0 in
-    let la : length a ≡ 512 = c .before .before .before .before .before .before .before .least .kept .1 .1 .1 .1 .1 .1 .1 .0 ∙ cut-length 0 (w) (omega (arith, q)) in
+    let a = c .before .before .before .before .before .before .before .least .last .1 .1 .1 .1 .1 .1 .1 .1 .1 .0 in
+    let la : length a ≡ 512 = c .before .before .before .before .before .before .before .least .kept .1 .1 .1 .1 .1 .1 .1 .1 .1 .0 ∙ cut-length 0 (w) (omega (arith, q)) in
     let k1 : length (put 0 a (w)) ≡ length (w) = put-length 0 a (w) (omega (arith, q)) la in
-    let b = c .before .before .before .greatest .last .1 .1 .1 .1 .1 .1 .1 .0 in
-    let lb : length b ≡ 512 = c .before .before .before .greatest .kept .1 .1 .1 .1 .1 .1 .1 .0 ∙ cut-length 512 (put 0 a (w)) (omega (arith, q, k1)) in
+    let b = c .before .before .before .greatest .last .1 .1 .1 .1 .1 .1 .1 .1 .1 .1 .0 in
+    let lb : length b ≡ 512 = c .before .before .before .greatest .kept .1 .1 .1 .1 .1 .1 .1 .1 .1 .1 .0 ∙ cut-length 512 (put 0 a (w)) (omega (arith, q, k1)) in
     let k2 : length (put 512 b (put 0 a (w))) ≡ length (put 0 a (w)) = put-length 512 b (put 0 a (w)) (omega (arith, q, k1)) lb in
     let l : length (cut 1024 (put 512 b (put 0 a (w)))) ≡ 512 = cut-length 1024 (put 512 b (put 0 a (w))) (omega (arith, q, k1, k2)) in
-    ((bounded-in p v, weighed LeastCount p (c .before .before .before .before .before .before .before .before .before .before .weights3 .result) refl (c .before .before .before .before .before .before .before .before .before .before .weights3 .ensures p v (lends p)), omega (arith, l, n)), c .before .before .before .before .before .before .before .before .before .before .before .before .before .before .before .before .before .before .both .ensures)
+    (refl, v, omega (arith, l, n), c .before .before .before .before .before .before .before .before .before .before .before .before .before .before .both .ensures .0, c .before .before .before .before .before .before .before .before .before .before .before .before .before .before .both .ensures .1)
 
 sub-greatest-2 : tie.Need-sub-greatest-2
 sub-greatest-2 c = search needs
@@ -161,67 +117,83 @@ part-greatest-start-2 c = search needs
 
 part-greatest-end-2 : tie.Need-part-greatest-end-2
 part-greatest-end-2 c =
-    let p : Plan = planOf (c .before .before .before .before .before .before .before .before .before .before .before .before .before .before .before .before .before .before .before .before .before .before .before .args .n) (c .before .before .before .before .before .before .before .before .before .before .before .before .before .before .before .before .before .before .before .before .before .before .before .args .m) (c .before .before .before .before .before .before .before .before .before .before .before .before .before .before .before .before .before .before .before .before .before .before .before .args .marks .now) (c .before .before .before .before .before .before .before .before .before .before .before .before .before .before .before .before .before .before .before .before .before .before .before .args .from .now) (c .before .before .before .before .before .before .before .before .before .before .before .before .before .before .before .before .before .before .before .before .before .before .before .args .to .now) (c .before .before .before .before .before .before .before .before .before .before .before .before .before .before .before .before .before .before .before .before .before .before .before .args .low .now) (c .before .before .before .before .before .before .before .before .before .before .before .before .before .before .before .before .before .before .before .before .before .before .before .args .high .now) in
-    let v = c .before .before .before .before .before .before .before .before .before .before .before .before .before .before .before .before .before .before .before .before .before .before .before .pre .0 in
-    let w = c .before .before .before .before .before .before .before .before .before .before .before .before .before .before .before .before .before .before .before .before .before .before .before .args .walks .now in
-    let q = c .before .before .before .before .before .before .before .before .before .before .before .before .before .before .before .before .before .before .before .before .before .before .before .pre .1 in
+    let p : Plan = planOf (c .before .before .before .before .before .before .before .before .before .before .before .before .before .before .before .before .before .before .before .args .n) (c .before .before .before .before .before .before .before .before .before .before .before .before .before .before .before .before .before .before .before .args .m) (c .before .before .before .before .before .before .before .before .before .before .before .before .before .before .before .before .before .before .before .args .marks .now) (c .before .before .before .before .before .before .before .before .before .before .before .before .before .before .before .before .before .before .before .args .from .now) (c .before .before .before .before .before .before .before .before .before .before .before .before .before .before .before .before .before .before .before .args .to .now) (c .before .before .before .before .before .before .before .before .before .before .before .before .before .before .before .before .before .before .before .args .low .now) (c .before .before .before .before .before .before .before .before .before .before .before .before .before .before .before .before .before .before .before .args .high .now) in
+    let v = c .before .before .before .before .before .before .before .before .before .before .before .before .before .before .before .before .before .before .before .pre .0 in
+    let w = c .before .before .before .before .before .before .before .before .before .before .before .before .before .before .before .before .before .before .before .args .walks .now in
+    let q = c .before .before .before .before .before .before .before .before .before .before .before .before .before .before .before .before .before .before .before .pre .1 in
     let n = bounded-in p v .states in
-    let a = c .before .before .before .before .before .before .before .before .before .before .least .last .1 .1 .1 .1 .1 .1 .1 .0 in
-    let la : length a ≡ 512 = c .before .before .before .before .before .before .before .before .before .before .least .kept .1 .1 .1 .1 .1 .1 .1 .0 ∙ cut-length 0 (w) (omega (arith, q)) in
+    let a = c .before .before .before .before .before .before .before .before .before .before .least .last .1 .1 .1 .1 .1 .1 .1 .1 .1 .0 in
+    let la : length a ≡ 512 = c .before .before .before .before .before .before .before .before .before .before .least .kept .1 .1 .1 .1 .1 .1 .1 .1 .1 .0 ∙ cut-length 0 (w) (omega (arith, q)) in
     let k1 : length (put 0 a (w)) ≡ length (w) = put-length 0 a (w) (omega (arith, q)) la in
-    let b = c .before .before .before .before .before .before .greatest .last .1 .1 .1 .1 .1 .1 .1 .0 in
-    let lb : length b ≡ 512 = c .before .before .before .before .before .before .greatest .kept .1 .1 .1 .1 .1 .1 .1 .0 ∙ cut-length 512 (put 0 a (w)) (omega (arith, q, k1)) in
+    let b = c .before .before .before .before .before .before .greatest .last .1 .1 .1 .1 .1 .1 .1 .1 .1 .1 .0 in
+    let lb : length b ≡ 512 = c .before .before .before .before .before .before .greatest .kept .1 .1 .1 .1 .1 .1 .1 .1 .1 .1 .0 ∙ cut-length 512 (put 0 a (w)) (omega (arith, q, k1)) in
     let k2 : length (put 512 b (put 0 a (w))) ≡ length (put 0 a (w)) = put-length 512 b (put 0 a (w)) (omega (arith, q, k1)) lb in
-    let d = c .before .before .least2 .last .1 .1 .1 .1 .1 .1 .1 .0 in
-    let ld : length d ≡ 512 = c .before .before .least2 .kept .1 .1 .1 .1 .1 .1 .1 .0 ∙ cut-length 1024 (put 512 b (put 0 a (w))) (omega (arith, q, k1, k2)) in
+    let d = c .before .before .least2 .last .1 .1 .1 .1 .1 .1 .1 .1 .1 .0 in
+    let ld : length d ≡ 512 = c .before .before .least2 .kept .1 .1 .1 .1 .1 .1 .1 .1 .1 .0 ∙ cut-length 1024 (put 512 b (put 0 a (w))) (omega (arith, q, k1, k2)) in
     let k3 : length (put 1024 d (put 512 b (put 0 a (w)))) ≡ length (put 512 b (put 0 a (w))) = put-length 1024 d (put 512 b (put 0 a (w))) (omega (arith, q, k1, k2)) ld in
     let g : 2048 ≤ length (put 1024 d (put 512 b (put 0 a (w)))) = omega (arith, q, k1, k2, k3) in
     g
 
 greatest-requires-2 : tie.Need-greatest-requires-2
 greatest-requires-2 c κs =
-    let p : Plan = planOf (c .before .before .before .before .before .before .before .before .before .before .before .before .before .before .before .before .before .before .before .before .before .before .before .before .args .n) (c .before .before .before .before .before .before .before .before .before .before .before .before .before .before .before .before .before .before .before .before .before .before .before .before .args .m) (c .before .before .before .before .before .before .before .before .before .before .before .before .before .before .before .before .before .before .before .before .before .before .before .before .args .marks .now) (c .before .before .before .before .before .before .before .before .before .before .before .before .before .before .before .before .before .before .before .before .before .before .before .before .args .from .now) (c .before .before .before .before .before .before .before .before .before .before .before .before .before .before .before .before .before .before .before .before .before .before .before .before .args .to .now) (c .before .before .before .before .before .before .before .before .before .before .before .before .before .before .before .before .before .before .before .before .before .before .before .before .args .low .now) (c .before .before .before .before .before .before .before .before .before .before .before .before .before .before .before .before .before .before .before .before .before .before .before .before .args .high .now) in
-    let v = c .before .before .before .before .before .before .before .before .before .before .before .before .before .before .before .before .before .before .before .before .before .before .before .before .pre .0 in
-    let w = c .before .before .before .before .before .before .before .before .before .before .before .before .before .before .before .before .before .before .before .before .before .before .before .before .args .walks .now in
-    let q = c .before .before .before .before .before .before .before .before .before .before .before .before .before .before .before .before .before .before .before .before .before .before .before .before .pre .1 in
+    let p : Plan = planOf (c .before .before .before .before .before .before .before .before .before .before .before .before .before .before .before .before .before .before .before .before .args .n) (c .before .before .before .before .before .before .before .before .before .before .before .before .before .before .before .before .before .before .before .before .args .m) (c .before .before .before .before .before .before .before .before .before .before .before .before .before .before .before .before .before .before .before .before .args .marks .now) (c .before .before .before .before .before .before .before .before .before .before .before .before .before .before .before .before .before .before .before .before .args .from .now) (c .before .before .before .before .before .before .before .before .before .before .before .before .before .before .before .before .before .before .before .before .args .to .now) (c .before .before .before .before .before .before .before .before .before .before .before .before .before .before .before .before .before .before .before .before .args .low .now) (c .before .before .before .before .before .before .before .before .before .before .before .before .before .before .before .before .before .before .before .before .args .high .now) in
+    let v = c .before .before .before .before .before .before .before .before .before .before .before .before .before .before .before .before .before .before .before .before .pre .0 in
+    let w = c .before .before .before .before .before .before .before .before .before .before .before .before .before .before .before .before .before .before .before .before .args .walks .now in
+    let q = c .before .before .before .before .before .before .before .before .before .before .before .before .before .before .before .before .before .before .before .before .pre .1 in
     let n = bounded-in p v .states in
-    let a = c .before .before .before .before .before .before .before .before .before .before .before .least .last .1 .1 .1 .1 .1 .1 .1 .0 in
-    let la : length a ≡ 512 = c .before .before .before .before .before .before .before .before .before .before .before .least .kept .1 .1 .1 .1 .1 .1 .1 .0 ∙ cut-length 0 (w) (omega (arith, q)) in
+    let a = c .before .before .before .before .before .before .before .before .before .before .before .least .last .1 .1 .1 .1 .1 .1 .1 .1 .1 .0 in
+    let la : length a ≡ 512 = c .before .before .before .before .before .before .before .before .before .before .before .least .kept .1 .1 .1 .1 .1 .1 .1 .1 .1 .0 ∙ cut-length 0 (w) (omega (arith, q)) in
     let k1 : length (put 0 a (w)) ≡ length (w) = put-length 0 a (w) (omega (arith, q)) la in
-    let b = c .before .before .before .before .before .before .before .greatest .last .1 .1 .1 .1 .1 .1 .1 .0 in
-    let lb : length b ≡ 512 = c .before .before .before .before .before .before .before .greatest .kept .1 .1 .1 .1 .1 .1 .1 .0 ∙ cut-length 512 (put 0 a (w)) (omega (arith, q, k1)) in
+    let b = c .before .before .before .before .before .before .before .greatest .last .1 .1 .1 .1 .1 .1 .1 .1 .1 .1 .0 in
+    let lb : length b ≡ 512 = c .before .before .before .before .before .before .before .greatest .kept .1 .1 .1 .1 .1 .1 .1 .1 .1 .1 .0 ∙ cut-length 512 (put 0 a (w)) (omega (arith, q, k1)) in
     let k2 : length (put 512 b (put 0 a (w))) ≡ length (put 0 a (w)) = put-length 512 b (put 0 a (w)) (omega (arith, q, k1)) lb in
-    let d = c .before .before .before .least2 .last .1 .1 .1 .1 .1 .1 .1 .0 in
-    let ld : length d ≡ 512 = c .before .before .before .least2 .kept .1 .1 .1 .1 .1 .1 .1 .0 ∙ cut-length 1024 (put 512 b (put 0 a (w))) (omega (arith, q, k1, k2)) in
+    let d = c .before .before .before .least2 .last .1 .1 .1 .1 .1 .1 .1 .1 .1 .0 in
+    let ld : length d ≡ 512 = c .before .before .before .least2 .kept .1 .1 .1 .1 .1 .1 .1 .1 .1 .0 ∙ cut-length 1024 (put 512 b (put 0 a (w))) (omega (arith, q, k1, k2)) in
     let k3 : length (put 1024 d (put 512 b (put 0 a (w)))) ≡ length (put 512 b (put 0 a (w))) = put-length 1024 d (put 512 b (put 0 a (w))) (omega (arith, q, k1, k2)) ld in
     let l : length (cut 1536 (put 1024 d (put 512 b (put 0 a (w))))) ≡ 512 = cut-length 1536 (put 1024 d (put 512 b (put 0 a (w)))) (omega (arith, q, k1, k2, k3)) in
-    ((omega (arith, l, n), (c .before .before .before .before .before .before .before .before .before .before .before .before .before .weights4 .ensures p v (lends p)) .light), (p .transitions, linked-in p v (c .before .before .before .before .before .before .before .before .before .before .before .before .before .before .before .before .before .before .before .before .before .before .both .result .out) (c .before .before .before .before .before .before .before .before .before .before .before .before .before .before .before .before .before .before .before .before .before .before .both .ensures .1), (c .before .before .before .before .before .before .before .before .before .before .before .before .before .before .before .before .before .reach .ensures (p .transitions) (p .from) (linked-in p v (c .before .before .before .before .before .before .before .before .before .before .before .before .before .before .before .before .before .before .before .before .before .before .both .result .out) (c .before .before .before .before .before .before .before .before .before .before .before .before .before .before .before .before .before .before .before .before .before .before .both .ensures .1)))))
+    (refl, v, omega (arith, l, n), c .before .before .before .before .before .before .before .before .before .before .before .before .before .before .before .before .before .before .both .ensures .1, (c .before .before .before .before .before .before .before .before .before .before .before .before .before .reach .ensures (p .transitions) (p .from) (linked-in p v (c .before .before .before .before .before .before .before .before .before .before .before .before .before .before .before .before .before .before .both .result .out) (c .before .before .before .before .before .before .before .before .before .before .before .before .before .before .before .before .before .before .both .ensures .1))))
 
 same-length : tie.Need-same-length
-same-length c = search needs
+same-length c =
+    let p : Plan = planOf (c .before .before .before .before .before .before .before .before .before .before .before .before .before .before .before .before .before .before .before .before .before .before .before .args .n) (c .before .before .before .before .before .before .before .before .before .before .before .before .before .before .before .before .before .before .before .before .before .before .before .args .m) (c .before .before .before .before .before .before .before .before .before .before .before .before .before .before .before .before .before .before .before .before .before .before .before .args .marks .now) (c .before .before .before .before .before .before .before .before .before .before .before .before .before .before .before .before .before .before .before .before .before .before .before .args .from .now) (c .before .before .before .before .before .before .before .before .before .before .before .before .before .before .before .before .before .before .before .before .before .before .before .args .to .now) (c .before .before .before .before .before .before .before .before .before .before .before .before .before .before .before .before .before .before .before .before .before .before .before .args .low .now) (c .before .before .before .before .before .before .before .before .before .before .before .before .before .before .before .before .before .before .before .before .before .before .before .args .high .now) in
+    let v = c .before .before .before .before .before .before .before .before .before .before .before .before .before .before .before .before .before .before .before .before .before .before .before .pre .0 in
+    let w = c .before .before .before .before .before .before .before .before .before .before .before .before .before .before .before .before .before .before .before .before .before .before .before .args .walks .now in
+    let q = c .before .before .before .before .before .before .before .before .before .before .before .before .before .before .before .before .before .before .before .before .before .before .before .pre .1 in
+    let n = bounded-in p v .states in
+    let a = c .before .before .before .before .before .before .before .before .before .before .before .before .before .before .least .last .1 .1 .1 .1 .1 .1 .1 .1 .1 .0 in
+    let la : length a ≡ 512 = c .before .before .before .before .before .before .before .before .before .before .before .before .before .before .least .kept .1 .1 .1 .1 .1 .1 .1 .1 .1 .0 ∙ cut-length 0 (w) (omega (arith, q)) in
+    let k1 : length (put 0 a (w)) ≡ length (w) = put-length 0 a (w) (omega (arith, q)) la in
+    let b = c .before .before .before .before .before .before .before .before .before .before .greatest .last .1 .1 .1 .1 .1 .1 .1 .1 .1 .1 .0 in
+    let lb : length b ≡ 512 = c .before .before .before .before .before .before .before .before .before .before .greatest .kept .1 .1 .1 .1 .1 .1 .1 .1 .1 .1 .0 ∙ cut-length 512 (put 0 a (w)) (omega (arith, q, k1)) in
+    let k2 : length (put 512 b (put 0 a (w))) ≡ length (put 0 a (w)) = put-length 512 b (put 0 a (w)) (omega (arith, q, k1)) lb in
+    let d = c .before .before .before .before .before .before .least2 .last .1 .1 .1 .1 .1 .1 .1 .1 .1 .0 in
+    let ld : length d ≡ 512 = c .before .before .before .before .before .before .least2 .kept .1 .1 .1 .1 .1 .1 .1 .1 .1 .0 ∙ cut-length 1024 (put 512 b (put 0 a (w))) (omega (arith, q, k1, k2)) in
+    let k3 : length (put 1024 d (put 512 b (put 0 a (w)))) ≡ length (put 512 b (put 0 a (w))) = put-length 1024 d (put 512 b (put 0 a (w))) (omega (arith, q, k1, k2)) ld in
+    let e = c .before .before .greatest2 .last .1 .1 .1 .1 .1 .1 .1 .1 .1 .1 .0 in
+    let le : length e ≡ 512 = c .before .before .greatest2 .kept .1 .1 .1 .1 .1 .1 .1 .1 .1 .1 .0 ∙ cut-length 1536 (put 1024 d (put 512 b (put 0 a (w)))) (omega (arith, q, k1, k2, k3)) in
+    let k4 : length (put 1536 e (put 1024 d (put 512 b (put 0 a (w))))) ≡ length (put 1024 d (put 512 b (put 0 a (w)))) = put-length 1536 e (put 1024 d (put 512 b (put 0 a (w)))) (omega (arith, q, k1, k2, k3)) le in
+    k4 ∙ k3 ∙ k2 ∙ k1
 
 returns : tie.Need-returns
 returns c =
-    let p : Plan = planOf (c .before .before .before .before .before .before .before .before .before .before .before .before .before .before .before .before .before .before .before .before .before .before .before .before .before .before .before .args .n) (c .before .before .before .before .before .before .before .before .before .before .before .before .before .before .before .before .before .before .before .before .before .before .before .before .before .before .before .args .m) (c .before .before .before .before .before .before .before .before .before .before .before .before .before .before .before .before .before .before .before .before .before .before .before .before .before .before .before .args .marks .now) (c .before .before .before .before .before .before .before .before .before .before .before .before .before .before .before .before .before .before .before .before .before .before .before .before .before .before .before .args .from .now) (c .before .before .before .before .before .before .before .before .before .before .before .before .before .before .before .before .before .before .before .before .before .before .before .before .before .before .before .args .to .now) (c .before .before .before .before .before .before .before .before .before .before .before .before .before .before .before .before .before .before .before .before .before .before .before .before .before .before .before .args .low .now) (c .before .before .before .before .before .before .before .before .before .before .before .before .before .before .before .before .before .before .before .before .before .before .before .before .before .before .before .args .high .now) in
-    let v = c .before .before .before .before .before .before .before .before .before .before .before .before .before .before .before .before .before .before .before .before .before .before .before .before .before .before .before .pre .0 in
-    let w = c .before .before .before .before .before .before .before .before .before .before .before .before .before .before .before .before .before .before .before .before .before .before .before .before .before .before .before .args .walks .now in
-    let q = c .before .before .before .before .before .before .before .before .before .before .before .before .before .before .before .before .before .before .before .before .before .before .before .before .before .before .before .pre .1 in
+    let p : Plan = planOf (c .before .before .before .before .before .before .before .before .before .before .before .before .before .before .before .before .before .before .before .before .before .before .before .args .n) (c .before .before .before .before .before .before .before .before .before .before .before .before .before .before .before .before .before .before .before .before .before .before .before .args .m) (c .before .before .before .before .before .before .before .before .before .before .before .before .before .before .before .before .before .before .before .before .before .before .before .args .marks .now) (c .before .before .before .before .before .before .before .before .before .before .before .before .before .before .before .before .before .before .before .before .before .before .before .args .from .now) (c .before .before .before .before .before .before .before .before .before .before .before .before .before .before .before .before .before .before .before .before .before .before .before .args .to .now) (c .before .before .before .before .before .before .before .before .before .before .before .before .before .before .before .before .before .before .before .before .before .before .before .args .low .now) (c .before .before .before .before .before .before .before .before .before .before .before .before .before .before .before .before .before .before .before .before .before .before .before .args .high .now) in
+    let v = c .before .before .before .before .before .before .before .before .before .before .before .before .before .before .before .before .before .before .before .before .before .before .before .pre .0 in
+    let w = c .before .before .before .before .before .before .before .before .before .before .before .before .before .before .before .before .before .before .before .before .before .before .before .args .walks .now in
+    let q = c .before .before .before .before .before .before .before .before .before .before .before .before .before .before .before .before .before .before .before .before .before .before .before .pre .1 in
     let n = bounded-in p v .states in
-    let a = c .before .before .before .before .before .before .before .before .before .before .before .before .before .before .least .last .1 .1 .1 .1 .1 .1 .1 .0 in
-    let la : length a ≡ 512 = c .before .before .before .before .before .before .before .before .before .before .before .before .before .before .least .kept .1 .1 .1 .1 .1 .1 .1 .0 ∙ cut-length 0 (w) (omega (arith, q)) in
+    let a = c .before .before .before .before .before .before .before .before .before .before .before .before .before .before .least .last .1 .1 .1 .1 .1 .1 .1 .1 .1 .0 in
+    let la : length a ≡ 512 = c .before .before .before .before .before .before .before .before .before .before .before .before .before .before .least .kept .1 .1 .1 .1 .1 .1 .1 .1 .1 .0 ∙ cut-length 0 (w) (omega (arith, q)) in
     let k1 : length (put 0 a (w)) ≡ length (w) = put-length 0 a (w) (omega (arith, q)) la in
-    let b = c .before .before .before .before .before .before .before .before .before .before .greatest .last .1 .1 .1 .1 .1 .1 .1 .0 in
-    let lb : length b ≡ 512 = c .before .before .before .before .before .before .before .before .before .before .greatest .kept .1 .1 .1 .1 .1 .1 .1 .0 ∙ cut-length 512 (put 0 a (w)) (omega (arith, q, k1)) in
+    let b = c .before .before .before .before .before .before .before .before .before .before .greatest .last .1 .1 .1 .1 .1 .1 .1 .1 .1 .1 .0 in
+    let lb : length b ≡ 512 = c .before .before .before .before .before .before .before .before .before .before .greatest .kept .1 .1 .1 .1 .1 .1 .1 .1 .1 .1 .0 ∙ cut-length 512 (put 0 a (w)) (omega (arith, q, k1)) in
     let k2 : length (put 512 b (put 0 a (w))) ≡ length (put 0 a (w)) = put-length 512 b (put 0 a (w)) (omega (arith, q, k1)) lb in
-    let d = c .before .before .before .before .before .before .least2 .last .1 .1 .1 .1 .1 .1 .1 .0 in
-    let ld : length d ≡ 512 = c .before .before .before .before .before .before .least2 .kept .1 .1 .1 .1 .1 .1 .1 .0 ∙ cut-length 1024 (put 512 b (put 0 a (w))) (omega (arith, q, k1, k2)) in
+    let d = c .before .before .before .before .before .before .least2 .last .1 .1 .1 .1 .1 .1 .1 .1 .1 .0 in
+    let ld : length d ≡ 512 = c .before .before .before .before .before .before .least2 .kept .1 .1 .1 .1 .1 .1 .1 .1 .1 .0 ∙ cut-length 1024 (put 512 b (put 0 a (w))) (omega (arith, q, k1, k2)) in
     let k3 : length (put 1024 d (put 512 b (put 0 a (w)))) ≡ length (put 512 b (put 0 a (w))) = put-length 1024 d (put 512 b (put 0 a (w))) (omega (arith, q, k1, k2)) ld in
-    let e = c .before .before .greatest2 .last .1 .1 .1 .1 .1 .1 .1 .0 in
-    let le : length e ≡ 512 = c .before .before .greatest2 .kept .1 .1 .1 .1 .1 .1 .1 .0 ∙ cut-length 1536 (put 1024 d (put 512 b (put 0 a (w)))) (omega (arith, q, k1, k2, k3)) in
+    let e = c .before .before .greatest2 .last .1 .1 .1 .1 .1 .1 .1 .1 .1 .1 .0 in
+    let le : length e ≡ 512 = c .before .before .greatest2 .kept .1 .1 .1 .1 .1 .1 .1 .1 .1 .1 .0 ∙ cut-length 1536 (put 1024 d (put 512 b (put 0 a (w)))) (omega (arith, q, k1, k2, k3)) in
     let k4 : length (put 1536 e (put 1024 d (put 512 b (put 0 a (w))))) ≡ length (put 1024 d (put 512 b (put 0 a (w)))) = put-length 1536 e (put 1024 d (put 512 b (put 0 a (w)))) (omega (arith, q, k1, k2, k3)) le in
-    all-stated (view p) _ w a b d e q la lb ld le
-    (c .before .before .before .before .before .before .before .before .before .before .before .before .before .before .least .ensures LeastDelay p refl v refl (c .before .before .before .before .before .before .before .before .before .before .before .before .before .before .before .before .before .before .before .weights .ensures p v (lends p))) (c .before .before .before .before .before .before .before .before .before .before .greatest .ensures GreatestDelay p refl v refl (c .before .before .before .before .before .before .before .before .before .before .before .before .before .before .before .before .before .before .before .before .before .before .before .before .before .both .ensures .1) (c .before .before .before .before .before .before .before .before .before .before .before .before .before .before .before .before .before .before .before .before .reach .ensures (p .transitions) (p .from) (linked-in p v (c .before .before .before .before .before .before .before .before .before .before .before .before .before .before .before .before .before .before .before .before .before .before .before .before .before .both .result .out) (c .before .before .before .before .before .before .before .before .before .before .before .before .before .before .before .before .before .before .before .before .before .before .before .before .before .both .ensures .1))) (c .before .before .before .before .before .before .before .before .before .before .before .before .before .before .before .before .before .before .weights2 .ensures p v (lends p)))
-    (c .before .before .before .before .before .before .least2 .ensures LeastCount p refl v refl (c .before .before .before .before .before .before .before .before .before .before .before .before .before .before .before .before .before .weights3 .ensures p v (lends p))) (c .before .before .greatest2 .ensures GreatestCount p refl v refl (c .before .before .before .before .before .before .before .before .before .before .before .before .before .before .before .before .before .before .before .before .before .before .before .before .before .both .ensures .1) (c .before .before .before .before .before .before .before .before .before .before .before .before .before .before .before .before .before .before .before .before .reach .ensures (p .transitions) (p .from) (linked-in p v (c .before .before .before .before .before .before .before .before .before .before .before .before .before .before .before .before .before .before .before .before .before .before .before .before .before .both .result .out) (c .before .before .before .before .before .before .before .before .before .before .before .before .before .before .before .before .before .before .before .before .before .before .before .before .before .both .ensures .1))) (c .before .before .before .before .before .before .before .before .before .before .before .before .before .before .before .before .weights4 .ensures p v (lends p)))
+    all-stated (view p) _ w a b d e q la lb ld le (c .before .before .before .before .before .before .before .before .before .before .before .before .before .before .least .ensures) (c .before .before .before .before .before .before .before .before .before .before .greatest .ensures) (c .before .before .before .before .before .before .least2 .ensures) (c .before .before .greatest2 .ensures)
 
 pub show-all-spec : {M : Type 1} → statement M
 show-all-spec =
@@ -229,10 +201,6 @@ show-all-spec =
     (tie.spec
     both-requires
     reach-requires
-    weights-requires
-    weights-requires-2
-    weights-requires-3
-    weights-requires-4
     sub-least
     part-least-start
     part-least-end
