@@ -2,7 +2,8 @@
 // transitions' fields, 2,048 places each for from, to, low and high. A call answers a refusal by its number, 256 for accepted, and 255 where a
 // lent slice is too short for a plan; write and record answer 256 plus the octets' number. A quotation answers in four more lent places: the
 // figure's kind (0 number, 1 NONE, 2 STRANDED, 3 ENDLESS) and number, k and j. One call takes no plan: an image in, its four figures out.
-// Edits, fillings and quotations are each one private function, by an index; the exported functions hand on to it.
+// Fillings and quotations are each one private function, by an index, to which the exported functions hand on. The edits are not: in one function
+// their plan values stand on the stack beside each other.
 ghost use Rattle.arrays.specs.Tables.{transition};
 ghost use Rattle.graph.specs.declared.Which.the-variants.{LeastDelay, GreatestDelay, LeastCount, GreatestCount};
 ghost use Rattle.plan.specs.View.{view, noPlan};
@@ -12,60 +13,17 @@ ghost use Rattle.rules.specs.Quotations.{Write, recordOctets, recordRule};
 ghost use Rattle.rules.specs.Rules.{freshRule, writeRule};
 ghost use Rattle.slices.specs.Lent.{lentPlan, slices};
 ghost use Rattle.binding.specs.Lent.{LentEdit, LentWrite};
-ghost use Rattle.binding.specs.Shapes.{callOf, octetsOf, ruleOf};
+ghost use Rattle.binding.specs.Shapes.{octetsOf, ruleOf};
 ghost use Rattle.binding.specs.Quoted.{LentQuote, LentQuotes};
 use graph::Which;
 use plan::Plan;
 use rules::Answer;
 use rules::Written;
 
-// An edit of the plan that lent slices hold. The octets of a read are lent beside it.
-enum Change {
-    Mark(usize, usize),
-    Join(usize, usize, usize, usize),
-    Unjoin(usize),
-    Read,
-}
-
 // What is put into a lent buffer: the plan's image, or the record of its figures.
 enum Content {
     Image,
     Record,
-}
-
-// One edit of the plan that lent slices hold. Each arm stores its own answer: an answer that several arms share costs a copy of the plan more.
-fn edit(
-    change: Change,
-    octets: &[u8],
-    counts: &mut [usize],
-    marks: &mut [u8],
-    fields: &mut [u16],
-) -> u32
-    ensures { λ r. ⌜ LentEdit (lentPlan (now (counts .entry)) (now (marks .entry)) (now (fields .entry)))
-        (slices (now (counts .entry)) (now (marks .entry)) (now (fields .entry)))
-        (slices (now (counts .exit)) (now (marks .exit)) (now (fields .exit)))
-        (step (view (lentPlan (now (counts .entry)) (now (marks .entry)) (now (fields .entry))))
-        (callOf change (now (octets .entry)))) r ⌝ }
-{
-    if !slices::has_room(counts.len(), marks.len(), fields.len()) {
-        return 255;
-    }
-    let plan = slices::load(counts, marks, fields);
-    match change {
-        Change::Mark(state, value) => {
-            slices::finish(plan::mark(plan, state, value), counts, marks, fields)
-        }
-        Change::Join(from, to, low, high) => slices::finish(
-            plan::join(plan, from, to, low, high),
-            counts,
-            marks,
-            fields,
-        ),
-        Change::Unjoin(number) => {
-            slices::finish(plan::unjoin(plan, number), counts, marks, fields)
-        }
-        Change::Read => slices::finish(plan::read(plan, octets), counts, marks, fields),
-    }
 }
 
 // A fresh plan with n states.
@@ -102,13 +60,12 @@ pub extern "C" fn callplan_lent_mark(
         (step (view (lentPlan (now (counts .entry)) (now (marks .entry)) (now (fields .entry))))
         (mark state value)) r ⌝ }
 {
-    edit(
-        Change::Mark(state, value as usize),
-        b"",
-        counts,
-        marks,
-        fields,
-    )
+    if !slices::has_room(counts.len(), marks.len(), fields.len()) {
+        return 255;
+    }
+    let plan = slices::load(counts, marks, fields);
+    let edited = plan::mark(plan, state, value as usize);
+    slices::finish(edited, counts, marks, fields)
 }
 
 // Puts a transition at the end of the list.
@@ -128,8 +85,12 @@ pub extern "C" fn callplan_lent_join(
         (step (view (lentPlan (now (counts .entry)) (now (marks .entry)) (now (fields .entry))))
         (join (transition from to low high))) r ⌝ }
 {
-    let change = Change::Join(from, to, low as usize, high as usize);
-    edit(change, b"", counts, marks, fields)
+    if !slices::has_room(counts.len(), marks.len(), fields.len()) {
+        return 255;
+    }
+    let plan = slices::load(counts, marks, fields);
+    let edited = plan::join(plan, from, to, low as usize, high as usize);
+    slices::finish(edited, counts, marks, fields)
 }
 
 // Takes a transition out of the list.
@@ -146,7 +107,12 @@ pub extern "C" fn callplan_lent_unjoin(
         (step (view (lentPlan (now (counts .entry)) (now (marks .entry)) (now (fields .entry))))
         (unjoin number)) r ⌝ }
 {
-    edit(Change::Unjoin(number), b"", counts, marks, fields)
+    if !slices::has_room(counts.len(), marks.len(), fields.len()) {
+        return 255;
+    }
+    let plan = slices::load(counts, marks, fields);
+    let edited = plan::unjoin(plan, number);
+    slices::finish(edited, counts, marks, fields)
 }
 
 // Reads an image.
@@ -163,7 +129,12 @@ pub extern "C" fn callplan_lent_read(
         (step (view (lentPlan (now (counts .entry)) (now (marks .entry)) (now (fields .entry))))
         (read (now (octets .entry)))) r ⌝ }
 {
-    edit(Change::Read, octets, counts, marks, fields)
+    if !slices::has_room(counts.len(), marks.len(), fields.len()) {
+        return 255;
+    }
+    let plan = slices::load(counts, marks, fields);
+    let edited = plan::read(plan, octets);
+    slices::finish(edited, counts, marks, fields)
 }
 
 // Puts a content of a plan at the front of the buffer.
