@@ -1,34 +1,25 @@
 -- All four figures of an image on lent slices: the promises of the plan's own read and quotations are the promise on the slices (`short-of-walks`,
--- `short-of-places`, `quotes-refused`, `quotes-done`). Assumes nothing.
+-- `short-of-places`, `quotes-done`). Assumes nothing.
 use mathlib.Core.Bool.{true, false}
 use mathlib.Core.List.{List}
-use mathlib.Core.Path.{_≡_, refl, sym, ap, subst, _∙_}
+use mathlib.Core.Path.{_≡_, refl, subst}
 use Prim.Native.Nat.{ℕ, _≤_, _<_}
 use borrow.Author.Tests.{lt-leb, le-leb}
 use lib.ListN.{length}
-use Rattle.graph.specs.Graph.{Graph}
-use Rattle.rules.specs.declared.Answer.the-variants.{Accepted, Refused}
 use Rattle.rules.specs.declared.Quotations.{Quotations}
-use Rattle.rules.specs.declared.Quotations.the-variants.{Quoted as AllQuoted, Refused as NoneQuoted}
-use Rattle.rules.specs.declared.Refusal.{Refusal}
-use Rattle.rules.specs.Limits.{within}
-use Rattle.rules.specs.Quotations.{AllStated, QuotesAll}
-use Rattle.rules.specs.Refusal.{Result, refused, answerOf, said, number}
-use Rattle.rules.proofs.Results.{never}
-use Rattle.plan.specs.declared.Edited.{Edited}
-use Rattle.plan.specs.Promise.{Held}
-use Rattle.plan.specs.View.{view}
-use Rattle.plan.proofs.Holding.{held-within, held-plan}
+use Rattle.rules.specs.Quotations.{QuotesHeld}
 use Rattle.quotation.proofs.Small.{four-small}
-use Rattle.quotation.proofs.Kept.{all-done, all-not-refused}
+use Rattle.quotation.proofs.Kept.{held-known}
 use Rattle.answers.specs.Answered.{AllSmall, AllAnswered}
 use Rattle.binding.specs.Quoted.{canQuote, LentQuotes}
 use Rattle.binding.proofs.Edits.{true-false}
 
 -- ---- the numbers fit
 
-pub all-small : (g : Graph) → within g ≡ true → (before after : List ℕ) (r : Quotations) → QuotesAll g before after r → AllSmall r
-all-small g w before after r x q e = four-small g w q before after (x .quoted q e)
+pub all-small : (image before after : List ℕ) (r : Quotations) → 2048 ≤ length before → QuotesHeld image before after r → AllSmall r
+all-small image before after r h x q e =
+    let (g, i, w, s) = held-known image before after r h x q e in
+    four-small g w q before after s
 
 -- ---- the promise on the slices
 
@@ -55,23 +46,16 @@ module _ (image walks out : List ℕ) where
   pub short-of-places : 2048 ≤ length walks → length out < 16 → LentQuotes image walks walks out out 255
   short-of-places h l = none (few-places h l)
 
-  module _ (h : 2048 ≤ length walks) (l : 16 ≤ length out) (f : Edited) (e : Held image f) where
-    pub quotes-refused : (x : Refusal) (n : ℕ) → n ≡ number x → f .answer ≡ Refused x → LentQuotes image walks walks out out n
-    quotes-refused x n d a = record {
-      short = λ s. true-false (canQuote walks out) (enough h l) s;
-      refusal = λ s k i.
-          let z : _≡_ {A = Result (Unit {0})} (refused x) (refused k) = sym (ap said a) ∙ e .answer ∙ ap answerOf i in
-          let y : n ≡ number k = cc in
-          (y, refl, refl);
-      quoted = λ s g i. absurd (never tt x (sym (ap said a) ∙ e .answer ∙ ap answerOf i));
-    }
-
-    pub quotes-done : (walks′ out′ : List ℕ) (q : Quotations) (r : ℕ) → f .answer ≡ Accepted → QuotesAll (view (f .plan)) walks walks′ q
-        → AllAnswered q out out′ r → LentQuotes image walks walks′ out out′ r
-    quotes-done walks′ out′ (AllQuoted q) r a x y = record {
-      short = λ s. true-false (canQuote walks out) (enough h l) s;
-      refusal = λ s k i. absurd (never tt k (sym (e .answer ∙ ap answerOf i) ∙ ap said a));
-      quoted = λ s g i. (y .0, record { quotes = q; stated = subst (λ (z : Graph). AllStated z q walks walks′) (held-plan image f e g i) (x .quoted q refl); places = y .1 });
-    }
-    quotes-done walks′ out′ (NoneQuoted k) r a x y =
-        absurd (all-not-refused (view (f .plan)) walks walks′ (NoneQuoted k) k x refl (all-done (view (f .plan)) walks (held-within image f e a) h))
+  pub quotes-done : 2048 ≤ length walks → 16 ≤ length out → (walks′ out′ : List ℕ) (a : Quotations) (r : ℕ) → QuotesHeld image walks walks′ a
+      → AllAnswered a out out′ r → LentQuotes image walks walks′ out out′ r
+  quotes-done h l walks′ out′ a r x y = record {
+    short = λ s. true-false (canQuote walks out) (enough h l) s;
+    refusal = λ s k i.
+        let (e, kept) = x .refusal k i in
+        let (n, o) = subst (λ (z : Quotations). AllAnswered z out out′ r) e y in
+        (n, kept, o);
+    quoted = λ s g i.
+        let (q, e, stated) = x .quoted g i h in
+        let (n, o) = subst (λ (z : Quotations). AllAnswered z out out′ r) e y in
+        (n, record { quotes = q; stated = stated; places = o });
+  }

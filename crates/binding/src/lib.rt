@@ -17,7 +17,6 @@ ghost use Rattle.binding.specs.Shapes.{octetsOf, ruleOf};
 ghost use Rattle.binding.specs.Quoted.{LentQuote, LentQuotes};
 use graph::Which;
 use plan::Plan;
-use rules::Answer;
 use rules::Written;
 
 // What is put into a lent buffer: the plan's image, or the record of its figures.
@@ -298,12 +297,6 @@ pub extern "C" fn callplan_lent_quote(octets: &[u8], walks: &mut [u16], out: &mu
     if out.len() < 16 {
         return 255;
     }
-    let edited = plan::held(octets);
-    let read = edited.answer;
-    if let Answer::Refused(r) = read {
-        return rules::number(r);
-    }
-    let plan = edited.plan;
-    let quotations = quotation::all(plan, walks);
+    let quotations = quotation::held(octets, walks);
     answers::four(quotations, out)
 }

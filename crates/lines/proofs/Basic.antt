@@ -4,7 +4,7 @@ use mathlib.Core.List.{List, [], _∷_}
 use mathlib.Core.Path.{_≡_, refl}
 use Prim.Native.Nat.{ℕ}
 use Rattle.graph.specs.declared.Which.{Which}
-use Rattle.graph.specs.declared.Which.the-variants.{LeastDelay, GreatestDelay, LeastCount, GreatestCount}
+use Rattle.graph.specs.declared.Which.the-variants.{GreatestDelay, LeastCount, GreatestCount}
 use Rattle.graph.specs.Figure.{NONE, STRANDED, ENDLESS}
 use Rattle.graph.specs.Known.{P1}
 use Rattle.graph.specs.Which.{four, inTurn}

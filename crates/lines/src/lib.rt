@@ -1,19 +1,13 @@
 // The lines that quote prints for an image: its four quotations, or the number that it is refused by.
-ghost use mathlib.Core.Bool.{true};
-ghost use mathlib.Core.Path.{_≡_};
 ghost use Prim.Native.Nat.{_+_, _^_, _≤_, _<_};
 ghost use Rattle.graph.specs.Figure.{value};
 ghost use lib.ListN.{length};
 ghost use Rattle.rules.specs.Quotations.{meant, quoteOf, SmallQuote};
 ghost use Rattle.graph.specs.declared.Which.{Which};
-ghost use Rattle.plan.specs.View.{view};
-ghost use Rattle.rules.specs.Limits.{within};
 ghost use Rattle.text.specs.Put.{Put};
-ghost use Rattle.lines.specs.Printed.{FourLines, room, Printed};
+ghost use Rattle.lines.specs.Printed.{room, Printed};
 ghost use Rattle.lines.specs.Lines.{nameText, figureText, heading, addedText, lineOf, linesOf, refusedLine};
 use graph::Which;
-use plan::Plan;
-use rules::Answer;
 use rules::Figure;
 use rules::FourQuotes;
 use rules::Quotations;
@@ -121,19 +115,6 @@ fn refused(buffer: &mut [u8], at: usize, number: u32) -> usize
     text::word(buffer, numbered, b"\n")
 }
 
-// Quotes a plan, and puts the four lines.
-fn quoted(plan: Plan, buffer: &mut [u8]) -> usize
-    requires { ⌜ (within (view plan) ≡ true) × (room ≤ length (now buffer)) ⌝ }
-    ensures { λ r. ⌜ FourLines (view plan) (now (buffer .entry)) (now (buffer .exit)) r ⌝ }
-{
-    let mut walks = [0u16; 2048];
-    let quotations = quotation::all(plan, &mut walks);
-    match quotations {
-        Quotations::Quoted(quotes) => four(quotes, &walks, buffer),
-        Quotations::Refused(_) => 0,
-    }
-}
-
 // Puts what is printed for an image at the front of the buffer, and returns its length. A buffer that four lines could be too long for gets nothing.
 pub fn answer(octets: &[u8], buffer: &mut [u8]) -> usize
     ensures { λ r. ⌜ Printed (now (octets .entry)) (now (buffer .entry)) (now (buffer .exit)) r ⌝ }
@@ -141,11 +122,10 @@ pub fn answer(octets: &[u8], buffer: &mut [u8]) -> usize
     if buffer.len() < ROOM {
         return 0;
     }
-    let edited = plan::held(octets);
-    let answer = edited.answer;
-    let plan = edited.plan;
-    match answer {
-        Answer::Accepted => quoted(plan, buffer),
-        Answer::Refused(r) => refused(buffer, 0, rules::number(r)),
+    let mut walks = [0u16; 2048];
+    let quotations = quotation::held(octets, &mut walks);
+    match quotations {
+        Quotations::Quoted(quotes) => four(quotes, &walks, buffer),
+        Quotations::Refused(r) => refused(buffer, 0, rules::number(r)),
     }
 }

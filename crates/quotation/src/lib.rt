@@ -13,7 +13,7 @@ ghost use Rattle.figures.specs.Figures.{planOf};
 ghost use Rattle.graph.specs.Which.{isLeast};
 ghost use Rattle.plan.specs.View.{view};
 ghost use Rattle.rules.specs.Limits.{within as withinLimits};
-ghost use Rattle.rules.specs.Quotations.{meant, says, Stated, figureFields, quotesFields, quoteOf, recordOctets, recordRule, quoteRule, Quotes, AllStated, QuotesAll, Write};
+ghost use Rattle.rules.specs.Quotations.{meant, says, Stated, figureFields, quotesFields, quoteOf, recordOctets, recordRule, quoteRule, Quotes, AllStated, QuotesAll, QuotesHeld, Write};
 ghost use Rattle.rules.specs.Refusal.{said};
 use graph::Which;
 use plan::Plan;
@@ -228,6 +228,33 @@ pub fn all(plan: Plan, walks: &mut [u16]) -> Quotations
         &plan.to,
         &plan.low,
         &plan.high,
+        walks,
+    ))
+}
+
+// All four figures of the plan that an image holds, with their walks, as `all` has them. The plan that was read is within the limits, so it is not
+// looked at again.
+pub fn held(octets: &[u8], walks: &mut [u16]) -> Quotations
+    ensures { λ r. ⌜ QuotesHeld (now (octets .entry)) (now (walks .entry)) (now (walks .exit)) r ⌝ }
+{
+    let edited = plan::held(octets);
+    let read = edited.answer;
+    if let Answer::Refused(r) = read {
+        return Quotations::Refused(r);
+    }
+    if walks.len() < 2048 {
+        return Quotations::Refused(Refusal::BufferLength);
+    }
+    let n = edited.plan.states;
+    let m = edited.plan.transitions;
+    Quotations::Quoted(show_all(
+        n,
+        m,
+        &edited.plan.marks,
+        &edited.plan.from,
+        &edited.plan.to,
+        &edited.plan.low,
+        &edited.plan.high,
         walks,
     ))
 }

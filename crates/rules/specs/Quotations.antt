@@ -4,7 +4,7 @@ use mathlib.Core.Bool.{Bool}
 use mathlib.Core.List.{List, [], _∷_}
 use mathlib.Core.Logic.{_↔_}
 use mathlib.Core.Path.{_≡_}
-use Prim.Native.Nat.{ℕ, _*_, _≤_}
+use Prim.Native.Nat.{ℕ, _*_, _≤_, _<_}
 use lib.Dec.{ltb}
 use lib.ListN.{length, take, drop}
 use Rattle.graph.specs.Graph.{Graph, states}
@@ -23,8 +23,8 @@ use Rattle.rules.specs.declared.Quotation.the-variants.{Quoted, Refused}
 use Rattle.rules.specs.declared.FourQuotes.{FourQuotes}
 use Rattle.rules.specs.declared.Quotations.{Quotations}
 use Rattle.rules.specs.declared.Quotations.the-variants.{Quoted as AllQuoted, Refused as NoneQuoted}
-use Rattle.rules.specs.declared.Refusal.the-variants.{FigureSize}
-use Rattle.rules.specs.Image.{field}
+use Rattle.rules.specs.declared.Refusal.the-variants.{BufferLength, FigureSize}
+use Rattle.rules.specs.Image.{field, readImage}
 use Rattle.rules.specs.declared.Refusal.{Refusal}
 use Rattle.rules.specs.declared.Written.{Written}
 use Rattle.rules.specs.Refusal.{Result, accepted, refused, wrote}
@@ -178,6 +178,13 @@ pub record QuotesAll (g : Graph) (before after : List ℕ) (r : Quotations) : Ty
   pub answer : saidQuotations r ≡ allRule g before
   pub kept : (k : Refusal) → allRule g before ≡ refused k → after ≡ before
   pub quoted : (q : FourQuotes) → r ≡ AllQuoted q → AllStated g q before after
+
+-- a quotation of all four figures of the plan that an image holds: the image's refusals, then 11 for fewer than 2,048 places, each of which leaves every
+-- lent place; and otherwise the four hold of that plan
+pub record QuotesHeld (image before after : List ℕ) (r : Quotations) : Type 0 where
+  pub refusal : (k : Refusal) → readImage image ≡ refused k → (r ≡ NoneQuoted k) × (after ≡ before)
+  pub short : (g : Graph) → readImage image ≡ accepted g → length before < 2048 → (r ≡ NoneQuoted BufferLength) × (after ≡ before)
+  pub quoted : (g : Graph) → readImage image ≡ accepted g → 2048 ≤ length before → (q : FourQuotes) × (r ≡ AllQuoted q) × AllStated g q before after
 
 -- ---- calls that fill a lent buffer
 
