@@ -1,6 +1,6 @@
 -- The claim on small plans: runs written out beside computed figures, and plans that the premises leave out.
 -- Assumes nothing.
-use Prim.Native.Nat.{ℕ, zero, suc, _<_}
+use Prim.Native.Nat.{ℕ, zero, suc}
 use mathlib.Core.Path.{_≡_, refl}
 use mathlib.Core.Bool.{false≢true}
 use mathlib.Core.List.{[], _∷_}

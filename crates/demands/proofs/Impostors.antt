@@ -28,7 +28,7 @@ use Rattle.rules.specs.declared.Written.the-variants.{Length}
 use Rattle.rules.specs.Calls.{Call, mark, join, read, rowsOf, run, runFresh}
 use Rattle.rules.specs.Image.{image}
 use Rattle.rules.specs.Limits.{within, all, stateCountOk}
-use Rattle.rules.specs.Quotations.{says, meant}
+use Rattle.rules.specs.Quotations.{meant}
 use Rattle.rules.specs.Refusal.{said}
 use Rattle.rules.specs.Rules.{freshGraph}
 use Rattle.rules.specs.Table.{first}

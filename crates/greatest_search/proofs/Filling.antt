@@ -1,7 +1,7 @@
 -- The greatest values, filled in the order of leaving. The greatest over the transitions of a state is raised along its chain (`raised`). A state's
 -- transitions lead to final states and to states earlier in the order, so what is stored at a later state changes none of the values that an earlier
 -- one was made of (`valued-more`). Each value is at most one weight more than those before it. Assumes nothing.
-use mathlib.Core.Bool.{true, false, true≢false}
+use mathlib.Core.Bool.{true≢false}
 use mathlib.Core.List.{List}
 use mathlib.Core.Logic.{_⊎_, inl, inr, _≢_}
 use mathlib.Core.Path.{_≡_, refl, sym, ap, _∙_}

@@ -1,5 +1,4 @@
 pub mod Values
 pub mod Edits
 pub mod Promises
-pub mod Impostors
 pub mod Holding

@@ -2,15 +2,14 @@
 ghost use mathlib.Core.Path.{_≡_};
 ghost use mathlib.Core.Bool.{true, _&&_, _||_};
 ghost use lib.Dec.{leb, ltb, eqb};
-ghost use mathlib.Core.List.{map};
 ghost use Prim.Native.Nat.{_≤_, _/_};
 ghost use lib.ListN.{length};
 ghost use Rattle.rules.specs.Image.{tabulate};
-ghost use Rattle.rules.specs.Calls.{step, run};
+ghost use Rattle.rules.specs.Calls.{step};
 ghost use Rattle.rules.specs.Limits.{all};
 ghost use Rattle.rules.specs.Refusal.{code as codeOf, said};
 ghost use Rattle.plan.specs.Promise.{Edit};
-ghost use Rattle.plan.specs.View.{view, noPlan};
+ghost use Rattle.plan.specs.View.{view};
 ghost use Rattle.replay.specs.Slices.{callOf, isCall, itemAt, callsIn, areCalls};
 ghost use Rattle.graph.specs.Which.{four};
 ghost use Rattle.replay.specs.Replayed.{Replays};

@@ -1,5 +1,4 @@
 -- `replay::is_call` meets its contract. Assumes nothing.
-use Prim.Native.Nat.{_-_}
 use borrow.Author.Needs.{needs}
 use borrow.Author.Tests.{lt-ltb, le-ltb, eq-eqb, ne-eqb}
 use Rattle.replay.proofs.is_call.Statement.{statement}

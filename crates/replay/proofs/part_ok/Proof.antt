@@ -1,5 +1,4 @@
 -- `replay::part_ok` meets its contract. Assumes nothing.
-use Prim.Native.Nat.{_-_}
 use borrow.Author.Tests.{le-leb, lt-leb}
 use Rattle.replay.proofs.part_ok.Statement.{statement}
 use Rattle.replay.proofs.part_ok.Tie as tie

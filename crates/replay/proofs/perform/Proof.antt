@@ -1,5 +1,4 @@
 -- `replay::perform` meets its contract. Assumes nothing.
-use Prim.Native.Nat.{_-_}
 use borrow.Author.Needs.{needs}
 use lib.ListN.{length}
 use Rattle.replay.proofs.ReadCalls.{a-read}

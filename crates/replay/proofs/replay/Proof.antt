@@ -1,5 +1,4 @@
 -- `replay::replay` meets its contract. Assumes nothing.
-use Prim.Native.Nat.{_-_}
 use borrow.Author.Needs.{needs}
 use Rattle.replay.proofs.Promises.{replayed}
 use Rattle.replay.proofs.replay.Statement.{statement}
