@@ -232,6 +232,17 @@ module _ (c : Calculator) where
         let z : _≡_ {A = ℕ} 0 16 = ap (λ (l : List ℕ). getD l 0 0) b in
         omega arith
 
+    -- one that touches a later octet: it puts the known octets, and clears the one behind them
+    pub touches-a-later-octet : {p : Plan} (n : ℕ) → view p ≡ P1 .plan → c .writes p (replicate 29 1) (octets ++ (0 ∷ [])) (Length n) → ⊥
+    unfolding octets
+    touches-a-later-octet {p} n v x =
+        let i : image (view p) ≡ octets = ap image v ∙ image-of-plan in
+        let l : 28 ≡ n = ap length (sym i) ∙ d .written-image n x .0 in
+        let b : _≡_ {A = List ℕ} (octets ++ (0 ∷ [])) (octets ++ drop 28 (replicate 29 1)) =
+        d .written-image n x .1 ∙ ap₂ {C = List ℕ} (λ (y : List ℕ) (k : ℕ). y ++ drop k (replicate 29 1)) i (sym l) in
+        let z : _≡_ {A = ℕ} 0 1 = ap (λ (y : List ℕ). getD y 28 0) b in
+        omega arith
+
     -- "one that turns all images away": also one that it wrote itself
     pub turns-its-own-away : {p old : Plan} {before after : List ℕ} {e : Edited} (n : ℕ) (r : Refusal) → within (view old) ≡ true
         → c .writes p before after (Length n) → c .edits old (read (take n after)) e → e .answer ≡ Refused r → ⊥
