@@ -9,7 +9,8 @@ use Prim.Native.Nat.{ℕ, suc, _+_, _*_, _≤_, _<_}
 use native.Mathlib.Omega.{arith}
 use lib.ListN.{length, set, length-set}
 use lib.Seq.{getD-set-same, getD-set-other}
-use Rattle.search.specs.Arrays.{Arrays, at, finalMark, StartIn, FinalIn, Leaves}
+use Rattle.graph.specs.Graph.{finalMark}
+use Rattle.search.specs.Arrays.{Arrays, at, StartIn, FinalIn, Leaves}
 use Rattle.search.specs.Chain.{none, Chains}
 use Rattle.search.specs.Sizes.{heaviest}
 use Rattle.search.specs.Route.{Accounts}

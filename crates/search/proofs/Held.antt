@@ -9,12 +9,12 @@ use native.Mathlib.Nat.{le-refl}
 use native.Mathlib.Omega.{arith}
 use lib.ListN.{length, take}
 use lib.Seq.{length-take-le, getD-take}
-use Rattle.graph.specs.Graph.{Graph, start, final, to, Departs, Final, Unfinished, DeadEnd, Closed}
+use Rattle.graph.specs.Graph.{Graph, start, final, to, Departs, Final, Unfinished, DeadEnd, Closed, startMark, finalMark}
 use Rattle.graph.specs.Walk.{Begins, WalkTo, visits, arrival, Different}
 use Rattle.graph.proofs.Build.{StepAt, walk-by-places, visits-by-places, different-by-places}
 use Rattle.graph.proofs.Repeat.{nth}
 use Rattle.graph.proofs.Walks.{start-below, final-below, state-last}
-use Rattle.search.specs.Arrays.{Arrays, at, startMark, finalMark, StartIn, FinalIn, UnfinishedIn, Leaves, Bounded, StandsIn}
+use Rattle.search.specs.Arrays.{Arrays, at, StartIn, FinalIn, UnfinishedIn, Leaves, Bounded, StandsIn}
 use Rattle.search.specs.Route.{along, Steps}
 
 module _ {A : Arrays} {g : Graph} (h : StandsIn A g) where

@@ -16,7 +16,8 @@ use lib.Seq.{getD-set-same, getD-set-other, take-suc-set, drop-set-lt, drop-drop
 use Rattle.graph.specs.Route.{delay}
 use Rattle.graph.proofs.Build.{delay-snoc}
 use Rattle.graph.proofs.Repeat.{pigeonhole}
-use Rattle.search.specs.Arrays.{Arrays, at, FinalIn, UnfinishedIn, finalMark, Leaves}
+use Rattle.graph.specs.Graph.{finalMark}
+use Rattle.search.specs.Arrays.{Arrays, at, FinalIn, UnfinishedIn, Leaves}
 use Rattle.search.specs.Route.{Accounts, along, Steps, Readable, Traced}
 use Rattle.arrays.proofs.Lists.{same-or-not}
 

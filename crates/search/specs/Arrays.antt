@@ -1,11 +1,10 @@
 -- A graph that stands in arrays. Assumes nothing.
-use mathlib.Core.Bool.{Bool, true, false}
+use mathlib.Core.Bool.{true, false}
 use mathlib.Core.List.{List}
 use mathlib.Core.Path.{_≡_}
-use Prim.Native.Nat.{ℕ, _/_, _%_, _≤_, _<_}
-use lib.Dec.{eqb}
+use Prim.Native.Nat.{ℕ, _≤_, _<_}
 use lib.ListN.{getD}
-use Rattle.graph.specs.Graph.{Graph, states, count, marksOf, from, to}
+use Rattle.graph.specs.Graph.{Graph, states, count, marksOf, from, to, startMark, finalMark}
 
 -- what stands at a place
 abbrev pub at : List ℕ → ℕ → ℕ
@@ -14,16 +13,6 @@ at xs i = getD xs i 0
 -- no number of a list is k or more; past its end stand zeros
 abbrev pub Below : ℕ → List ℕ → Type 0
 Below k xs = (i : ℕ) → at xs i < k
-
--- a marks value with "4 for start", one with "2 for final", and one with "1 for counted"
-abbrev pub startMark : ℕ → Bool
-startMark v = eqb (v / 4 % 2) 1
-
-abbrev pub finalMark : ℕ → Bool
-finalMark v = eqb (v / 2 % 2) 1
-
-abbrev pub countedMark : ℕ → Bool
-countedMark v = eqb (v % 2) 1
 
 -- the state s is marked start; it is final; it is unfinished
 abbrev pub StartIn : List ℕ → ℕ → Type 0

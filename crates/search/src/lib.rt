@@ -4,7 +4,9 @@ pub mod chain;
 pub mod route;
 
 ghost use mathlib.Core.Path.{_≡_};
-ghost use Rattle.search.specs.Arrays.{startMark, finalMark, countedMark};
+ghost use Rattle.graph.specs.Graph.{startMark, finalMark, countedMark};
+use arrays::FINAL;
+use arrays::START;
 
 // No transition: the number after the last that a plan may have.
 pub const NONE: usize = 2048;
@@ -19,14 +21,14 @@ pub struct Weights {
 pub fn is_start(mark: u8) -> bool
     ensures { λ r. ⌜ r ≡ startMark mark ⌝ }
 {
-    mark / 4 % 2 == 1
+    mark / START % 2 == 1
 }
 
 // Whether a marks value has the final mark.
 pub fn is_final(mark: u8) -> bool
     ensures { λ r. ⌜ r ≡ finalMark mark ⌝ }
 {
-    mark / 2 % 2 == 1
+    mark / FINAL % 2 == 1
 }
 
 // Whether a marks value has the counted mark.

@@ -6,7 +6,8 @@ use mathlib.Core.Path.{_≡_, sym, _∙_}
 use native.Mathlib.Omega.{arith}
 use borrow.Author.Needs.{needs}
 use borrow.Author.Tests.{not-true, not-false}
-use Rattle.search.specs.Arrays.{Arrays, arrays, at, finalMark}
+use Rattle.graph.specs.Graph.{finalMark}
+use Rattle.search.specs.Arrays.{Arrays, arrays, at}
 use Rattle.reach.specs.Explored.{Table, table, Underway}
 use Rattle.reach.proofs.Stack.{AtTop, AtStep}
 use Rattle.reach.proofs.Leaving.{top-below, leave-count}

@@ -10,7 +10,8 @@ use native.Mathlib.Omega.{arith}
 use borrow.Author.Count.{below-none, below-more}
 use borrow.Author.Needs.{needs}
 use borrow.Author.Tests.{not-true, not-false}
-use Rattle.search.specs.Arrays.{Arrays, arrays, at, finalMark, UnfinishedIn}
+use Rattle.graph.specs.Graph.{finalMark}
+use Rattle.search.specs.Arrays.{Arrays, arrays, at, UnfinishedIn}
 use Rattle.search.proofs.Chained.{Followed, followed-first, followed-rises, followed-next, followed-all}
 use Rattle.reach.specs.Explored.{Entered}
 use Rattle.reach.proofs.Hunting.{Onward, Looked, none-leaves, head-below, hunted-none}
