@@ -11,7 +11,7 @@ use native.Mathlib.Omega.{arith}
 use lib.Bits.{bitAnd, and-mask}
 use lib.ListN.{length, getD, set, take, drop, length-append, length-drop, take-append-drop}
 use lib.Pow.{pow-pos, pow-mono, pow-lt, field, mod-mod-pow, shr-shr}
-use lib.Seq.{slice, length-slice, length-take-le, take-suc, drop-append-le, slice-empty, take-all, take-add, drop-drop, paste, paste-zero, paste-suc, length-paste}
+use lib.Seq.{slice, length-slice, length-take-le, take-suc, drop-append-le, slice-empty, take-all, take-add, drop-drop, paste, paste-zero, paste-suc}
 use Rattle.field.specs.Field.{Field, number, bitsOf, bits, octetsOf, fieldAt, fieldsOf, withField, stored, Octets, AllFit, bitsOfAll, widthOfAll, putAll}
 use Rattle.field.specs.declared.Four.{Four}
 use Rattle.field.proofs.Number.{length-bitsOf, number-lt, number-append, number-take, number-drop, number-bitsOf, number-bitsOf-lt, bitsOf-number-at, number-mid}
@@ -165,12 +165,6 @@ stored-five os first v h =
     let three = five-more os first v 2 (v / 2 ^ 16 % 256) _ h (omega arith) two refl in
     let four = five-more os first v 3 (v / 2 ^ 8 % 256) _ h (omega arith) three refl in
     five-more os first v 4 (v % 256) _ h (omega arith) four last ∙ ap (λ (k : ℕ). paste os first D k) all
-
-pub length-stored : (os : List ℕ) (first end v : ℕ) → first ≤ end → end ≤ length os → length (stored os first end v) ≡ length os
-unfolding stored
-length-stored os first end v h he =
-    let k : ℕ = end - first in
-    length-paste os first (octetsOf k (bitsOf (8 * k) v)) k (omega arith) (omega (arith, length-octetsOf k (bitsOf (8 * k) v)))
 
 bits-stored : (os : List ℕ) (first end v : ℕ) → first ≤ end → end ≤ length os
     → bits (stored os first end v) ≡ take (8 * first) (bits os) ++ bitsOf (8 * (end - first)) v ++ drop (8 * end) (bits os)
