@@ -1,4 +1,5 @@
--- `replay::apply` meets its contract. Assumes nothing.
+-- `replay::apply` meets its contract. Slices that are no list of calls give the plan value with no states and leave every answer as it was (`told`); those that are one may be made in turn
+-- (`callable`), and what they leave from the fresh plan is what is promised (`applied`). Assumes nothing.
 use mathlib.Core.Path.{sym, _∙_}
 use borrow.Author.Needs.{needs}
 use borrow.Author.Tests.{not-true, not-false}

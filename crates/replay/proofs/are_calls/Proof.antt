@@ -1,4 +1,4 @@
--- `replay::are_calls` meets its contract. Assumes nothing.
+-- `replay::are_calls` meets its contract: each test is the next conjunct of `areCalls`, and the last is `each_call`'s answer. Assumes nothing.
 use mathlib.Core.Path.{sym, _∙_}
 use borrow.Author.Needs.{needs}
 use borrow.Author.Tests.{le-leb, lt-leb, not-true, not-false}

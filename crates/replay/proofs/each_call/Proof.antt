@@ -1,4 +1,5 @@
--- `replay::each_call` meets its contract. Assumes nothing.
+-- `replay::each_call` meets its contract. The invariant: every item passed is a call. An item that is none answers for the whole list (`not-all-tabulate`), and after the last one all
+-- are calls (`all-tabulate`). The measure is what is left of the kinds. Assumes nothing.
 use Prim.Native.Nat.{ℕ, _-_, _≤_, _<_}
 use mathlib.Core.Bool.{true}
 use mathlib.Core.Path.{_≡_, sym, _∙_}

@@ -1,4 +1,5 @@
--- `replay::in_turn` meets its contract. Assumes nothing.
+-- `replay::in_turn` meets its contract. The invariant: plan and answers are those after the calls passed (`After`), none at first (`after-none`); a turn is one call more, by the
+-- promise of `perform` (`after-more`). The measure is what is left of the kinds. Assumes nothing.
 use Prim.Native.Nat.{ℕ, _-_, _≤_}
 use mathlib.Core.List.{map}
 use mathlib.Core.Path.{_≡_, refl, ap, _∙_}

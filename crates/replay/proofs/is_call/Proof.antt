@@ -1,4 +1,4 @@
--- `replay::is_call` meets its contract. Assumes nothing.
+-- `replay::is_call` meets its contract: a kind below 3 is a call's, 3 is one where its part is within the octets, any other is none. Assumes nothing.
 use borrow.Author.Needs.{needs}
 use borrow.Author.Tests.{lt-ltb, le-ltb, eq-eqb, ne-eqb}
 use Rattle.replay.proofs.is_call.Statement.{statement}

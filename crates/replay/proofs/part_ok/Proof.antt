@@ -1,4 +1,4 @@
--- `replay::part_ok` meets its contract. Assumes nothing.
+-- `replay::part_ok` meets its contract: a test that fails makes the conjunction false. Assumes nothing.
 use borrow.Author.Tests.{le-leb, lt-leb}
 use Rattle.replay.proofs.part_ok.Statement.{statement}
 use Rattle.replay.proofs.part_ok.Tie as tie

@@ -1,4 +1,5 @@
--- `replay::perform` meets its contract. Assumes nothing.
+-- `replay::perform` meets its contract: kind by kind, each call's own promise is the step's. A kind past 2 that was let in is a read, and its part lies within the octets (`a-read`).
+-- Assumes nothing.
 use borrow.Author.Needs.{needs}
 use lib.ListN.{length}
 use Rattle.replay.proofs.ReadCalls.{a-read}

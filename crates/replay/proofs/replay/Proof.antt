@@ -1,4 +1,4 @@
--- `replay::replay` meets its contract. Assumes nothing.
+-- `replay::replay` meets its contract: what `apply` promises of the list and `quotation::quote` of each figure of the plan after it, put together (`replayed`). Assumes nothing.
 use borrow.Author.Needs.{needs}
 use Rattle.replay.proofs.Promises.{replayed}
 use Rattle.replay.proofs.replay.Statement.{statement}
