@@ -215,7 +215,7 @@ pub fn all(plan: Plan, walks: &mut [u16]) -> Quotations
     if !plan::within(plan) {
         return Quotations::Refused(Refusal::PlanLimits);
     }
-    if walks.len() < 2048 {
+    if walks.len() < 2048 { // four parts of 512
         return Quotations::Refused(Refusal::BufferLength);
     }
     let n = plan.states;
