@@ -15,7 +15,7 @@ use Rattle.rules.specs.Quotations.{SmallQuote, quoteOf, meant}
 use Rattle.rules.specs.Refusal.{number}
 use Rattle.arrays.specs.Tables.{over}
 
--- a figure's answer as four numbers: "a kind (0 number, 1 NONE, 2 STRANDED, 3 ENDLESS) and a figure, zero unless the kind is 0", k and j
+-- a figure's answer as four numbers: "a kind .. (0 number, 1 NONE, 2 STRANDED, 3 ENDLESS) and a figure .., zero unless the kind is 0", k and j
 abbrev pub numbers : Figure → ℕ → ℕ → List ℕ
 numbers f k j = kind f ∷ value f ∷ k ∷ j ∷ []
 
