@@ -52,6 +52,13 @@ module _ (a : ℕ) (ys xs : List ℕ) (h : a + 512 ≤ length xs) (l : length ys
       front (take a xs) (ys ++ drop 512 (drop a xs)) (drop a xs) c (omega (arith, length-take-le a xs (omega arith)))
       ∙ ap (λ (z : List ℕ). cut c z) (take-append-drop a xs)
 
+-- a part replaced by as many places as were lent, in a list as long as w: it has 512 places, and the list stays as long
+pub stays : (a : ℕ) (ys xs w : List ℕ) → length xs ≡ length w → a + 512 ≤ length w → length ys ≡ length (cut a xs)
+    → (length ys ≡ 512) × (length (put a ys xs) ≡ length w)
+stays a ys xs w e h l =
+    let long : length ys ≡ 512 = l ∙ cut-length a xs (omega arith) in
+    (long, put-length a ys xs (omega arith) long ∙ e)
+
 -- ---- four parts, one after another
 
 module _ (g : Graph) (q : FourQuotes) (xs a b c d : List ℕ) (room : 2048 ≤ length xs)

@@ -1,5 +1,5 @@
 -- `quotation::show_all`: the limits give what each call asks for; each was lent a part, and says its fact of the part (proofs/Parts.antt). Assumes nothing.
-use mathlib.Core.Path.{_≡_, refl, _∙_}
+use mathlib.Core.Path.{_≡_, refl}
 use Prim.Native.Nat.{_≤_}
 use native.Mathlib.Omega.{arith}
 use lib.ListN.{length}
@@ -7,7 +7,7 @@ use Rattle.figures.specs.Figures.{planOf}
 use Rattle.figures.proofs.Held.{bounded-in, from-small, to-small, linked-in}
 use Rattle.plan.specs.declared.Plan.{Plan}
 use Rattle.plan.specs.View.{view}
-use Rattle.quotation.proofs.Parts.{put, cut, cut-length, put-length, all-stated}
+use Rattle.quotation.proofs.Parts.{put, cut, cut-length, stays, all-stated}
 use borrow.Author.Needs.{needs}
 use Rattle.quotation.proofs.show_all.Statement.{statement}
 use Rattle.quotation.proofs.show_all.Tie as tie
@@ -46,7 +46,7 @@ least-requires c κs =
     let w = c .before .before .before .before .before .before .before .before .args .walks .now in
     let q = c .before .before .before .before .before .before .before .before .pre .1 in
     let n = bounded-in p v .states in
-    let l : length (cut 0 (w)) ≡ 512 = cut-length 0 (w) (omega (arith, q)) in
+    let l : length (cut 0 w) ≡ 512 = cut-length 0 w (omega (arith, q)) in
     (refl, v, omega (arith, l, n), c .before .before .before .before .before .before .both .ensures .0, c .before .before .before .before .before .before .both .ensures .1)
 
 sub-greatest : tie.Need-sub-greatest
@@ -66,9 +66,8 @@ greatest-requires c κs =
     let q = c .before .before .before .before .before .before .before .before .before .before .before .before .pre .1 in
     let n = bounded-in p v .states in
     let a = c .before .before .before .least .last .1 .1 .1 .1 .1 .1 .1 .1 .1 .0 in
-    let la : length a ≡ 512 = c .before .before .before .least .kept .1 .1 .1 .1 .1 .1 .1 .1 .1 .0 ∙ cut-length 0 (w) (omega (arith, q)) in
-    let k1 : length (put 0 a (w)) ≡ length (w) = put-length 0 a (w) (omega (arith, q)) la in
-    let l : length (cut 512 (put 0 a (w))) ≡ 512 = cut-length 512 (put 0 a (w)) (omega (arith, q, k1)) in
+    let s1 = stays 0 a w w refl (omega (arith, q)) (c .before .before .before .least .kept .1 .1 .1 .1 .1 .1 .1 .1 .1 .0) in
+    let l : length (cut 512 (put 0 a w)) ≡ 512 = cut-length 512 (put 0 a w) (omega (arith, q, s1 .1)) in
     (refl, v, omega (arith, l, n), c .before .before .before .before .before .before .before .before .before .before .both .ensures .1, (c .before .before .before .before .before .reach .ensures (p .transitions) (p .from) (linked-in p v (c .before .before .before .before .before .before .before .before .before .before .both .result .out) (c .before .before .before .before .before .before .before .before .before .before .both .ensures .1))))
 
 sub-least-2 : tie.Need-sub-least-2
@@ -79,18 +78,13 @@ part-least-start-2 c = search needs
 
 part-least-end-2 : tie.Need-part-least-end-2
 part-least-end-2 c =
-    let p : Plan = planOf (c .before .before .before .before .before .before .before .before .before .before .before .before .before .before .before .args .n) (c .before .before .before .before .before .before .before .before .before .before .before .before .before .before .before .args .m) (c .before .before .before .before .before .before .before .before .before .before .before .before .before .before .before .args .marks .now) (c .before .before .before .before .before .before .before .before .before .before .before .before .before .before .before .args .from .now) (c .before .before .before .before .before .before .before .before .before .before .before .before .before .before .before .args .to .now) (c .before .before .before .before .before .before .before .before .before .before .before .before .before .before .before .args .low .now) (c .before .before .before .before .before .before .before .before .before .before .before .before .before .before .before .args .high .now) in
-    let v = c .before .before .before .before .before .before .before .before .before .before .before .before .before .before .before .pre .0 in
     let w = c .before .before .before .before .before .before .before .before .before .before .before .before .before .before .before .args .walks .now in
     let q = c .before .before .before .before .before .before .before .before .before .before .before .before .before .before .before .pre .1 in
-    let n = bounded-in p v .states in
     let a = c .before .before .before .before .before .before .least .last .1 .1 .1 .1 .1 .1 .1 .1 .1 .0 in
-    let la : length a ≡ 512 = c .before .before .before .before .before .before .least .kept .1 .1 .1 .1 .1 .1 .1 .1 .1 .0 ∙ cut-length 0 (w) (omega (arith, q)) in
-    let k1 : length (put 0 a (w)) ≡ length (w) = put-length 0 a (w) (omega (arith, q)) la in
+    let s1 = stays 0 a w w refl (omega (arith, q)) (c .before .before .before .before .before .before .least .kept .1 .1 .1 .1 .1 .1 .1 .1 .1 .0) in
     let b = c .before .before .greatest .last .1 .1 .1 .1 .1 .1 .1 .1 .1 .1 .0 in
-    let lb : length b ≡ 512 = c .before .before .greatest .kept .1 .1 .1 .1 .1 .1 .1 .1 .1 .1 .0 ∙ cut-length 512 (put 0 a (w)) (omega (arith, q, k1)) in
-    let k2 : length (put 512 b (put 0 a (w))) ≡ length (put 0 a (w)) = put-length 512 b (put 0 a (w)) (omega (arith, q, k1)) lb in
-    let g : 1536 ≤ length (put 512 b (put 0 a (w))) = omega (arith, q, k1, k2) in
+    let s2 = stays 512 b (put 0 a w) w (s1 .1) (omega (arith, q)) (c .before .before .greatest .kept .1 .1 .1 .1 .1 .1 .1 .1 .1 .1 .0) in
+    let g : 1536 ≤ length (put 512 b (put 0 a w)) = omega (arith, q, s2 .1) in
     g
 
 least-requires-2 : tie.Need-least-requires-2
@@ -101,12 +95,10 @@ least-requires-2 c κs =
     let q = c .before .before .before .before .before .before .before .before .before .before .before .before .before .before .before .before .pre .1 in
     let n = bounded-in p v .states in
     let a = c .before .before .before .before .before .before .before .least .last .1 .1 .1 .1 .1 .1 .1 .1 .1 .0 in
-    let la : length a ≡ 512 = c .before .before .before .before .before .before .before .least .kept .1 .1 .1 .1 .1 .1 .1 .1 .1 .0 ∙ cut-length 0 (w) (omega (arith, q)) in
-    let k1 : length (put 0 a (w)) ≡ length (w) = put-length 0 a (w) (omega (arith, q)) la in
+    let s1 = stays 0 a w w refl (omega (arith, q)) (c .before .before .before .before .before .before .before .least .kept .1 .1 .1 .1 .1 .1 .1 .1 .1 .0) in
     let b = c .before .before .before .greatest .last .1 .1 .1 .1 .1 .1 .1 .1 .1 .1 .0 in
-    let lb : length b ≡ 512 = c .before .before .before .greatest .kept .1 .1 .1 .1 .1 .1 .1 .1 .1 .1 .0 ∙ cut-length 512 (put 0 a (w)) (omega (arith, q, k1)) in
-    let k2 : length (put 512 b (put 0 a (w))) ≡ length (put 0 a (w)) = put-length 512 b (put 0 a (w)) (omega (arith, q, k1)) lb in
-    let l : length (cut 1024 (put 512 b (put 0 a (w)))) ≡ 512 = cut-length 1024 (put 512 b (put 0 a (w))) (omega (arith, q, k1, k2)) in
+    let s2 = stays 512 b (put 0 a w) w (s1 .1) (omega (arith, q)) (c .before .before .before .greatest .kept .1 .1 .1 .1 .1 .1 .1 .1 .1 .1 .0) in
+    let l : length (cut 1024 (put 512 b (put 0 a w))) ≡ 512 = cut-length 1024 (put 512 b (put 0 a w)) (omega (arith, q, s2 .1)) in
     (refl, v, omega (arith, l, n), c .before .before .before .before .before .before .before .before .before .before .before .before .before .before .both .ensures .0, c .before .before .before .before .before .before .before .before .before .before .before .before .before .before .both .ensures .1)
 
 sub-greatest-2 : tie.Need-sub-greatest-2
@@ -117,21 +109,15 @@ part-greatest-start-2 c = search needs
 
 part-greatest-end-2 : tie.Need-part-greatest-end-2
 part-greatest-end-2 c =
-    let p : Plan = planOf (c .before .before .before .before .before .before .before .before .before .before .before .before .before .before .before .before .before .before .before .args .n) (c .before .before .before .before .before .before .before .before .before .before .before .before .before .before .before .before .before .before .before .args .m) (c .before .before .before .before .before .before .before .before .before .before .before .before .before .before .before .before .before .before .before .args .marks .now) (c .before .before .before .before .before .before .before .before .before .before .before .before .before .before .before .before .before .before .before .args .from .now) (c .before .before .before .before .before .before .before .before .before .before .before .before .before .before .before .before .before .before .before .args .to .now) (c .before .before .before .before .before .before .before .before .before .before .before .before .before .before .before .before .before .before .before .args .low .now) (c .before .before .before .before .before .before .before .before .before .before .before .before .before .before .before .before .before .before .before .args .high .now) in
-    let v = c .before .before .before .before .before .before .before .before .before .before .before .before .before .before .before .before .before .before .before .pre .0 in
     let w = c .before .before .before .before .before .before .before .before .before .before .before .before .before .before .before .before .before .before .before .args .walks .now in
     let q = c .before .before .before .before .before .before .before .before .before .before .before .before .before .before .before .before .before .before .before .pre .1 in
-    let n = bounded-in p v .states in
     let a = c .before .before .before .before .before .before .before .before .before .before .least .last .1 .1 .1 .1 .1 .1 .1 .1 .1 .0 in
-    let la : length a ≡ 512 = c .before .before .before .before .before .before .before .before .before .before .least .kept .1 .1 .1 .1 .1 .1 .1 .1 .1 .0 ∙ cut-length 0 (w) (omega (arith, q)) in
-    let k1 : length (put 0 a (w)) ≡ length (w) = put-length 0 a (w) (omega (arith, q)) la in
+    let s1 = stays 0 a w w refl (omega (arith, q)) (c .before .before .before .before .before .before .before .before .before .before .least .kept .1 .1 .1 .1 .1 .1 .1 .1 .1 .0) in
     let b = c .before .before .before .before .before .before .greatest .last .1 .1 .1 .1 .1 .1 .1 .1 .1 .1 .0 in
-    let lb : length b ≡ 512 = c .before .before .before .before .before .before .greatest .kept .1 .1 .1 .1 .1 .1 .1 .1 .1 .1 .0 ∙ cut-length 512 (put 0 a (w)) (omega (arith, q, k1)) in
-    let k2 : length (put 512 b (put 0 a (w))) ≡ length (put 0 a (w)) = put-length 512 b (put 0 a (w)) (omega (arith, q, k1)) lb in
+    let s2 = stays 512 b (put 0 a w) w (s1 .1) (omega (arith, q)) (c .before .before .before .before .before .before .greatest .kept .1 .1 .1 .1 .1 .1 .1 .1 .1 .1 .0) in
     let d = c .before .before .least2 .last .1 .1 .1 .1 .1 .1 .1 .1 .1 .0 in
-    let ld : length d ≡ 512 = c .before .before .least2 .kept .1 .1 .1 .1 .1 .1 .1 .1 .1 .0 ∙ cut-length 1024 (put 512 b (put 0 a (w))) (omega (arith, q, k1, k2)) in
-    let k3 : length (put 1024 d (put 512 b (put 0 a (w)))) ≡ length (put 512 b (put 0 a (w))) = put-length 1024 d (put 512 b (put 0 a (w))) (omega (arith, q, k1, k2)) ld in
-    let g : 2048 ≤ length (put 1024 d (put 512 b (put 0 a (w)))) = omega (arith, q, k1, k2, k3) in
+    let s3 = stays 1024 d (put 512 b (put 0 a w)) w (s2 .1) (omega (arith, q)) (c .before .before .least2 .kept .1 .1 .1 .1 .1 .1 .1 .1 .1 .0) in
+    let g : 2048 ≤ length (put 1024 d (put 512 b (put 0 a w))) = omega (arith, q, s3 .1) in
     g
 
 greatest-requires-2 : tie.Need-greatest-requires-2
@@ -142,58 +128,42 @@ greatest-requires-2 c κs =
     let q = c .before .before .before .before .before .before .before .before .before .before .before .before .before .before .before .before .before .before .before .before .pre .1 in
     let n = bounded-in p v .states in
     let a = c .before .before .before .before .before .before .before .before .before .before .before .least .last .1 .1 .1 .1 .1 .1 .1 .1 .1 .0 in
-    let la : length a ≡ 512 = c .before .before .before .before .before .before .before .before .before .before .before .least .kept .1 .1 .1 .1 .1 .1 .1 .1 .1 .0 ∙ cut-length 0 (w) (omega (arith, q)) in
-    let k1 : length (put 0 a (w)) ≡ length (w) = put-length 0 a (w) (omega (arith, q)) la in
+    let s1 = stays 0 a w w refl (omega (arith, q)) (c .before .before .before .before .before .before .before .before .before .before .before .least .kept .1 .1 .1 .1 .1 .1 .1 .1 .1 .0) in
     let b = c .before .before .before .before .before .before .before .greatest .last .1 .1 .1 .1 .1 .1 .1 .1 .1 .1 .0 in
-    let lb : length b ≡ 512 = c .before .before .before .before .before .before .before .greatest .kept .1 .1 .1 .1 .1 .1 .1 .1 .1 .1 .0 ∙ cut-length 512 (put 0 a (w)) (omega (arith, q, k1)) in
-    let k2 : length (put 512 b (put 0 a (w))) ≡ length (put 0 a (w)) = put-length 512 b (put 0 a (w)) (omega (arith, q, k1)) lb in
+    let s2 = stays 512 b (put 0 a w) w (s1 .1) (omega (arith, q)) (c .before .before .before .before .before .before .before .greatest .kept .1 .1 .1 .1 .1 .1 .1 .1 .1 .1 .0) in
     let d = c .before .before .before .least2 .last .1 .1 .1 .1 .1 .1 .1 .1 .1 .0 in
-    let ld : length d ≡ 512 = c .before .before .before .least2 .kept .1 .1 .1 .1 .1 .1 .1 .1 .1 .0 ∙ cut-length 1024 (put 512 b (put 0 a (w))) (omega (arith, q, k1, k2)) in
-    let k3 : length (put 1024 d (put 512 b (put 0 a (w)))) ≡ length (put 512 b (put 0 a (w))) = put-length 1024 d (put 512 b (put 0 a (w))) (omega (arith, q, k1, k2)) ld in
-    let l : length (cut 1536 (put 1024 d (put 512 b (put 0 a (w))))) ≡ 512 = cut-length 1536 (put 1024 d (put 512 b (put 0 a (w)))) (omega (arith, q, k1, k2, k3)) in
+    let s3 = stays 1024 d (put 512 b (put 0 a w)) w (s2 .1) (omega (arith, q)) (c .before .before .before .least2 .kept .1 .1 .1 .1 .1 .1 .1 .1 .1 .0) in
+    let l : length (cut 1536 (put 1024 d (put 512 b (put 0 a w)))) ≡ 512 = cut-length 1536 (put 1024 d (put 512 b (put 0 a w))) (omega (arith, q, s3 .1)) in
     (refl, v, omega (arith, l, n), c .before .before .before .before .before .before .before .before .before .before .before .before .before .before .before .before .before .before .both .ensures .1, (c .before .before .before .before .before .before .before .before .before .before .before .before .before .reach .ensures (p .transitions) (p .from) (linked-in p v (c .before .before .before .before .before .before .before .before .before .before .before .before .before .before .before .before .before .before .both .result .out) (c .before .before .before .before .before .before .before .before .before .before .before .before .before .before .before .before .before .before .both .ensures .1))))
 
 same-length : tie.Need-same-length
 same-length c =
-    let p : Plan = planOf (c .before .before .before .before .before .before .before .before .before .before .before .before .before .before .before .before .before .before .before .before .before .before .before .args .n) (c .before .before .before .before .before .before .before .before .before .before .before .before .before .before .before .before .before .before .before .before .before .before .before .args .m) (c .before .before .before .before .before .before .before .before .before .before .before .before .before .before .before .before .before .before .before .before .before .before .before .args .marks .now) (c .before .before .before .before .before .before .before .before .before .before .before .before .before .before .before .before .before .before .before .before .before .before .before .args .from .now) (c .before .before .before .before .before .before .before .before .before .before .before .before .before .before .before .before .before .before .before .before .before .before .before .args .to .now) (c .before .before .before .before .before .before .before .before .before .before .before .before .before .before .before .before .before .before .before .before .before .before .before .args .low .now) (c .before .before .before .before .before .before .before .before .before .before .before .before .before .before .before .before .before .before .before .before .before .before .before .args .high .now) in
-    let v = c .before .before .before .before .before .before .before .before .before .before .before .before .before .before .before .before .before .before .before .before .before .before .before .pre .0 in
     let w = c .before .before .before .before .before .before .before .before .before .before .before .before .before .before .before .before .before .before .before .before .before .before .before .args .walks .now in
     let q = c .before .before .before .before .before .before .before .before .before .before .before .before .before .before .before .before .before .before .before .before .before .before .before .pre .1 in
-    let n = bounded-in p v .states in
     let a = c .before .before .before .before .before .before .before .before .before .before .before .before .before .before .least .last .1 .1 .1 .1 .1 .1 .1 .1 .1 .0 in
-    let la : length a ≡ 512 = c .before .before .before .before .before .before .before .before .before .before .before .before .before .before .least .kept .1 .1 .1 .1 .1 .1 .1 .1 .1 .0 ∙ cut-length 0 (w) (omega (arith, q)) in
-    let k1 : length (put 0 a (w)) ≡ length (w) = put-length 0 a (w) (omega (arith, q)) la in
+    let s1 = stays 0 a w w refl (omega (arith, q)) (c .before .before .before .before .before .before .before .before .before .before .before .before .before .before .least .kept .1 .1 .1 .1 .1 .1 .1 .1 .1 .0) in
     let b = c .before .before .before .before .before .before .before .before .before .before .greatest .last .1 .1 .1 .1 .1 .1 .1 .1 .1 .1 .0 in
-    let lb : length b ≡ 512 = c .before .before .before .before .before .before .before .before .before .before .greatest .kept .1 .1 .1 .1 .1 .1 .1 .1 .1 .1 .0 ∙ cut-length 512 (put 0 a (w)) (omega (arith, q, k1)) in
-    let k2 : length (put 512 b (put 0 a (w))) ≡ length (put 0 a (w)) = put-length 512 b (put 0 a (w)) (omega (arith, q, k1)) lb in
+    let s2 = stays 512 b (put 0 a w) w (s1 .1) (omega (arith, q)) (c .before .before .before .before .before .before .before .before .before .before .greatest .kept .1 .1 .1 .1 .1 .1 .1 .1 .1 .1 .0) in
     let d = c .before .before .before .before .before .before .least2 .last .1 .1 .1 .1 .1 .1 .1 .1 .1 .0 in
-    let ld : length d ≡ 512 = c .before .before .before .before .before .before .least2 .kept .1 .1 .1 .1 .1 .1 .1 .1 .1 .0 ∙ cut-length 1024 (put 512 b (put 0 a (w))) (omega (arith, q, k1, k2)) in
-    let k3 : length (put 1024 d (put 512 b (put 0 a (w)))) ≡ length (put 512 b (put 0 a (w))) = put-length 1024 d (put 512 b (put 0 a (w))) (omega (arith, q, k1, k2)) ld in
+    let s3 = stays 1024 d (put 512 b (put 0 a w)) w (s2 .1) (omega (arith, q)) (c .before .before .before .before .before .before .least2 .kept .1 .1 .1 .1 .1 .1 .1 .1 .1 .0) in
     let e = c .before .before .greatest2 .last .1 .1 .1 .1 .1 .1 .1 .1 .1 .1 .0 in
-    let le : length e ≡ 512 = c .before .before .greatest2 .kept .1 .1 .1 .1 .1 .1 .1 .1 .1 .1 .0 ∙ cut-length 1536 (put 1024 d (put 512 b (put 0 a (w)))) (omega (arith, q, k1, k2, k3)) in
-    let k4 : length (put 1536 e (put 1024 d (put 512 b (put 0 a (w))))) ≡ length (put 1024 d (put 512 b (put 0 a (w)))) = put-length 1536 e (put 1024 d (put 512 b (put 0 a (w)))) (omega (arith, q, k1, k2, k3)) le in
-    k4 ∙ k3 ∙ k2 ∙ k1
+    let s4 = stays 1536 e (put 1024 d (put 512 b (put 0 a w))) w (s3 .1) (omega (arith, q)) (c .before .before .greatest2 .kept .1 .1 .1 .1 .1 .1 .1 .1 .1 .1 .0) in
+    s4 .1
 
 returns : tie.Need-returns
 returns c =
     let p : Plan = planOf (c .before .before .before .before .before .before .before .before .before .before .before .before .before .before .before .before .before .before .before .before .before .before .before .args .n) (c .before .before .before .before .before .before .before .before .before .before .before .before .before .before .before .before .before .before .before .before .before .before .before .args .m) (c .before .before .before .before .before .before .before .before .before .before .before .before .before .before .before .before .before .before .before .before .before .before .before .args .marks .now) (c .before .before .before .before .before .before .before .before .before .before .before .before .before .before .before .before .before .before .before .before .before .before .before .args .from .now) (c .before .before .before .before .before .before .before .before .before .before .before .before .before .before .before .before .before .before .before .before .before .before .before .args .to .now) (c .before .before .before .before .before .before .before .before .before .before .before .before .before .before .before .before .before .before .before .before .before .before .before .args .low .now) (c .before .before .before .before .before .before .before .before .before .before .before .before .before .before .before .before .before .before .before .before .before .before .before .args .high .now) in
-    let v = c .before .before .before .before .before .before .before .before .before .before .before .before .before .before .before .before .before .before .before .before .before .before .before .pre .0 in
     let w = c .before .before .before .before .before .before .before .before .before .before .before .before .before .before .before .before .before .before .before .before .before .before .before .args .walks .now in
     let q = c .before .before .before .before .before .before .before .before .before .before .before .before .before .before .before .before .before .before .before .before .before .before .before .pre .1 in
-    let n = bounded-in p v .states in
     let a = c .before .before .before .before .before .before .before .before .before .before .before .before .before .before .least .last .1 .1 .1 .1 .1 .1 .1 .1 .1 .0 in
-    let la : length a ≡ 512 = c .before .before .before .before .before .before .before .before .before .before .before .before .before .before .least .kept .1 .1 .1 .1 .1 .1 .1 .1 .1 .0 ∙ cut-length 0 (w) (omega (arith, q)) in
-    let k1 : length (put 0 a (w)) ≡ length (w) = put-length 0 a (w) (omega (arith, q)) la in
+    let s1 = stays 0 a w w refl (omega (arith, q)) (c .before .before .before .before .before .before .before .before .before .before .before .before .before .before .least .kept .1 .1 .1 .1 .1 .1 .1 .1 .1 .0) in
     let b = c .before .before .before .before .before .before .before .before .before .before .greatest .last .1 .1 .1 .1 .1 .1 .1 .1 .1 .1 .0 in
-    let lb : length b ≡ 512 = c .before .before .before .before .before .before .before .before .before .before .greatest .kept .1 .1 .1 .1 .1 .1 .1 .1 .1 .1 .0 ∙ cut-length 512 (put 0 a (w)) (omega (arith, q, k1)) in
-    let k2 : length (put 512 b (put 0 a (w))) ≡ length (put 0 a (w)) = put-length 512 b (put 0 a (w)) (omega (arith, q, k1)) lb in
+    let s2 = stays 512 b (put 0 a w) w (s1 .1) (omega (arith, q)) (c .before .before .before .before .before .before .before .before .before .before .greatest .kept .1 .1 .1 .1 .1 .1 .1 .1 .1 .1 .0) in
     let d = c .before .before .before .before .before .before .least2 .last .1 .1 .1 .1 .1 .1 .1 .1 .1 .0 in
-    let ld : length d ≡ 512 = c .before .before .before .before .before .before .least2 .kept .1 .1 .1 .1 .1 .1 .1 .1 .1 .0 ∙ cut-length 1024 (put 512 b (put 0 a (w))) (omega (arith, q, k1, k2)) in
-    let k3 : length (put 1024 d (put 512 b (put 0 a (w)))) ≡ length (put 512 b (put 0 a (w))) = put-length 1024 d (put 512 b (put 0 a (w))) (omega (arith, q, k1, k2)) ld in
+    let s3 = stays 1024 d (put 512 b (put 0 a w)) w (s2 .1) (omega (arith, q)) (c .before .before .before .before .before .before .least2 .kept .1 .1 .1 .1 .1 .1 .1 .1 .1 .0) in
     let e = c .before .before .greatest2 .last .1 .1 .1 .1 .1 .1 .1 .1 .1 .1 .0 in
-    let le : length e ≡ 512 = c .before .before .greatest2 .kept .1 .1 .1 .1 .1 .1 .1 .1 .1 .1 .0 ∙ cut-length 1536 (put 1024 d (put 512 b (put 0 a (w)))) (omega (arith, q, k1, k2, k3)) in
-    let k4 : length (put 1536 e (put 1024 d (put 512 b (put 0 a (w))))) ≡ length (put 1024 d (put 512 b (put 0 a (w)))) = put-length 1536 e (put 1024 d (put 512 b (put 0 a (w)))) (omega (arith, q, k1, k2, k3)) le in
-    all-stated (view p) _ w a b d e q la lb ld le (c .before .before .before .before .before .before .before .before .before .before .before .before .before .before .least .ensures) (c .before .before .before .before .before .before .before .before .before .before .greatest .ensures) (c .before .before .before .before .before .before .least2 .ensures) (c .before .before .greatest2 .ensures)
+    let s4 = stays 1536 e (put 1024 d (put 512 b (put 0 a w))) w (s3 .1) (omega (arith, q)) (c .before .before .greatest2 .kept .1 .1 .1 .1 .1 .1 .1 .1 .1 .1 .0) in
+    all-stated (view p) _ w a b d e q (s1 .0) (s2 .0) (s3 .0) (s4 .0) (c .before .before .before .before .before .before .before .before .before .before .before .before .before .before .least .ensures) (c .before .before .before .before .before .before .before .before .before .before .greatest .ensures) (c .before .before .before .before .before .before .least2 .ensures) (c .before .before .greatest2 .ensures)
 
 pub show-all-spec : {M : Type 1} → statement M
 show-all-spec =
