@@ -4,7 +4,7 @@
 -- return (`report-figures`). A list of calls is a run of the rules (plan's `fresh-run`), whose plan is within the limits
 -- (`listed-within`), so that a quotation with n places is accepted, and then says of that plan what its promise says.
 -- Assumes nothing.
-use mathlib.Core.Bool.{true}
+use mathlib.Core.Bool.{true, false}
 use mathlib.Core.List.{List}
 use mathlib.Core.Path.{_≡_, refl, sym, ap, _∙_, subst}
 use Prim.Native.Nat.{ℕ}
@@ -18,12 +18,13 @@ use Rattle.rules.specs.declared.Quotation.{Quotation}
 use Rattle.rules.specs.declared.Quotation.the-variants.{Quoted, Refused}
 use Rattle.rules.specs.declared.Quote.{Quote}
 use Rattle.rules.specs.declared.Refusal.{Refusal}
+use Rattle.rules.specs.declared.Refusal.the-variants.{PlanLimits}
 use Rattle.rules.specs.declared.Written.{Written}
-use Rattle.rules.specs.Calls.{Call, rowsOf, effectOf, step, runFresh}
-use Rattle.rules.specs.Image.{image}
+use Rattle.rules.specs.Calls.{Call, mark, join, unjoin, read, rowsOf, effectOf, step, runFresh}
+use Rattle.rules.specs.Image.{image, imageRows, graphIn, readImage}
 use Rattle.rules.specs.Limits.{within}
-use Rattle.rules.specs.Quotations.{saidQuotation, says, Stated, Write, quoteRows, quoteRule, recordRows, recordRule}
-use Rattle.rules.specs.Refusal.{Result, accepted, refused, answerOf, wrote}
+use Rattle.rules.specs.Quotations.{saidQuotation, says, Stated, Write, quoteRows, quoteRule, allRule, heldRule, recordRows, recordRule}
+use Rattle.rules.specs.Refusal.{Result, accepted, refused, answerOf, said, wrote}
 use Rattle.rules.specs.Rules.{freshRows, freshRule, freshGraph, writeRows, writeRule, written}
 use Rattle.rules.specs.Table.{Row, first}
 use Rattle.rules.proofs.Basic.{quote-done}
@@ -34,11 +35,12 @@ use Rattle.rules.proofs.Tables.{only-grounds, accepted-where, accepted-only, an
 use Rattle.plan.specs.declared.Plan.{Plan}
 use Rattle.plan.specs.Promise.{Obeyed, none, more}
 use Rattle.plan.specs.View.{view, noPlan}
-use Rattle.plan.proofs.Promises.{refused-keeps, fresh-run, accepted-write, write-then-read, accepted-read, read-then-write}
+use Rattle.plan.specs.declared.Edited.{Edited}
+use Rattle.plan.proofs.Promises.{no-plan, refused-keeps, fresh-run, accepted-write, write-then-read, accepted-read, read-then-write}
 use Rattle.demands.specs.Calculator.{Calculator, Promises, Answers, Listed}
 use Rattle.demands.specs.Calculator.{none as no-call, more as one-more}
-use Rattle.demands.specs.Demands.{Called, Lent, Demand1, Demand2, Demand3}
-use Rattle.demands.specs.Demands.{fresh, edit, write, recording, quote}
+use Rattle.demands.specs.Demands.{Called, Given, Lent, Made, Demand1, Demand2, Demand3}
+use Rattle.demands.specs.Demands.{fresh, held, edit, write, recording, quote, all-four, all-of-image}
 use Rattle.demands.proofs.Agreement.{report-figures}
 
 -- a refused call that fills a lent buffer leaves it
@@ -54,27 +56,52 @@ module _ (c : Calculator) (keeps : Promises c) where
   -- ---- demand 1
 
   by-rows : {rows : List Row} {a : Result (Unit {0})} → Called c rows a → a ≡ first rows
-  unfolding freshRule writeRule recordRule quoteRule
+  unfolding freshRule readImage writeRule recordRule quoteRule allRule heldRule
   by-rows (fresh {n} x) = keeps .freshes x .answer ∙ answer-first (freshRows n) (freshGraph n)
+  by-rows (held {octets} x) = keeps .helds x .answer ∙ answer-first (imageRows octets) (graphIn octets)
   by-rows (edit {p} {call} x) = keeps .edits x .answer ∙ answer-first (rowsOf (view p) call) (effectOf (view p) call)
   by-rows (write {p} {before} x) = ap answerOf (keeps .writes x .answer) ∙ answer-first (writeRows (view p) before) _
   by-rows (recording {p} {before} x) = ap answerOf (keeps .records x .answer) ∙ answer-first (recordRows (view p) before) _
   by-rows (quote {which} {p} {before} x) = keeps .quotes x .answer
+  by-rows (all-four {p} {before} x) = keeps .quotes-all x .answer
+  by-rows (all-of-image {octets} {before} x) = keeps .quotes-image x .answer
+
+  -- row 0 stands first in the rows of every call that is given a plan
+  limits-first : {p : Plan} {a : Result (Unit {0})} → Given c p a → within (view p) ≡ false → a ≡ refused PlanLimits
+  limits-first (edit {p} {call} x) w = by-rows (edit x) ∙ go call
+    where
+      go : (call : Call) → first (rowsOf (view p) call) ≡ refused PlanLimits
+      go (mark state value) = rw w
+      go (join t) = rw w
+      go (unjoin number) = rw w
+      go (read octets) = rw w
+  limits-first (write x) w = by-rows (write x) ∙ rw w
+  limits-first (recording x) w = by-rows (recording x) ∙ rw w
+  limits-first (quote x) w = by-rows (quote x) ∙ rw w
+  limits-first (all-four x) w = by-rows (all-four x) ∙ rw w
+
+  none-made : {e : Edited} (k : Refusal) → Made c e → said (e .answer) ≡ refused k → e .plan ≡ noPlan
+  none-made {e} k (fresh {n} x) r = refused-keeps noPlan (freshRule n) e k (keeps .freshes x) (refused-as (freshRule n) k (sym r ∙ keeps .freshes x .answer))
+  none-made {e} k (held {octets} x) r = refused-keeps noPlan (readImage octets) e k (keeps .helds x) (refused-as (readImage octets) k (sym r ∙ keeps .helds x .answer))
 
   stays : {before after : List ℕ} {a : Result (Unit {0})} (k : Refusal) → Lent c before after a → a ≡ refused k → after ≡ before
   stays k (write {p} {before} x) e = kept-buffer k (keeps .writes x) e
   stays k (recording {p} {before} x) e = kept-buffer k (keeps .records x) e
   stays k (quote {which} {p} {before} x) e = keeps .quotes x .kept k (sym (keeps .quotes x .answer) ∙ e)
+  stays k (all-four {p} {before} x) e = keeps .quotes-all x .kept k (sym (keeps .quotes-all x .answer) ∙ e)
+  stays k (all-of-image {octets} {before} x) e = keeps .quotes-image x .kept k (sym (keeps .quotes-image x .answer) ∙ e)
 
   pub demand-1 : Answers c → Demand1 c
   demand-1 answers = record {
     answers = answers;
     by-number = by-rows;
     plan-stays = λ {p} {call} {e} k x r. refused-keeps p (step (view p) call) e k (keeps .edits x) (refused-as (step (view p) call) k (sym r ∙ keeps .edits x .answer));
-    none-made = λ {n} {e} k x r. refused-keeps noPlan (freshRule n) e k (keeps .freshes x) (refused-as (freshRule n) k (sym r ∙ keeps .freshes x .answer));
     lent-stay = stays;
+    none-made = none-made;
+    none-refused = λ x. limits-first x no-plan;
     only-grounds = λ {rows} k x r. only-grounds rows tt k (sym (by-rows x) ∙ r);
     otherwise = λ {rows} x h. by-rows x ∙ accepted-where rows tt h;
+    limits-first = limits-first;
   }
 
   -- ---- demand 2

@@ -17,8 +17,7 @@ use Rattle.graph.specs.Compute.{any, figureFor}
 use Rattle.graph.specs.Figure.{Figure, number, NONE, STRANDED, ENDLESS, kind, value, Shown, costFor}
 use Rattle.graph.specs.Graph.{Graph, state, marksOf, start, final, counted, transition, from, to, low, high}
 use Rattle.graph.specs.Known.{Row, plan, join as to-join, P1, P2, P6}
-use Rattle.graph.specs.Route.{number-on}
-use Rattle.graph.specs.Walk.{Begins}
+use Rattle.graph.specs.Route.{Route, number-on}
 use Rattle.graph.proofs.Sentences.{shown-count}
 use Rattle.rules.specs.declared.Answer.the-variants.{Accepted, Refused}
 use Rattle.rules.specs.declared.Quotation.the-variants.{Quoted}
@@ -101,6 +100,17 @@ other-listable GreatestDelay = one-state
 other-listable LeastCount = two-states
 other-listable GreatestCount = one-state
 
+-- two starts, of which only the second is counted, and a transition from the first to an answer: the walk 0 has no counted state, though it would have one if
+-- it began at the other start, where it is no route
+abbrev pub two-starts : Graph
+two-starts = plan (4 ∷ 5 ∷ 2 ∷ []) (to-join 0 2 1 1 ∷ [])
+
+pub two-starts-lack : (first : ℕ) → Route two-starts first (0 ∷ []) → number-on two-starts (counted two-starts) first (0 ∷ []) ≡ 1 → ⊥
+unfolding marksOf start final counted transition from to low high
+two-starts-lack first r e =
+    let z : _≡_ {A = ℕ} 0 1 = subst (λ (s : ℕ). number-on two-starts (counted two-starts) s (0 ∷ []) ≡ 1) (sym (r .1 .1 .source)) e in
+    omega arith
+
 module _ (c : Calculator) where
   -- a session whose list of calls makes the plan g, and of which demand 3's claim holds, quotes the figure f
   pub record Heard (g : Graph) (which : Which) (f : Figure) : Type 0 where
@@ -166,20 +176,24 @@ module _ (c : Calculator) where
     abbrev after-list : Graph
     after-list = runFresh (s .n) (s .calls) .last
 
-    -- "one that quotes a handover count which its walk lacks": from some start the shown walk has just that many counted states
+    -- the shown walk has no start from which it is a route with x counted states
+    abbrev Lacks : List ℕ → ℕ → Type 0
+    Lacks walk x = (first : ℕ) → Route after-list first walk → number-on after-list (counted after-list) first walk ≡ x → ⊥
+
+    -- "one that quotes a handover count which its walk lacks": from the start where it is a route the shown walk has just that many counted states
     counts-shown : (f : Figure) (x k j : ℕ) (places : List ℕ) → f ≡ number x → Shown after-list (costFor LeastCount after-list) f (take k places) j
-        → ((first : ℕ) → Begins after-list first → number-on after-list (counted after-list) first (take k places) ≡ x → ⊥) → ⊥
+        → Lacks (take k places) x → ⊥
     counts-shown f x k j places e shown lacks =
-        let (first, b, n) = shown-count after-list (counted after-list) x (take k places) j
+        let (first, r, n) = shown-count after-list (counted after-list) x (take k places) j
         (subst (λ (f : Figure). Shown after-list (costFor LeastCount after-list) f (take k places) j) e shown) in
-        lacks first b n
+        lacks first r n
 
     pub least-count-lacking : (q : Quote) (x : ℕ) → s .quotation LeastCount ≡ Quoted q → meant (q .figure) ≡ number x
-        → ((first : ℕ) → Begins after-list first → number-on after-list (counted after-list) first (take (q .k) (s .places-after LeastCount)) ≡ x → ⊥) → ⊥
+        → Lacks (take (q .k) (s .places-after LeastCount)) x → ⊥
     least-count-lacking q x e f = counts-shown _ x (q .k) (q .j) (s .places-after LeastCount) f (d .right LeastCount q e .shows .walk)
 
     pub greatest-count-lacking : (q : Quote) (x : ℕ) → s .quotation GreatestCount ≡ Quoted q → meant (q .figure) ≡ number x
-        → ((first : ℕ) → Begins after-list first → number-on after-list (counted after-list) first (take (q .k) (s .places-after GreatestCount)) ≡ x → ⊥) → ⊥
+        → Lacks (take (q .k) (s .places-after GreatestCount)) x → ⊥
     greatest-count-lacking q x e f = counts-shown _ x (q .k) (q .j) (s .places-after GreatestCount) f (d .right GreatestCount q e .shows .walk)
 
     -- "one that obeys the first edit and merely acknowledges the rest": it marks state 0 with 4, says that it marked it with 2, and holds 4

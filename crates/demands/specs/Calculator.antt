@@ -1,13 +1,18 @@
--- A calculator as its callers see it, and what is published of it. Assumes nothing.
+-- A calculator as its callers see it, and what is published of it.
+--
+-- What ties `Promises` to the code: each of its fields is, word for word, the `ensures` of public functions, all without a `requires`: of plan/src/lib.rt
+-- `fresh`, `held`, `mark`, `join`, `unjoin`, `read` and `write`, of quotation/src/lib.rt `record`, `quote` with the four that hand on to it, `all` and `held`.
+-- That each function meets its `ensures` is what the check of its crate proves; here it is the hypothesis. Assumes nothing.
 use mathlib.Core.List.{List, [], _∷_}
 use Prim.Native.Nat.{ℕ}
 use Rattle.graph.specs.declared.Which.{Which}
 use Rattle.rules.specs.declared.Answer.{Answer}
 use Rattle.rules.specs.declared.Quotation.{Quotation}
+use Rattle.rules.specs.declared.Quotations.{Quotations}
 use Rattle.rules.specs.declared.Written.{Written}
 use Rattle.rules.specs.Calls.{Call, step}
-use Rattle.rules.specs.Image.{image}
-use Rattle.rules.specs.Quotations.{Quotes, Write, recordOctets, recordRule}
+use Rattle.rules.specs.Image.{image, readImage}
+use Rattle.rules.specs.Quotations.{Quotes, QuotesAll, QuotesHeld, Write, recordOctets, recordRule}
 use Rattle.rules.specs.Rules.{freshRule, writeRule}
 use Rattle.plan.specs.declared.Edited.{Edited}
 use Rattle.plan.specs.declared.Plan.{Plan}
@@ -15,17 +20,22 @@ use Rattle.plan.specs.Promise.{Edit}
 use Rattle.plan.specs.View.{view, noPlan}
 
 -- a calculator: what comes back of what it is given. Lent places are seen as they stand before the call and after it. Each call is a relation, so
--- that nothing is taken for granted: neither that something comes back, nor that it is always the same
+-- that nothing is taken for granted: neither that something comes back, nor that it is always the same. Three calls are ours and not 01's: `helds` makes
+-- the plan that an image holds, from nothing; `quotes-all` quotes all four figures of a plan, and `quotes-image` those of the plan that an image holds
 pub record Calculator : Type 1 where
   pub freshes : ℕ → Edited → Type 0
+  pub helds : List ℕ → Edited → Type 0
   pub edits : Plan → Call → Edited → Type 0
   pub writes : Plan → List ℕ → List ℕ → Written → Type 0
   pub records : Plan → List ℕ → List ℕ → Written → Type 0
   pub quotes : Which → Plan → List ℕ → List ℕ → Quotation → Type 0
+  pub quotes-all : Plan → List ℕ → List ℕ → Quotations → Type 0
+  pub quotes-image : List ℕ → List ℕ → List ℕ → Quotations → Type 0
 
 -- it keeps what is published: the `ensures` of each public call of plan and quotation, none of which has a `requires`
 pub record Promises (c : Calculator) : Type 0 where
   pub freshes : {n : ℕ} {e : Edited} → c .freshes n e → Edit noPlan (freshRule n) e
+  pub helds : {octets : List ℕ} {e : Edited} → c .helds octets e → Edit noPlan (readImage octets) e
   pub edits : {p : Plan} {call : Call} {e : Edited} → c .edits p call e → Edit p (step (view p) call) e
   pub writes : {p : Plan} {before after : List ℕ} {w : Written} → c .writes p before after w
       → Write (image (view p)) (writeRule (view p) before) before after w
@@ -33,14 +43,19 @@ pub record Promises (c : Calculator) : Type 0 where
       → Write (recordOctets (view p)) (recordRule (view p) before) before after w
   pub quotes : {which : Which} {p : Plan} {before after : List ℕ} {q : Quotation} → c .quotes which p before after q
       → Quotes which (view p) before after q
+  pub quotes-all : {p : Plan} {before after : List ℕ} {q : Quotations} → c .quotes-all p before after q → QuotesAll (view p) before after q
+  pub quotes-image : {octets before after : List ℕ} {q : Quotations} → c .quotes-image octets before after q → QuotesHeld octets before after q
 
 -- it answers whatever it is given. (Of the code the check of each function says so, for all that a machine can hold.)
 pub record Answers (c : Calculator) : Type 0 where
   pub freshes : (n : ℕ) → (e : Edited) × c .freshes n e
+  pub helds : (octets : List ℕ) → (e : Edited) × c .helds octets e
   pub edits : (p : Plan) (call : Call) → (e : Edited) × c .edits p call e
   pub writes : (p : Plan) (before : List ℕ) → (after : List ℕ) × (w : Written) × c .writes p before after w
   pub records : (p : Plan) (before : List ℕ) → (after : List ℕ) × (w : Written) × c .records p before after w
   pub quotes : (which : Which) (p : Plan) (before : List ℕ) → (after : List ℕ) × (q : Quotation) × c .quotes which p before after q
+  pub quotes-all : (p : Plan) (before : List ℕ) → (after : List ℕ) × (q : Quotations) × c .quotes-all p before after q
+  pub quotes-image : (octets before : List ℕ) → (after : List ℕ) × (q : Quotations) × c .quotes-image octets before after q
 
 -- a list of calls, their answers and the plan value after it: "Each call is handed the plan that the one before it left"
 pub data Listed (c : Calculator) : Plan → List Call → List Answer → Plan → Type 0 where

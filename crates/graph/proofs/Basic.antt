@@ -4,7 +4,7 @@
 -- Costs are computed. A route or a walk that is claimed is written out; one that is denied is followed from its start
 -- until a condition on a state fails. Assumes nothing.
 use Prim.Native.Nat.{ℕ, zero, suc, _<_}
-use mathlib.Core.Path.{_≡_, refl, sym}
+use mathlib.Core.Path.{_≡_, refl, sym, _∙_}
 use mathlib.Core.Bool.{true≢false, false≢true}
 use mathlib.Core.Logic.{_⊎_, inl, inr}
 use mathlib.Core.List.{List, [], _∷_}
@@ -15,7 +15,7 @@ use Rattle.graph.specs.Graph.{Graph, Transition, count, start, final, co
 use Rattle.graph.specs.Walk.{Begins, Walk, Different, reached}
 use Rattle.graph.specs.Route.{Route, GoesOnForever, StrandedFrom, EndsUnanswered, Cost, total}
 use Rattle.graph.specs.Figure.{Figure, number, NONE, STRANDED, ENDLESS, NoStart, IsLeast, IsGreatest, Shown}
-use Rattle.graph.specs.Figure.{costFor}
+use Rattle.graph.specs.Figure.{costFor, kind, value}
 use Rattle.graph.specs.declared.Which.the-variants.{LeastDelay, GreatestDelay, LeastCount}
 use Rattle.graph.specs.Known.{join, P1, P3, P4, P6, P7, P8, P9, unreached-dead-end, reached-dead-end}
 use Rattle.graph.specs.Known.{plan, counted-ends}
@@ -173,6 +173,11 @@ pub not-twice : Shown (P4 .plan) (costFor LeastDelay (P4 .plan)) (number 1) (0 �
 unfolding from to
 not-twice (s, r, q, d, z) = d 0 1 (lit< tt) (lit< tt) (sym (r .1 .1 .source))
 
+-- "a route that attains the figure": P6's first transition has a low of 1, and so no delay of 3
+pub attains : Shown (P6 .plan) (costFor LeastDelay (P6 .plan)) (number 3) (0 ∷ []) 0 → ⊥
+unfolding low
+attains (s, r, q, d, z) = let e : _≡_ {A = ℕ} 1 3 = q in omega arith
+
 -- "no state twice": 0→0, 0→1, where 1 is a dead end
 pub not-twice-stranded : (c : Cost) → Shown (P9 .plan) c STRANDED (0 ∷ 1 ∷ []) 0 → ⊥
 unfolding from to
@@ -181,6 +186,11 @@ not-twice-stranded c (s, w, d, z) = d 0 1 (lit< tt) (lit< tt) (sym (w .1 .1 .sou
 -- "a place j below k"
 pub not-at-k : (c : Cost) → Shown (P4 .plan) c ENDLESS [] 0 → ⊥
 not-at-k c (s, w, l, q, d) = not-suc-le-zero l
+
+-- "the state after k transitions is the state after j": 0→1 does not come back
+pub comes-back : (c : Cost) → Shown (P9 .plan) c ENDLESS (1 ∷ []) 0 → ⊥
+unfolding from to
+comes-back c (s, w, l, q, d) = let e : _≡_ {A = ℕ} 1 0 = q ∙ sym (w .1 .1 .source) in omega arith
 
 -- "the first k states differ": 0→0, 0→0
 pub not-past-first : (c : Cost) → Shown (P4 .plan) c ENDLESS (0 ∷ 0 ∷ []) 0 → ⊥
@@ -197,3 +207,13 @@ only-endless g c (number k) ts j (s, r, q, d, z) = inr z
 only-endless g c STRANDED ts j (s, w, d, z) = inr z
 only-endless g c ENDLESS ts j w = inl refl
 only-endless g c NONE ts j (e, z) = inr z
+
+-- ---- the record
+
+-- "0 number, 1 NONE, 2 STRANDED, 3 ENDLESS"
+pub kinds : (kind (number 7) ≡ 0) × (kind NONE ≡ 1) × (kind STRANDED ≡ 2) × (kind ENDLESS ≡ 3)
+kinds = (refl, refl, refl, refl)
+
+-- "zero unless the kind is 0"
+pub zero-beside-a-kind : (value (number 7) ≡ 7) × (value NONE ≡ 0) × (value STRANDED ≡ 0) × (value ENDLESS ≡ 0)
+zero-beside-a-kind = (refl, refl, refl, refl)

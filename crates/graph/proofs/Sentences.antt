@@ -73,7 +73,8 @@ module _ (g : Graph) where
   pub shown-highs : (k : ℕ) (ts : List ℕ) (j : ℕ) → Shown g (highs g) (number k) ts j → delay (high g) ts ≡ k
   shown-highs k ts j (s, r, q, d, z) = sym (delay-is g (high g) s ts) ∙ q
 
-  -- .. or the number of counted states on it: "one that quotes a handover count which its walk lacks" shows no such walk
+  -- .. or the number of counted states on it, from the start where it is a route: "one that quotes a handover count which its
+  -- walk lacks" shows no such walk
   pub shown-count : (p : ℕ → Bool) (k : ℕ) (ts : List ℕ) (j : ℕ) → Shown g (counts g p) (number k) ts j
-      → (s : ℕ) × Begins g s × (number-on g p s ts ≡ k)
-  shown-count p k ts j (s, r, q, d, z) = (s, r .0, sym (count-is g p (Unfinished g) (Final g) s ts (r .1)) ∙ q)
+      → (s : ℕ) × Route g s ts × (number-on g p s ts ≡ k)
+  shown-count p k ts j (s, r, q, d, z) = (s, r, sym (count-is g p (Unfinished g) (Final g) s ts (r .1)) ∙ q)

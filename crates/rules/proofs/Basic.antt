@@ -1,25 +1,30 @@
 -- Facts that the definitions give at once; proof files are checked in the order of their names, so a wrong definition is refused here first.
--- The known octets are the image of their plan, and the known record is that plan's. Then the table on small calls in which more than one row
--- holds: the first one answers, by its number. Last, what callers cite of single calls.
+-- The known octets are the image of their plan, and the known record is that plan's. Then what each event does, on small plans; the table on small calls in
+-- which more than one row holds, where the first one answers, by its number; and what a promise rules out. Last, what callers cite of single calls.
 -- Assumes nothing.
 use mathlib.Core.Bool.{true, false}
-use mathlib.Core.List.{List, [], _∷_}
-use mathlib.Core.Path.{_≡_, refl}
+use mathlib.Core.List.{List, [], _∷_, map}
+use mathlib.Core.Path.{_≡_, refl, ap}
 use Prim.Native.Nat.{ℕ}
-use lib.Dec.{ltb}
-use lib.ListN.{length, replicate}
+use native.Mathlib.Omega.{arith}
+use lib.Dec.{ltb, lit<}
+use lib.ListN.{length, getD, replicate}
 use Rattle.field.specs.Field.{pack, octetsOf, bits, bitsOf, bitsOfAll, widthOfAll, number, fieldAt}
-use Rattle.graph.specs.Known.{P1, plan, join as to-join}
+use Rattle.graph.specs.declared.Which.the-variants.{LeastDelay}
+use Rattle.graph.specs.Figure.{Figure, NONE, costFor}
+use Rattle.graph.specs.Known.{P1, P3, P4, P6, plan, join as to-join}
 use Rattle.graph.specs.Which.{some}
 use Rattle.graph.specs.Compute.{any, figureFor}
-use Rattle.graph.specs.Graph.{Graph, states, marksOf, start, final, counted, transition, from, to, low, high}
+use Rattle.graph.specs.Graph.{Graph, Transition, states, marksOf, start, final, counted, transition, from, to, low, high}
 use Rattle.rules.specs.declared.Refusal.the-variants.{PlanLimits, StateCount, BufferLength}
-use Rattle.rules.specs.Calls.{Call, mark, join, unjoin, read, step, rowsOf}
+use Rattle.rules.specs.declared.Quotation.the-variants.{Refused}
+use Rattle.rules.specs.Calls.{Call, mark, join, unjoin, read, step, rowsOf, run, runFresh}
 use Rattle.rules.specs.Image.{image, imageFields, fieldsOfEach, headerRows, imageRows, readImage}
 use Rattle.rules.specs.Limits.{within, all, stateCountOk}
-use Rattle.rules.specs.Quotations.{recordOctets, recordFields, recordRows, tooLarge, quoteRows, quoteRule, recordRule}
+use Rattle.rules.specs.Quotations.{recordOctets, recordFields, recordRows, tooLarge, quoteRows, quoteRule, recordRule, allRows, heldRows, lentQuoteRows, lentHeldRows}
+use Rattle.rules.specs.Quotations.{Shows, Quotes, LeastQuoted}
 use Rattle.rules.specs.Refusal.{accepted, refused, code}
-use Rattle.rules.specs.Rules.{freshRows, writeRows, freshRule, freshGraph}
+use Rattle.rules.specs.Rules.{freshRows, writeRows, freshRule, writeRule, freshGraph, withMark, withTransition, without, written}
 use Rattle.rules.specs.Table.{first, byNumber}
 
 -- ---- P1 and the 28 octets of "Plans with known figures"
@@ -38,16 +43,78 @@ pub record-of-plan : recordOctets (P1 .plan) ≡ 0x00 ∷ 0x00 ∷ 0x1C ∷ 0x00
 unfolding recordOctets recordFields figureFor any marksOf start final counted transition from to low high pack octetsOf bitsOf bitsOfAll widthOfAll number
 record-of-plan = refl
 
+-- "a kind of 2 bits .. and a figure of 20 bits, zero unless the kind is 0": NONE, STRANDED, NONE, STRANDED; and 1, ENDLESS, 0, ENDLESS
+pub record-of-P3 : recordOctets (P3 .plan) ≡ 0x40 ∷ 0x00 ∷ 0x02 ∷ 0x00 ∷ 0x00 ∷ 0x04 ∷ 0x00 ∷ 0x00 ∷ 0x20 ∷ 0x00 ∷ 0x00 ∷ []
+unfolding recordOctets recordFields figureFor any marksOf start final counted transition from to low high pack octetsOf bitsOf bitsOfAll widthOfAll number
+record-of-P3 = refl
+
+pub record-of-P4 : recordOctets (P4 .plan) ≡ 0x00 ∷ 0x00 ∷ 0x07 ∷ 0x00 ∷ 0x00 ∷ 0x00 ∷ 0x00 ∷ 0x00 ∷ 0x30 ∷ 0x00 ∷ 0x00 ∷ []
+unfolding recordOctets recordFields figureFor any marksOf start final counted transition from to low high pack octetsOf bitsOf bitsOfAll widthOfAll number
+record-of-P4 = refl
+
+-- ---- the events
+
+abbrev one-way : Transition
+one-way = to-join 0 1 5 20
+
+abbrev back : Transition
+back = to-join 1 0 2 3
+
+-- "n states, all marks 0, no transitions"
+pub fresh-is : freshGraph 2 ≡ plan (0 ∷ 0 ∷ []) []
+fresh-is = refl
+
+-- "that state's value becomes it", and nothing else changes
+pub mark-is : withMark (plan (1 ∷ 2 ∷ 3 ∷ []) (one-way ∷ [])) 1 4 ≡ plan (1 ∷ 4 ∷ 3 ∷ []) (one-way ∷ [])
+mark-is = refl
+
+-- "the transition goes to the end of the list"
+pub join-is : withTransition (plan (4 ∷ 2 ∷ []) (one-way ∷ [])) back ≡ plan (4 ∷ 2 ∷ []) (one-way ∷ back ∷ [])
+join-is = refl
+
+-- "that transition goes, and later ones move down by one"
+pub unjoin-is : without (plan (4 ∷ 2 ∷ []) (one-way ∷ back ∷ one-way ∷ back ∷ [])) 1 ≡ plan (4 ∷ 2 ∷ []) (one-way ∷ one-way ∷ back ∷ [])
+unjoin-is = refl
+
+-- "after a refused call the same plan again": a mark, then one that is refused
+pub run-refused : runFresh 1 (mark 0 4 ∷ mark 0 8 ∷ []) .last ≡ plan (4 ∷ []) []
+unfolding run within all
+run-refused = refl
+
+-- "Each call is handed the plan that the one before it left": a transition that was joined can be taken out, once
+pub run-in-turn : map code (runFresh 2 (join one-way ∷ unjoin 0 ∷ unjoin 0 ∷ []) .answers) ≡ 256 ∷ 256 ∷ 10 ∷ []
+unfolding run within all
+run-in-turn = refl
+
+-- "and returns its length"
+pub write-length : writeRule (P1 .plan) (replicate 30 0) ≡ accepted 28
+unfolding writeRule within all
+write-length = refl
+
+-- "later octets stay"
+pub later-octets : written (1 ∷ 2 ∷ []) (7 ∷ 8 ∷ 9 ∷ []) (accepted 2) ≡ 1 ∷ 2 ∷ 9 ∷ []
+later-octets = refl
+
 -- ---- the table
 
 -- the number that a call's rows answer, on a plan of one state
 abbrev answer : Call → ℕ
 answer call = code (first (rowsOf (freshGraph 1) call))
 
--- "0 comes before the rest": a plan of no states
-pub limits-first : code (first (rowsOf (freshGraph 0) (mark 0 8))) ≡ 0
-unfolding within
-limits-first = refl
+-- "0 comes before the rest in every call": on a plan of no states, each in a call of which a later row holds too
+abbrev no-states : Graph
+no-states = freshGraph 0
+
+pub limits-first : (code (first (rowsOf no-states (mark 0 8))) ≡ 0) × (code (first (rowsOf no-states (join one-way))) ≡ 0)
+    × (code (first (rowsOf no-states (unjoin 0))) ≡ 0) × (code (first (rowsOf no-states (read []))) ≡ 0)
+    × (code (first (writeRows no-states [])) ≡ 0) × (code (first (recordRows no-states [])) ≡ 0)
+unfolding within imageRows headerRows
+limits-first = (refl, refl, refl, refl, refl, refl)
+
+-- and a quotation of a plan whose one state has a marks value of 8
+pub quote-limits-first : code (first (quoteRows (plan (8 ∷ []) []) [])) ≡ 0
+unfolding within all
+quote-limits-first = refl
 
 pub fresh-513 : (code (first (freshRows 0)) ≡ 4) × (code (first (freshRows 512)) ≡ 256) × (code (first (freshRows 513)) ≡ 4)
 fresh-513 = (refl, refl, refl)
@@ -62,13 +129,14 @@ pub join-7-8 : (answer (join (to-join 0 1 5 3)) ≡ 7) × (answer (join (to-join
 unfolding within all
 join-7-8 = (refl, refl, refl)
 
--- a full list, and a transition from no state; a full list alone
+-- a full list, and a transition from no state; a full list, and a low above its high; a full list alone
 abbrev full : Graph
 full = record { stateList = freshGraph 1 .stateList; transitions = replicate 2048 (to-join 0 0 1 1) }
 
-pub join-9 : (code (first (rowsOf full (join (to-join 1 0 1 1)))) ≡ 7) × (code (first (rowsOf full (join (to-join 0 0 1 1)))) ≡ 9)
+pub join-9 : (code (first (rowsOf full (join (to-join 1 0 1 1)))) ≡ 7) × (code (first (rowsOf full (join (to-join 0 0 5 3)))) ≡ 8)
+    × (code (first (rowsOf full (join (to-join 0 0 1 1)))) ≡ 9)
 unfolding within all
-join-9 = (refl, refl)
+join-9 = (refl, refl, refl)
 
 pub unjoin-10 : answer (unjoin 0) ≡ 10
 unfolding within all
@@ -135,6 +203,42 @@ quote-3 = (refl, refl)
 pub record-10 : (code (first (recordRows (P1 .plan) (replicate 10 0))) ≡ 11) × (code (first (recordRows (P1 .plan) (replicate 11 0))) ≡ 256)
 unfolding within all figureFor any marksOf start final counted transition from to low high
 record-10 = (refl, refl)
+
+-- the answer's places, after the walk's: one too few, just enough, and 0 before both
+pub lent-quote-3 : (code (first (lentQuoteRows (P1 .plan) (replicate 4 0) (replicate 3 0))) ≡ 11)
+    × (code (first (lentQuoteRows (P1 .plan) (replicate 4 0) (replicate 4 0))) ≡ 256) × (code (first (lentQuoteRows (freshGraph 0) [] [])) ≡ 0)
+unfolding within all
+lent-quote-3 = (refl, refl, refl)
+
+-- all four, of a plan and of an image: too few places for the walks, and the plan's or the image's ground before that
+pub all-few : (code (first (allRows (P1 .plan) (replicate 4 0))) ≡ 11) × (code (first (allRows (freshGraph 0) [])) ≡ 0)
+unfolding within all
+all-few = (refl, refl)
+
+pub held-few : (code (first (heldRows octets (replicate 4 0))) ≡ 11) × (code (first (heldRows (0x10 ∷ 0x10 ∷ 0x01 ∷ []) [])) ≡ 1)
+unfolding within all imageRows headerRows byNumber octets fieldAt bits bitsOf number
+held-few = (refl, refl)
+
+pub lent-held-few : (code (first (lentHeldRows octets (replicate 2048 0) (replicate 15 0))) ≡ 11) × (code (first (lentHeldRows octets (replicate 2048 0) (replicate 16 0))) ≡ 256)
+    × (code (first (lentHeldRows (0x10 ∷ 0x10 ∷ 0x01 ∷ []) [] [])) ≡ 1)
+unfolding within all imageRows headerRows byNumber octets fieldAt bits bitsOf number
+lent-held-few = (refl, refl, refl)
+
+-- ---- what the promises rule out
+
+-- "later places stay": a walk of one transition, and the second place touched
+pub touched : (f : Figure) (j : ℕ) → Shows (P6 .plan) (costFor LeastDelay (P6 .plan)) f 1 j (9 ∷ 9 ∷ []) (0 ∷ 8 ∷ []) → ⊥
+touched f j x = let e : _≡_ {A = ℕ} 8 9 = ap (λ (l : List ℕ). getD l 0 0) (x .later) in omega arith
+
+-- "a refusal changes neither the plan nor any lent buffer": a quotation with too few places, and one of them touched
+pub refused-and-touched : Quotes LeastDelay (P1 .plan) (9 ∷ []) (8 ∷ []) (Refused BufferLength) → ⊥
+unfolding quoteRule within all
+refused-and-touched x = let e : _≡_ {A = ℕ} 8 9 = ap (λ (l : List ℕ). getD l 0 0) (x .kept BufferLength refl) in omega arith
+
+-- "NONE exactly when no start leads to an answer": P6's first transition is a route
+pub none-with-a-route : (k j : ℕ) (before after : List ℕ) → LeastQuoted (P6 .plan) (costFor LeastDelay (P6 .plan)) NONE k j before after → ⊥
+unfolding start final from to
+none-with-a-route k j before after x = x .none .0 refl 0 (0 ∷ []) (refl, (refl, record { listed = lit< tt; source = refl }, refl))
 
 -- ---- single calls
 

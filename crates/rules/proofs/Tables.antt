@@ -53,6 +53,12 @@ module _ {A : Type 0} where
   after-refused ((s, true) ∷ xs) ys a r e = let p : s ≡ r = cc in rw p
   after-refused ((s, false) ∷ xs) ys a r e = after-refused xs ys a r e
 
+-- rows after the same rows: what answers there decides
+pub tail-decides : (xs ys zs : List Row) → (NoneHolds xs → first ys ≡ first zs) → first (xs ++ ys) ≡ first (xs ++ zs)
+tail-decides [] ys zs h = h tt
+tail-decides ((s, true) ∷ xs) ys zs h = refl
+tail-decides ((s, false) ∷ xs) ys zs h = tail-decides xs ys zs (λ n. h (refl, n))
+
 pub none-append : (xs ys : List Row) → NoneHolds (xs ++ ys) → NoneHolds xs × NoneHolds ys
 none-append [] ys h = (tt, h)
 none-append ((s, b) ∷ xs) ys h = let (p, q) = none-append xs ys (h .1) in ((h .0, p), q)

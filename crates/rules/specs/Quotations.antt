@@ -1,10 +1,10 @@
 -- The quotations and the record: their rules, and what an accepted quotation says. Document 01, "Routes and figures", from "Least delay" on, "The
 -- quotation record", and rows 0, 11 and 13 of the table. Assumes nothing.
 use mathlib.Core.Bool.{Bool}
-use mathlib.Core.List.{List, [], _∷_}
+use mathlib.Core.List.{List, [], _∷_, _++_}
 use mathlib.Core.Logic.{_↔_}
 use mathlib.Core.Path.{_≡_}
-use Prim.Native.Nat.{ℕ, _*_, _≤_, _<_}
+use Prim.Native.Nat.{ℕ, _*_, _≤_}
 use lib.Dec.{ltb}
 use lib.ListN.{length, take, drop}
 use Rattle.graph.specs.Graph.{Graph, states}
@@ -23,8 +23,8 @@ use Rattle.rules.specs.declared.Quotation.the-variants.{Quoted, Refused}
 use Rattle.rules.specs.declared.FourQuotes.{FourQuotes}
 use Rattle.rules.specs.declared.Quotations.{Quotations}
 use Rattle.rules.specs.declared.Quotations.the-variants.{Quoted as AllQuoted, Refused as NoneQuoted}
-use Rattle.rules.specs.declared.Refusal.the-variants.{BufferLength, FigureSize}
-use Rattle.rules.specs.Image.{field, readImage}
+use Rattle.rules.specs.declared.Refusal.the-variants.{FigureSize}
+use Rattle.rules.specs.Image.{field, graphIn, imageRows}
 use Rattle.rules.specs.declared.Refusal.{Refusal}
 use Rattle.rules.specs.declared.Written.{Written}
 use Rattle.rules.specs.Refusal.{Result, accepted, refused, wrote}
@@ -58,13 +58,6 @@ quoteRows g places = limitRow g ∷ bufferRow places (states g) ∷ []
 unfoldable pub quoteRule : Graph → List ℕ → Result (Unit {0})
 quoteRule g places = first (quoteRows g places)
 
--- all four quotations, lent places for four walks, 512 each: 0, then 11 for fewer than 2,048
-abbrev pub allRows : Graph → List ℕ → List Row
-allRows g places = limitRow g ∷ bufferRow places 2048 ∷ []
-
-unfoldable pub allRule : Graph → List ℕ → Result (Unit {0})
-allRule g places = first (allRows g places)
-
 -- "a kind of 2 bits (0 number, 1 NONE, 2 STRANDED, 3 ENDLESS) and a figure of 20 bits, zero unless the kind is 0"
 abbrev pub figureFields : Figure → List Field
 figureFields f = field 2 (kind f) ∷ field 20 (value f) ∷ []
@@ -88,6 +81,41 @@ recordRows g buffer = limitRow g ∷ bufferRow buffer 11 ∷ (FigureSize, some (
 unfoldable pub recordRule : Graph → List ℕ → Result ℕ
 recordRule g buffer = byTable (recordRows g buffer) 11
 
+-- ---- calls of our own, which 01 does not name
+
+-- All four quotations at once, of a plan or of the plan that an image holds; and the forms of the quotations for other languages, which are lent places
+-- for the answer's numbers beside those for the walk. How many places they need is ours to say: the walks stand 512 apart whatever the plan is, so
+-- that a caller knows where each is before an image is read, and a figure has four numbers. Too few are 11, as too few for a walk are; an image's own
+-- refusals stand in the place of 0 where there is no plan yet.
+
+-- all four, of a plan: 0, then 11 for fewer than 2,048 places
+abbrev pub allRows : Graph → List ℕ → List Row
+allRows g walks = limitRow g ∷ bufferRow walks 2048 ∷ []
+
+unfoldable pub allRule : Graph → List ℕ → Result (Unit {0})
+allRule g walks = first (allRows g walks)
+
+-- all four, of an image: its own rows, then 11
+abbrev pub heldRows : List ℕ → List ℕ → List Row
+heldRows image walks = imageRows image ++ (bufferRow walks 2048 ∷ [])
+
+unfoldable pub heldRule : List ℕ → List ℕ → Result (Unit {0})
+heldRule image walks = first (heldRows image walks)
+
+-- a quotation for other languages: 0, then 11 for the walk's places, and for fewer than 4 of the answer
+abbrev pub lentQuoteRows : Graph → List ℕ → List ℕ → List Row
+lentQuoteRows g walk out = limitRow g ∷ bufferRow walk (states g) ∷ bufferRow out 4 ∷ []
+
+unfoldable pub lentQuoteRule : Graph → List ℕ → List ℕ → Result (Unit {0})
+lentQuoteRule g walk out = first (lentQuoteRows g walk out)
+
+-- all four of an image for other languages: its own rows, then 11 for the walks' places, and for fewer than 16 of the answer
+abbrev pub lentHeldRows : List ℕ → List ℕ → List ℕ → List Row
+lentHeldRows image walks out = imageRows image ++ (bufferRow walks 2048 ∷ bufferRow out 16 ∷ [])
+
+unfoldable pub lentHeldRule : List ℕ → List ℕ → List ℕ → Result (Unit {0})
+lentHeldRule image walks out = first (lentHeldRows image walks out)
+
 -- ---- what an accepted quotation says
 
 -- the figure f, with a walk of k transitions at the front of the lent places, and j: a field for each sentence
@@ -107,12 +135,16 @@ module _ (g : Graph) (c : Cost) (f : Figure) (k j : ℕ) (before after : List �
   abbrev pub Costs : ℕ → Type 0
   Costs x = (s : ℕ) × Route g s (take k after) × (total g c s (take k after) ≡ x)
 
-  -- "the smallest .. over all routes; NONE if there is no route"
+  -- "the smallest .. over all routes; NONE if there is no route". (3) marks sentences of the third demand
   pub record LeastQuoted : Type 0 where
     pub figure : f ≡ least g c
+    -- (3) "A figure that is a number equals the delay or count of the route shown."
     pub costs : (x : ℕ) → f ≡ number x → Costs x
+    -- (3) "Every other route of that plan has at least as much if the figure is a least one,
     pub smallest : (x : ℕ) → f ≡ number x → (s : ℕ) (ts : List ℕ) → Route g s ts → x ≤ total g c s ts
+    -- (3) "A least figure is NONE exactly when no start leads to an answer,
     pub none : (f ≡ NONE) ↔ ((s : ℕ) (ts : List ℕ) → Route g s ts → ⊥)
+    -- (3) "A least figure is neither": neither ENDLESS nor STRANDED
     pub not-stranded : f ≡ STRANDED → ⊥
     pub not-endless : f ≡ ENDLESS → ⊥
     pub shows : Shows
@@ -121,11 +153,17 @@ module _ (g : Graph) (c : Cost) (f : Figure) (k j : ℕ) (before after : List �
   -- states ends in a dead end; else the largest .. over all routes"
   pub record GreatestQuoted : Type 0 where
     pub figure : f ≡ greatest g c
+    -- (3) a greatest one exactly when there is no start."
     pub none : (f ≡ NONE) ↔ NoStart g
+    -- (3) "A greatest figure is ENDLESS exactly when a telephone call can go on forever unanswered,
     pub endless : (f ≡ ENDLESS) ↔ GoesOnForever g
+    -- (3) and STRANDED exactly when none can but one can end unanswered;
     pub stranded : (f ≡ STRANDED) ↔ ((GoesOnForever g → ⊥) × EndsUnanswered g)
+    -- (3) "A figure that is a number equals the delay or count of the route shown."
     pub costs : (x : ℕ) → f ≡ number x → Costs x
+    -- (3) and at most as much if it is a greatest one."
     pub largest : (x : ℕ) → f ≡ number x → (s : ℕ) (ts : List ℕ) → Route g s ts → total g c s ts ≤ x
+    -- (3) the walk shown is as document 01 asks for that kind."
     pub shows : Shows
 
 -- ---- what each quotation promises
@@ -179,12 +217,11 @@ pub record QuotesAll (g : Graph) (before after : List ℕ) (r : Quotations) : Ty
   pub kept : (k : Refusal) → allRule g before ≡ refused k → after ≡ before
   pub quoted : (q : FourQuotes) → r ≡ AllQuoted q → AllStated g q before after
 
--- a quotation of all four figures of the plan that an image holds: the image's refusals, then 11 for fewer than 2,048 places, each of which leaves every
--- lent place; and otherwise the four hold of that plan
+-- a quotation of all four figures of the plan that an image holds: the same, by the rule of images, of the plan that the octets hold
 pub record QuotesHeld (image before after : List ℕ) (r : Quotations) : Type 0 where
-  pub refusal : (k : Refusal) → readImage image ≡ refused k → (r ≡ NoneQuoted k) × (after ≡ before)
-  pub short : (g : Graph) → readImage image ≡ accepted g → length before < 2048 → (r ≡ NoneQuoted BufferLength) × (after ≡ before)
-  pub quoted : (g : Graph) → readImage image ≡ accepted g → 2048 ≤ length before → (q : FourQuotes) × (r ≡ AllQuoted q) × AllStated g q before after
+  pub answer : saidQuotations r ≡ heldRule image before
+  pub kept : (k : Refusal) → heldRule image before ≡ refused k → after ≡ before
+  pub quoted : (q : FourQuotes) → r ≡ AllQuoted q → AllStated (graphIn image) q before after
 
 -- ---- calls that fill a lent buffer
 

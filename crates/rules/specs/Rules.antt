@@ -1,6 +1,6 @@
 -- The rules of each call on a plan: what it does, and its rows of the table. Document 01, "Each event on the plan", the table of refused calls and
 -- the order under it. Assumes nothing.
-use mathlib.Core.Bool.{not}
+use mathlib.Core.Bool.{Bool, not}
 use mathlib.Core.List.{List, [], _∷_, _++_}
 use Prim.Native.Nat.{ℕ, suc}
 use lib.Dec.{leb, ltb}
@@ -33,9 +33,12 @@ without g number = record { stateList = g .stateList; transitions = take number 
 
 -- ---- the rows of each call
 
--- "any call given a plan": "the plan value breaks a limit of a plan". "0 comes before the rest in every call."
+-- "any call given a plan": "the plan value breaks a limit of a plan", by whether it is within them. "0 comes before the rest in every call."
+abbrev pub limitsRow : Bool → Row
+limitsRow limited = (PlanLimits, not limited)
+
 abbrev pub limitRow : Graph → Row
-limitRow g = (PlanLimits, not (within g))
+limitRow g = limitsRow (within g)
 
 -- "lent buffer below the image's length, 11 octets, n places"
 abbrev pub bufferRow : List ℕ → ℕ → Row
@@ -48,17 +51,26 @@ freshRows n = (StateCount, not (stateCountOk n)) ∷ []
 unfoldable pub freshRule : ℕ → Result Graph
 freshRule n = byTable (freshRows n) (freshGraph n)
 
--- "In mark: 7, 12"
+-- "In mark: 7, 12", of n states
+abbrev pub markGrounds : ℕ → ℕ → ℕ → List Row
+markGrounds n state value = (StateNumber, leb n state) ∷ (MarksValue, not (marksOk value)) ∷ []
+
 abbrev pub markRows : Graph → ℕ → ℕ → List Row
-markRows g state value = limitRow g ∷ (StateNumber, leb (states g) state) ∷ (MarksValue, not (marksOk value)) ∷ []
+markRows g state value = limitRow g ∷ markGrounds (states g) state value
 
--- "In join: 7, 8, 9"
+-- "In join: 7, 8, 9", of n states and m transitions
+abbrev pub joinGrounds : ℕ → ℕ → Transition → List Row
+joinGrounds n m t = transitionRows n t ++ ((ListFull, leb 2048 m) ∷ [])
+
 abbrev pub joinRows : Graph → Transition → List Row
-joinRows g t = limitRow g ∷ transitionRows (states g) t ++ ((ListFull, leb 2048 (count g)) ∷ [])
+joinRows g t = limitRow g ∷ joinGrounds (states g) (count g) t
 
--- "unjoin, given a number": 10
+-- "unjoin, given a number": 10, of m transitions
+abbrev pub unjoinGrounds : ℕ → ℕ → List Row
+unjoinGrounds m number = (TransitionNumber, leb m number) ∷ []
+
 abbrev pub unjoinRows : Graph → ℕ → List Row
-unjoinRows g number = limitRow g ∷ (TransitionNumber, leb (count g) number) ∷ []
+unjoinRows g number = limitRow g ∷ unjoinGrounds (count g) number
 
 -- "read, given octets": 0 ("the old one"), then the image's own
 abbrev pub readRows : Graph → List ℕ → List Row
