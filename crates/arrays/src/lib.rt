@@ -1,6 +1,5 @@
-// The arrays that hold a plan's marks and transitions: their limits, and places moved down. A plan value is two counts and these arrays.
+// The arrays that hold a plan's marks and transitions: their limits. A plan value is two counts and these arrays.
 pub mod limits;
-pub mod places;
 
 // A marks value has these for start and for final, and 1 for counted.
 pub const START: u8 = 4;

@@ -10,7 +10,6 @@ ghost use Rattle.graph.specs.Route.{one};
 ghost use Rattle.costs.specs.Arrays.{Filled, delayWeight, countWeight, countClose, noWeight, noClose};
 ghost use Rattle.costs.specs.Scaled.{scale as scaleOf};
 use arrays::limits::wide;
-use search::Weights;
 
 // What a least figure's costs are multiplied by.
 pub const SCALE: u32 = 1024;
@@ -22,18 +21,8 @@ fn counted(marks: u8) -> u32
     if search::is_counted(marks) { 1 } else { 0 }
 }
 
-// No weights: each is zero.
-fn none() -> Weights
-    ensures { λ r. ⌜ (r .weight ≡ noWeight) × (r .close ≡ noClose) ⌝ }
-{
-    Weights {
-        weight: [0u32; 2048],
-        close: [0u32; 512],
-    }
-}
-
 // Fills the weights of the first m transitions from their durations, lows or highs.
-fn fill_durations(
+pub fn fill_durations(
     durations: &[u16; 2048],
     m: usize,
     scale: u32,
@@ -51,7 +40,7 @@ fn fill_durations(
 }
 
 // Fills the weights of the first m transitions from the marks of the states that they leave.
-fn fill_leaving(
+pub fn fill_leaving(
     marks: &[u8; 512],
     from: &[u16; 2048],
     m: usize,
@@ -71,7 +60,7 @@ fn fill_leaving(
 }
 
 // Fills the closes of the first n states from their marks.
-fn fill_closes(marks: &[u8; 512], n: usize, scale: u32, close: &mut [u32; 512])
+pub fn fill_closes(marks: &[u8; 512], n: usize, scale: u32, close: &mut [u32; 512])
     requires { ⌜ (n ≤ 512) × (scale ≤ scaleOf) × (now close ≡ noClose) ⌝ }
     ensures { λ r. ⌜ Filled n (countClose scale (now (marks .entry))) (now (close .exit)) ⌝ }
 {
@@ -80,33 +69,4 @@ fn fill_closes(marks: &[u8; 512], n: usize, scale: u32, close: &mut [u32; 512])
         close[s] = scale * counted(marks[s]);
         s += 1;
     }
-}
-
-// The weights of a delay: the durations of the first m transitions, and no closes.
-pub fn delays(durations: &[u16; 2048], m: usize, scale: u32, extra: u32) -> Weights
-    requires { ⌜ (m ≤ 2048) × (scale ≤ scaleOf) × (extra ≤ 1) × ((t : ℕ) → t < m → getD (now durations) t 0 ≤ 2047) ⌝ }
-    ensures { λ r. ⌜ Filled m (delayWeight scale extra (now (durations .entry))) (r .weight) × (r .close ≡ noClose) ⌝ }
-{
-    let mut weights = none();
-    fill_durations(durations, m, scale, extra, &mut weights.weight);
-    weights
-}
-
-// The weights of a count: the marks of the states that the first m transitions leave, and those of the n states for the last one.
-pub fn counts<'a>(
-    marks: &'a [u8; 512],
-    from: &'a [u16; 2048],
-    n: usize,
-    m: usize,
-    scale: u32,
-    extra: u32,
-) -> Weights
-    requires { ⌜ (n ≤ 512) × (m ≤ 2048) × (scale ≤ scaleOf) × (extra ≤ 1) × ((t : ℕ) → t < m → getD (now from) t 0 < 512) ⌝ }
-    ensures { λ r. ⌜ Filled m (countWeight scale extra (now (marks .entry)) (now (from .entry))) (r .weight)
-        × Filled n (countClose scale (now (marks .entry))) (r .close) ⌝ }
-{
-    let mut weights = none();
-    fill_leaving(marks, from, m, scale, extra, &mut weights.weight);
-    fill_closes(marks, n, scale, &mut weights.close);
-    weights
 }

@@ -19,15 +19,14 @@ use Rattle.graph.specs.Graph.{Closed, states, counted, countedMark, from}
 use Rattle.graph.specs.Route.{counts, one}
 use Rattle.graph.specs.Which.{isLeast}
 use Rattle.graph.proofs.Cost.{one-le}
-use Rattle.least_search.specs.Keys.{Weighed}
+use Rattle.keys.specs.Keys.{Weighed}
 use Rattle.plan.specs.declared.Plan.{Plan}
 use Rattle.plan.specs.View.{view}
 use Rattle.plan.proofs.Values.{states-view, count-view}
 use Rattle.rules.specs.Limits.{within}
 use Rattle.rules.specs.Quotations.{says}
-use Rattle.search.specs.declared.Weights.{Weights}
 use Rattle.search.specs.Quoted.{Quoted}
-use Rattle.search.specs.Weights.{costIn}
+use Rattle.search.specs.Weights.{Weights, costIn}
 use Rattle.search.proofs.Held.{held-closed}
 use Rattle.figures.specs.Figures.{extraFor, WeighsAs, Weighs}
 use Rattle.figures.proofs.Held.{marks-view, from-view, stands, bounded-in}

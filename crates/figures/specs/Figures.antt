@@ -8,11 +8,10 @@ use Rattle.graph.specs.Route.{Cost}
 use Rattle.costs.specs.Scaled.{Scaled, scale}
 use Rattle.plan.specs.declared.Plan.{Plan}
 use Rattle.plan.specs.View.{view}
-use Rattle.search.specs.declared.Weights.{Weights}
 use Rattle.search.specs.declared.chain.Chain.{Chain}
 use Rattle.search.specs.Arrays.{Arrays, arrays, at}
 use Rattle.search.specs.Chain.{Chains}
-use Rattle.search.specs.Weights.{costIn, Light}
+use Rattle.search.specs.Weights.{Weights, costIn, Light}
 
 -- a least figure is searched over the scaled costs and 1 more a transition, a greatest one over the costs themselves
 abbrev pub timesFor : Which → ℕ

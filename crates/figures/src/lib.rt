@@ -4,6 +4,7 @@ ghost use mathlib.Core.List.{List};
 ghost use mathlib.Core.Path.{_≡_};
 ghost use Prim.Native.Nat.{ℕ, _≤_};
 ghost use lib.ListN.{length};
+ghost use Rattle.costs.specs.Arrays.{noWeight, noClose};
 ghost use Rattle.costs.specs.Scaled.{divided};
 ghost use Rattle.graph.specs.Which.{isLeast};
 ghost use Rattle.plan.specs.View.{view};
@@ -12,13 +13,12 @@ ghost use Rattle.rules.specs.Limits.{within};
 ghost use Rattle.rules.specs.Quotations.{meant, says, Stated};
 ghost use Rattle.search.specs.Arrays.{arrays};
 ghost use Rattle.search.specs.Chain.{Chains};
+ghost use Rattle.search.specs.Weights.{weightsOf};
 ghost use Rattle.figures.specs.Figures.{planOf, Weighs};
 use graph::Which;
 use reach::Searched;
 use rules::Figure;
 use rules::Quote;
-use search::Weights;
-use search::chain::Chain;
 use search::chain::Ways;
 
 // A figure with its number divided by the scale: what a search over scaled weights found.
@@ -33,8 +33,9 @@ fn divide(figure: Figure) -> Figure
     }
 }
 
-// The weights of a figure of the plan in the arrays.
-fn weights<'a>(
+// Fills the weights and the closes of a figure of the plan in the arrays. Nine arguments: the arrays are lent one by one, and weights by value would be
+// copied.
+fn weigh<'a>(
     which: Which,
     n: usize,
     m: usize,
@@ -42,16 +43,26 @@ fn weights<'a>(
     from: &'a [u16; 2048],
     low: &'a [u16; 2048],
     high: &'a [u16; 2048],
-) -> Weights
+    weight: &mut [u32; 2048],
+    close: &mut [u32; 512],
+)
     requires { ⌜ ((to : List ℕ) × (within (view (planOf n m (now marks) (now from) to (now low) (now high))) ≡ true)) ⌝ }
+    requires { ⌜ (now weight ≡ noWeight) × (now close ≡ noClose) ⌝ }
     ensures { λ r. ⌜ ((to : List ℕ) → within (view (planOf n m (now (marks .entry)) (now (from .entry)) to (now (low .entry)) (now (high .entry)))) ≡ true
-        → Weighs which (planOf n m (now (marks .entry)) (now (from .entry)) to (now (low .entry)) (now (high .entry))) r) ⌝ }
+        → Weighs which (planOf n m (now (marks .entry)) (now (from .entry)) to (now (low .entry)) (now (high .entry)))
+        (weightsOf (now (weight .exit)) (now (close .exit)))) ⌝ }
 {
     match which {
-        Which::LeastDelay => costs::delays(low, m, costs::SCALE, 1),
-        Which::GreatestDelay => costs::delays(high, m, 1, 0),
-        Which::LeastCount => costs::counts(marks, from, n, m, costs::SCALE, 1),
-        Which::GreatestCount => costs::counts(marks, from, n, m, 1, 0),
+        Which::LeastDelay => costs::fill_durations(low, m, costs::SCALE, 1, weight),
+        Which::GreatestDelay => costs::fill_durations(high, m, 1, 0, weight),
+        Which::LeastCount => {
+            costs::fill_leaving(marks, from, m, costs::SCALE, 1, weight);
+            costs::fill_closes(marks, n, costs::SCALE, close)
+        }
+        Which::GreatestCount => {
+            costs::fill_leaving(marks, from, m, 1, 0, weight);
+            costs::fill_closes(marks, n, 1, close)
+        }
     }
 }
 
@@ -74,8 +85,10 @@ pub fn least<'a>(
         (says which (view (planOf n m (now (marks .entry)) (now (from .entry)) (now (to .entry)) (now (low .entry)) (now (high .entry)))))
         r (now (walk .entry)) (now (walk .exit)) ⌝ }
 {
-    let weights = weights(which, n, m, marks, from, low, high);
-    let found = least_search::least(n, m, marks, from, to, ways, weights, walk);
+    let mut weight = [0u32; 2048];
+    let mut close = [0u32; 512];
+    weigh(which, n, m, marks, from, low, high, &mut weight, &mut close);
+    let found = least_search::least(n, m, marks, from, to, ways, &weight, &close, walk);
     let figure = found.figure;
     Quote {
         figure: divide(figure),
@@ -94,17 +107,20 @@ pub fn greatest<'a>(
     to: &'a [u16; 2048],
     low: &'a [u16; 2048],
     high: &'a [u16; 2048],
-    out: Chain,
+    ways: Ways,
     reached: Searched,
     walk: &mut [u16],
 ) -> Quote
     requires { ⌜ (isLeast which ≡ false) × (within (view (planOf n m (now marks) (now from) (now to) (now low) (now high))) ≡ true)
-        × (n ≤ length (now walk)) × Chains (now from) m (out .head) (out .link)
+        × (n ≤ length (now walk)) × Chains (now from) m (ways .out .head) (ways .out .link)
         × Reached (arrays n m (now marks) (now from) (now to)) (tableOf reached) (reached .found) ⌝ }
     ensures { λ r. ⌜ Stated
         (says which (view (planOf n m (now (marks .entry)) (now (from .entry)) (now (to .entry)) (now (low .entry)) (now (high .entry)))))
         r (now (walk .entry)) (now (walk .exit)) ⌝ }
 {
-    let weights = weights(which, n, m, marks, from, low, high);
-    greatest_search::greatest(n, marks, from, to, out, reached, weights, walk)
+    let mut weight = [0u32; 2048];
+    let mut close = [0u32; 512];
+    weigh(which, n, m, marks, from, low, high, &mut weight, &mut close);
+    let out = ways.out;
+    greatest_search::greatest(n, marks, from, to, out, reached, &weight, close, walk)
 }

@@ -27,14 +27,16 @@ use Rattle.graph.proofs.Repeat.{nth, Apart}
 use Rattle.search.specs.Arrays.{Arrays, at, StartIn, FinalIn, UnfinishedIn, Leaves, Bounded, StandsIn}
 use Rattle.search.specs.Chain.{none}
 use Rattle.arrays.specs.Tables.{costOf}
-use Rattle.reach.specs.Explored.{Table, Loop, Ranked, Rooted, NoDeadEnd, DeadEndAt}
+use Rattle.turns.specs.Search.{Table, Loop, Rooted}
+use Rattle.hunt.specs.Hunted.{NoDeadEnd, DeadEndAt}
+use Rattle.reach.specs.Explored.{Ranked}
 use Rattle.search.specs.Sizes.{heaviest}
 use Rattle.search.specs.Quoted.{Quoted}
 use Rattle.search.specs.Route.{Accounts, along, Steps, Leading, Readable, Traced}
-use Rattle.reach.specs.Tree.{Rising, up, Climbable, Climbs, Climbed}
+use Rattle.tree.specs.Tree.{Rising, up, Climbable, Climbs, Climbed}
 use Rattle.greatest_search.specs.Values.{Fillable, Over, Ordered, Valued, Farthest}
 use Rattle.reach.proofs.Hunting.{onward-lower}
-use Rattle.reach.proofs.Climbing.{climbed-along, climbed-steps}
+use Rattle.tree.proofs.Climbing.{climbed-along, climbed-steps}
 use Rattle.search.proofs.Held.{held-final, held-start, begins-in, final-in, departs, leaves, dead-end, leads, held-walk, held-arrival}
 use Rattle.search.proofs.Held.{held-different}
 

@@ -8,7 +8,9 @@ use Rattle.search.specs.Arrays.{Arrays, at, StartIn, FinalIn, UnfinishedIn, Lea
 use Rattle.search.specs.Chain.{Linked}
 use Rattle.search.specs.Sizes.{heaviest}
 use Rattle.search.specs.Route.{Accounts}
-use Rattle.reach.specs.Explored.{Table, Ranked, NoDeadEnd}
+use Rattle.turns.specs.Search.{Table}
+use Rattle.hunt.specs.Hunted.{NoDeadEnd}
+use Rattle.reach.specs.Explored.{Ranked}
 
 -- r is the greatest that a transition out of s weighs with the value behind it; 0 where none leaves s
 pub record Largest (A : Arrays) (to weight value : List ℕ) (s r : ℕ) : Type 0 where

@@ -6,13 +6,12 @@ use Prim.Native.Nat.{ℕ, _*_, _≤_}
 use lib.ListN.{length}
 use Rattle.rules.specs.declared.Answer.{Answer}
 use Rattle.rules.specs.declared.Answer.the-variants.{Accepted, Refused}
-use Rattle.rules.specs.Image.{tabulate, stateCountOf, transitionCountOf, stateAt, statePlace, transitionAt, transitionPlace}
-use Rattle.rules.specs.Image.{headerRows, stateRows, transitionRows, readImage}
+use Rattle.rules.specs.Image.{tabulate, stateAt, statePlace, transitionAt, transitionPlace}
+use Rattle.rules.specs.Image.{stateRows, transitionRows, readImage}
 use Rattle.rules.specs.Refusal.{Result, accepted, refused, said}
 use Rattle.rules.specs.Table.{first, byNumber}
 use Rattle.arrays.specs.Tables.{statesOf, transitionsOf, graphOf, Later}
 use Rattle.image.specs.declared.reading.Filled.{Filled}
-use Rattle.image.specs.declared.reading.Heading.{Heading}
 
 -- the four fields of transitions, in arrays
 pub record Fields : Type 0 where
@@ -30,14 +29,6 @@ pub record LaterFields (m : ℕ) (before after : Fields) : Type 0 where
   pub to : Later m (before .to) (after .to)
   pub low : Later m (before .low) (after .low)
   pub high : Later m (before .high) (after .high)
-
--- "version, 4 bits, the value 1; state count, 10 bits; transition count, 12 bits; pad, 6 bits": the position is past them, where there are so many
-pub record HeaderRead (os : List ℕ) (at : ℕ) (r : Heading) : Type 0 where
-  pub answer : said (r .answer) ≡ first (headerRows os)
-  pub states : r .answer ≡ Accepted → r .states ≡ stateCountOf os
-  pub transitions : r .answer ≡ Accepted → r .transitions ≡ transitionCountOf os
-  pub all : r .answer ≡ Accepted → at ≡ 32
-  pub most : at ≤ 8 * length os
 
 -- "then states by number, 6"
 pub record StatesRead (os : List ℕ) (n : ℕ) (before after : List ℕ) (at : ℕ) (r : Answer) : Type 0 where

@@ -2,15 +2,11 @@
 ghost use mathlib.Core.Path.{_≡_};
 ghost use Prim.Native.Nat.{_+_, _*_, _≤_, _<_, _^_};
 ghost use lib.ListN.{length};
-ghost use Rattle.field.specs.Field.{fourAt};
-ghost use Rattle.rules.specs.Image.{headerRows, transitionAt};
-ghost use Rattle.rules.specs.Refusal.{said};
+ghost use Rattle.rules.specs.Image.{transitionAt};
 ghost use Rattle.rules.specs.Table.{first};
-ghost use Rattle.image.specs.Read.{HeaderRead, StatesRead, TransitionsRead, Fills, fields};
+ghost use Rattle.image.specs.Read.{StatesRead, TransitionsRead, Fills, fields};
 ghost use Rattle.image.specs.Values.{meant};
 use crate::Transition;
-use crate::reader;
-use crate::size;
 use arrays::FINAL;
 use arrays::START;
 use arrays::limits;
@@ -18,70 +14,12 @@ use field::Four;
 use rules::Answer;
 use rules::Refusal;
 
-// What a header says: whether the image is refused by it, and the two counts.
-pub struct Heading {
-    pub answer: Answer,
-    pub states: usize,
-    pub transitions: usize,
-}
-
 // What came of an image: the answer, the counts of the states and transitions in the arrays, and how many bits were taken.
 pub struct Filled {
     pub answer: Answer,
     pub states: usize,
     pub transitions: usize,
     pub taken: usize,
-}
-
-// The grounds of the header's fields and of the length, in their order.
-fn grounds(octets: &[u8], fields: Four) -> Answer
-    requires { ⌜ (4 ≤ length (now octets)) × (fields ≡ fourAt (now octets) 0 4 10 12 6) ⌝ }
-    ensures { λ r. ⌜ said r ≡ first (headerRows (now (octets .entry))) ⌝ }
-{
-    let version = fields.first;
-    let n = fields.second;
-    let m = fields.third;
-    let pad = fields.fourth;
-    if version != 1 {
-        return Answer::Refused(Refusal::Version);
-    }
-    if !limits::state_count_ok(n) {
-        return Answer::Refused(Refusal::StateCount);
-    }
-    if 2048 < m {
-        return Answer::Refused(Refusal::TransitionCount);
-    }
-    if pad != 0 {
-        return Answer::Refused(Refusal::SpareBits); // 6: the pad
-    }
-    let needed = size(n, m);
-    if octets.len() < needed {
-        return Answer::Refused(Refusal::ImageShort);
-    }
-    if needed < octets.len() {
-        return Answer::Refused(Refusal::ImageLong);
-    }
-    Answer::Accepted
-}
-
-// Reads the header, 32 bits.
-fn header(octets: &[u8], at: &mut usize) -> Heading
-    requires { ⌜ now at ≡ 0 ⌝ }
-    ensures { λ r. ⌜ HeaderRead (now (octets .entry)) (now (at .exit)) r ⌝ }
-{
-    if octets.len() < 4 {
-        return Heading {
-            answer: Answer::Refused(Refusal::ImageShort),
-            states: 0,
-            transitions: 0,
-        };
-    }
-    let fields = reader::next(octets, at, 4, 10, 12, 6);
-    Heading {
-        answer: grounds(octets, fields),
-        states: fields.second,
-        transitions: fields.third,
-    }
 }
 
 // The marks value of three fields of one bit.
@@ -177,7 +115,7 @@ pub fn fill(
 {
     let mut position = 0;
     let at = &mut position;
-    let heading = header(octets, at);
+    let heading = header::header(octets, at);
     let head = heading.answer;
     if let Answer::Refused(_) = head {
         return Filled {

@@ -25,7 +25,7 @@ use Rattle.graph.proofs.Repeat.{different-length}
 use Rattle.graph.proofs.Walks.{length-visits, visits-below, stopped}
 use Rattle.search.specs.Arrays.{Arrays, at, StartIn, UnfinishedIn, Leaves, Bounded, StandsIn}
 use Rattle.arrays.specs.Tables.{costOf}
-use Rattle.least_search.specs.Keys.{Weighed, Keys, Keyed, Settled, SettledBy, Nearest, Ready}
+use Rattle.keys.specs.Keys.{Weighed, Keys, Keyed, Settled, SettledBy, Nearest, Ready}
 use Rattle.search.specs.Sizes.{far, heaviest}
 use Rattle.search.specs.Chain.{Chains}
 use Rattle.search.specs.Quoted.{Quoted}

@@ -1,4 +1,2 @@
--- Keys that are lowered.
-pub mod Lowered
 -- From keys to the graph's least figure.
 pub mod LeastFigure

@@ -6,11 +6,12 @@ use mathlib.Core.Path.{_≡_, refl, sym, ap, _∙_}
 use Prim.Native.Nat.{ℕ, suc, _+_, _-_, _≤_, _<_}
 use native.Mathlib.Omega.{arith}
 use lib.ListN.{length, getD, take, drop, set, replicate, length-replicate, getD-replicate, length-append, length-drop, List·getD-append}
-use lib.Seq.{paste, length-paste, drop-paste, getD-set-same, getD-set-other, getD-take, getD-drop, getD-append-add, length-take-le}
+use lib.Seq.{paste, length-paste, length-paste-head, drop-paste, getD-set-same, getD-set-other, getD-take, getD-drop, getD-append-add, length-take-le}
 use Rattle.graph.specs.Graph.{Graph, State, Transition, states, marked as state}
+use Rattle.rules.specs.declared.Answer.{Answer}
 use Rattle.rules.specs.declared.Answer.the-variants.{Accepted, Refused}
 use Rattle.rules.specs.declared.Refusal.{Refusal}
-use Rattle.rules.specs.Refusal.{Result, accepted, refused}
+use Rattle.rules.specs.Refusal.{Result, accepted, refused, said}
 use Rattle.rules.specs.Rules.{freshGraph, withMark, withTransition, without}
 use Rattle.plan.specs.declared.Plan.{Plan}
 use Rattle.rules.specs.Image.{tabulate}
@@ -18,7 +19,10 @@ use Rattle.arrays.specs.Tables.{stateOf, statesOf, transitionOf, transition, La
 use Rattle.plan.specs.View.{view, laid, blankPlan, noPlan}
 use Rattle.plan.specs.Promise.{Edit}
 use Rattle.plan.proofs.Values.{Sized, states-view, count-view}
-use Rattle.rules.proofs.Tabulated.{tabulate-of}
+use Rattle.rules.specs.Table.{Row, byTable, first, NoneHolds}
+use Rattle.rules.proofs.Results.{refused-as}
+use Rattle.rules.proofs.Tables.{accepted-only, accepted-where, answer-first}
+use Rattle.rules.proofs.Tabulated.{tabulate-of, tabulate-same}
 use Rattle.arrays.proofs.Lists.{later-none, later-set, over-front, tabulate-set, tabulate-more, tabulate-without, same-transition, transition-other, transition-here}
 
 -- ---- promises kept
@@ -52,6 +56,18 @@ refusal p o r e = record { answer = rw e; plan = rw e; whole = rw e }
 pub acceptance : (p q : Plan) (o : Result Graph) (g : Graph) → o ≡ accepted g → view q ≡ g → Past p q → Edit p o (record { answer = Accepted; plan = q })
 acceptance p q o g e v l = record { answer = rw e; plan = rw e v; whole = rw e (past-laid p q l ∙ ap (laid p) v) }
 
+-- the same by a call's rows, whose first one answers
+pub stays : (p : Plan) (rows : List Row) (g : Graph) (a : Answer) (r : Refusal) → a ≡ Refused r → said a ≡ first rows
+    → Edit p (byTable rows g) (record { answer = a; plan = p })
+stays p rows g a r e s = rw e (refusal p (byTable rows g) r (refused-as (byTable rows g) r (sym (ap said e) ∙ s ∙ sym (answer-first rows g))))
+
+pub none-holds : (rows : List Row) (a : Answer) → a ≡ Accepted → said a ≡ first rows → NoneHolds rows
+none-holds rows a e s = accepted-only rows tt tt (sym s ∙ ap said e) .0
+
+pub becomes : (p q : Plan) (rows : List Row) (g : Graph) (a : Answer) → a ≡ Accepted → said a ≡ first rows → view q ≡ g → Past p q
+    → Edit p (byTable rows g) (record { answer = a; plan = q })
+becomes p q rows g a e s v l = rw e (acceptance p q (byTable rows g) g (accepted-where rows g (none-holds rows a e s)) v l)
+
 -- ---- plan values after the edits
 
 pub view-blank : (n : ℕ) → n ≤ 512 → view (blankPlan n) ≡ freshGraph n
@@ -66,6 +82,14 @@ past-blank n h =
     let zeros : Later 0 (replicate 2048 0) (replicate 2048 0) = later-none 0 (replicate 2048 0) (omega arith) in
     let l : length {A = ℕ} (replicate 512 0) ≡ 512 = length-replicate {A = ℕ} 512 0 in
     record { marks = later-none n (replicate 512 0) (omega arith); from = zeros; to = zeros; low = zeros; high = zeros }
+
+-- a plan value's arrays have the places of its plan
+pub record InArrays (q : Plan) : Type 0 where
+  pub marks : q .states ≤ length (q .marks)
+  pub from : q .transitions ≤ length (q .from)
+  pub to : q .transitions ≤ length (q .to)
+  pub low : q .transitions ≤ length (q .low)
+  pub high : q .transitions ≤ length (q .high)
 
 module _ (p : Plan) where
   -- the plan value with a marks value set
@@ -117,6 +141,59 @@ module _ (p : Plan) where
         to = one (p .to) t (z .to);
         low = one (p .low) l (z .low);
         high = one (p .high) h (z .high);
+      }
+
+  -- the plan value with another's plan laid over it: the first places of its arrays are the other's
+  abbrev pub overlaid : Plan → Plan
+  overlaid q =
+      let n = q .states in
+      let m = q .transitions in
+      record {
+        states = n;
+        transitions = m;
+        marks = paste (p .marks) 0 (q .marks) n;
+        from = paste (p .from) 0 (q .from) m;
+        to = paste (p .to) 0 (q .to) m;
+        low = paste (p .low) 0 (q .low) m;
+        high = paste (p .high) 0 (q .high) m;
+      }
+
+  overlaid-place : (d s : List ℕ) (k i : ℕ) → k ≤ length s → i < k → getD (paste d 0 s k) i 0 ≡ getD s i 0
+  overlaid-place d s k i hs h =
+      List·getD-append (take 0 d ++ take k s) (drop (0 + k) d) 0 i (rw (length-paste-head d 0 s k (omega arith) hs) (omega arith)) ∙ getD-take k s i 0 h
+
+  overlaid-later : (d s : List ℕ) (k : ℕ) → k ≤ length d → k ≤ length s → Later k d (paste d 0 s k)
+  overlaid-later d s k hd hs =
+      let e : 0 + k ≡ k = omega arith in
+      record {
+        room = rw (length-paste d 0 s k (omega arith) hs) hd;
+        same = ap (λ (j : ℕ). drop j (paste d 0 s k)) (sym e) ∙ drop-paste d 0 s k (omega arith) hs ∙ ap (λ (j : ℕ). drop j d) e;
+      }
+
+  pub view-overlaid : (q : Plan) → InArrays q → view (overlaid q) ≡ view q
+  unfolding view
+  view-overlaid q r =
+      let m : ℕ = q .transitions in
+      λ i. record {
+        stateList =
+            tabulate-same (q .states) (stateOf (paste (p .marks) 0 (q .marks) (q .states))) (stateOf (q .marks))
+            (λ j h. ap state (overlaid-place (p .marks) (q .marks) (q .states) j (r .marks) h)) i;
+        transitions =
+            tabulate-same m
+            (transitionOf (paste (p .from) 0 (q .from) m) (paste (p .to) 0 (q .to) m) (paste (p .low) 0 (q .low) m) (paste (p .high) 0 (q .high) m))
+            (transitionOf (q .from) (q .to) (q .low) (q .high))
+            (λ j h. same-transition (overlaid-place (p .from) (q .from) m j (r .from) h) (overlaid-place (p .to) (q .to) m j (r .to) h)
+            (overlaid-place (p .low) (q .low) m j (r .low) h) (overlaid-place (p .high) (q .high) m j (r .high) h)) i;
+      }
+
+  pub past-overlaid : Sized p → (q : Plan) → InArrays q → q .states ≤ 512 → q .transitions ≤ 2048 → Past p (overlaid q)
+  past-overlaid z q r hn hm =
+      record {
+        marks = overlaid-later (p .marks) (q .marks) (q .states) (omega (arith, z .marks)) (r .marks);
+        from = overlaid-later (p .from) (q .from) (q .transitions) (omega (arith, z .from)) (r .from);
+        to = overlaid-later (p .to) (q .to) (q .transitions) (omega (arith, z .to)) (r .to);
+        low = overlaid-later (p .low) (q .low) (q .transitions) (omega (arith, z .low)) (r .low);
+        high = overlaid-later (p .high) (q .high) (q .transitions) (omega (arith, z .high)) (r .high);
       }
 
   -- the plan value with a transition taken out: each array with the later places moved down by one

@@ -35,7 +35,8 @@ use Rattle.plan.specs.declared.Edited.{Edited}
 use Rattle.plan.specs.declared.Plan.{Plan}
 use Rattle.plan.specs.Promise.{Edit, nextValue, Obeyed, none, more}
 use Rattle.plan.specs.View.{view, laid, noPlan}
-use Rattle.plan.proofs.Values.{within-view}
+use Rattle.grounds.proofs.Limits.{states-out}
+use Rattle.plan.proofs.Values.{limits-view}
 
 -- ---- one call
 
@@ -146,8 +147,8 @@ read-then-write old octets e before after w ho x a y room =
 -- ---- no plan
 
 -- "any plan value beside the number has 0 states, all else zero, and every call refuses it by 0"
-no-plan : within (view noPlan) ≡ false
-no-plan = within-view noPlan
+pub no-plan : within (view noPlan) ≡ false
+no-plan = sym (limits-view noPlan (states-out 0 0 (noPlan .marks) (noPlan .from) (noPlan .to) (noPlan .low) (noPlan .high) refl))
 
 pub no-plan-refused : (call : Call) → step (view noPlan) call ≡ refused PlanLimits
 no-plan-refused (mark state value) = rw no-plan

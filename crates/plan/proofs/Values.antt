@@ -1,7 +1,6 @@
--- Plan values and what they stand for: the counts are the lists' lengths, so the limits of the plan are those of the counts and the arrays.
--- And a plan laid over arrays is what they then stand for.
+-- Plan values and what they stand for: the counts are the lists' lengths, and a plan laid over arrays is what they then stand for.
 -- Assumes nothing.
-use mathlib.Core.Bool.{true, false, _&&_}
+use mathlib.Core.Bool.{Bool}
 use mathlib.Core.List.{List, _++_, map}
 use mathlib.Core.Path.{_≡_, refl, sym, ap, ap₂, _∙_}
 use Prim.Native.Nat.{ℕ, _+_, _*_, _≤_, _<_}
@@ -11,11 +10,11 @@ use Rattle.field.specs.Field.{Field, Octets, putAll}
 use Rattle.graph.specs.Graph.{Graph, State, Transition, marked, states, count}
 use Rattle.rules.specs.Image.{image, imageLength, headerFields, stateFields, transitionFields, fieldsOfEach}
 use Rattle.rules.proofs.ReadWrite.{put-image}
-use Rattle.rules.specs.Limits.{all, within, stateCountOk, transitionCountOk, stateOk, transitionOk}
+use Rattle.rules.specs.Limits.{within}
 use Rattle.rules.specs.Refusal.{Result, accepted, refused}
 use Rattle.rules.specs.Rules.{next}
 use Rattle.plan.specs.declared.Plan.{Plan}
-use Rattle.arrays.specs.Tables.{stateOf, statesOf, transitionOf, transitionsOf, over}
+use Rattle.arrays.specs.Tables.{graphOf, stateOf, statesOf, transitionOf, transitionsOf, over}
 use Rattle.plan.specs.Promise.{nextValue}
 use Rattle.plan.specs.View.{view, laid}
 use Rattle.rules.proofs.Tabulated.{length-tabulate, tabulate-of}
@@ -37,27 +36,10 @@ pub count-view : (p : Plan) → count (view p) ≡ p .transitions
 unfolding view
 count-view p = length-tabulate (p .transitions) (transitionOf (p .from) (p .to) (p .low) (p .high))
 
--- the limits, over the counts and the arrays
-pub within-view : (p : Plan) → within (view p)
-    ≡ (stateCountOk (p .states) && transitionCountOk (p .transitions) && all stateOk (statesOf (p .states) (p .marks))
-    && all (transitionOk (p .states)) (transitionsOf (p .transitions) (p .from) (p .to) (p .low) (p .high)))
-unfolding view within
-within-view p = rw (states-view p, count-view p)
-
--- a limit that does not hold, the ones before it holding, and the last one where those before it hold
-module _ (p : Plan) where
-  pub states-out : stateCountOk (p .states) ≡ false → false ≡ within (view p)
-  states-out s = sym (within-view p ∙ rw s)
-
-  pub count-out : stateCountOk (p .states) ≡ true → transitionCountOk (p .transitions) ≡ false → false ≡ within (view p)
-  count-out s t = sym (within-view p ∙ rw (s, t))
-
-  pub marks-out : stateCountOk (p .states) ≡ true → transitionCountOk (p .transitions) ≡ true → all stateOk (statesOf (p .states) (p .marks)) ≡ false → false ≡ within (view p)
-  marks-out s t m = sym (within-view p ∙ rw (s, t, m))
-
-  pub transitions-left : stateCountOk (p .states) ≡ true → transitionCountOk (p .transitions) ≡ true → all stateOk (statesOf (p .states) (p .marks)) ≡ true
-      → all (transitionOk (p .states)) (transitionsOf (p .transitions) (p .from) (p .to) (p .low) (p .high)) ≡ within (view p)
-  transitions-left s t m = sym (within-view p ∙ rw (s, t, m))
+-- the limits of the plan that the arrays hold
+pub limits-view : (p : Plan) {r : Bool} → r ≡ within (graphOf (p .states) (p .transitions) (p .marks) (p .from) (p .to) (p .low) (p .high)) → r ≡ within (view p)
+unfolding view
+limits-view p e = e
 
 -- the fields of the counts and the arrays, put one after another at the front of a buffer, leave the image there, and the rest
 pub put-view : (p : Plan) (b : List ℕ) → Octets b → imageLength (p .states) (p .transitions) ≤ length b

@@ -1,16 +1,21 @@
-// The call plan: its edits and its image. Every call takes the plan by value, refuses bad input by its row of the table, and returns a plan.
+// The call plan: its edits and its image. Every call takes the plan, p as in the definitions, by value, refuses bad input by its row of the table, and
+// returns a plan.
 ghost use mathlib.Core.Path.{_≡_};
+ghost use Prim.Native.Nat.{_≤_};
+ghost use lib.ListN.{length};
 ghost use Rattle.rules.specs.Limits.{within as withinLimits};
-ghost use Rattle.rules.specs.Image.{image, readImage};
+ghost use Rattle.rules.specs.Image.{image};
 ghost use Rattle.rules.specs.Calls.{step, mark, join, unjoin, read};
 ghost use Rattle.rules.specs.Quotations.{Write};
+ghost use Rattle.rules.specs.declared.Refusal.the-variants.{PlanLimits};
 ghost use Rattle.rules.specs.Rules.{freshRule, writeRule};
 ghost use Rattle.arrays.specs.Tables.{transition};
-ghost use Rattle.plan.specs.View.{view, planOf, blankPlan, noPlan};
-ghost use Rattle.plan.specs.Promise.{Edit, Held, refusing, accepting};
+ghost use Rattle.image.specs.Read.{fields};
+ghost use Rattle.plan.specs.View.{view, blankPlan, noPlan};
+ghost use Rattle.plan.specs.Promise.{Edit, Held, Takes, refusing, accepting};
 use arrays::limits;
-use arrays::places;
 use image::reading;
+use image::reading::Filled;
 use image::writing;
 use rules::Answer;
 use rules::Refusal;
@@ -27,52 +32,20 @@ pub struct Plan {
     pub high: [u16; 2048],
 }
 
-// The answer of a call that makes or changes a plan, and the plan afterwards.
+// The answer of a call that makes or changes a plan, and the plan afterwards. The plan comes first: it then lies there as it lies by itself, and one copy
+// is enough to hand it on.
 pub struct Edited {
-    pub answer: Answer,
     pub plan: Plan,
-}
-
-// Whether the counts and arrays of a plan value are within the limits of a plan.
-fn in_limits<'a>(
-    n: usize,
-    m: usize,
-    marks: &'a [u8; 512],
-    from: &'a [u16; 2048],
-    to: &'a [u16; 2048],
-    low: &'a [u16; 2048],
-    high: &'a [u16; 2048],
-) -> bool
-    ensures { λ r. ⌜ r ≡ withinLimits (view (planOf n m (now (marks .entry))
-        (now (from .entry)) (now (to .entry)) (now (low .entry)) (now (high .entry)))) ⌝ }
-{
-    if !limits::state_count_ok(n) {
-        return false;
-    }
-    if 2048 < m {
-        return false;
-    }
-    if !limits::marks_within(marks, n) {
-        return false;
-    }
-    limits::transitions_within(from, to, low, high, n, m)
+    pub answer: Answer,
 }
 
 // Whether a plan value is within the limits of a plan.
-pub fn within(plan: Plan) -> bool
-    ensures { λ r. ⌜ r ≡ withinLimits (view plan) ⌝ }
+pub fn within(p: Plan) -> bool
+    ensures { λ r. ⌜ r ≡ withinLimits (view p) ⌝ }
 {
-    let n = plan.states;
-    let m = plan.transitions;
-    in_limits(
-        n,
-        m,
-        &plan.marks,
-        &plan.from,
-        &plan.to,
-        &plan.low,
-        &plan.high,
-    )
+    let n = p.states;
+    let m = p.transitions;
+    grounds::in_limits(n, m, &p.marks, &p.from, &p.to, &p.low, &p.high)
 }
 
 // A refusal, with the plan as it was.
@@ -80,8 +53,8 @@ fn refuse(plan: Plan, refusal: Refusal) -> Edited
     ensures { λ r. ⌜ r ≡ refusing plan refusal ⌝ }
 {
     Edited {
-        answer: Answer::Refused(refusal),
         plan,
+        answer: Answer::Refused(refusal),
     }
 }
 
@@ -90,8 +63,8 @@ fn accept(plan: Plan) -> Edited
     ensures { λ r. ⌜ r ≡ accepting plan ⌝ }
 {
     Edited {
-        answer: Answer::Accepted,
         plan,
+        answer: Answer::Accepted,
     }
 }
 
@@ -121,116 +94,141 @@ pub fn fresh(n: usize) -> Edited
 }
 
 // Makes a state's marks value the value given.
-pub fn mark(mut plan: Plan, state: usize, value: usize) -> Edited
-    ensures { λ r. ⌜ Edit plan (step (view plan) (mark state value)) r ⌝ }
+pub fn mark(mut p: Plan, state: usize, value: usize) -> Edited
+    ensures { λ r. ⌜ Edit p (step (view p) (mark state value)) r ⌝ }
 {
-    let n = plan.states;
-    let m = plan.transitions;
-    let sound = in_limits(
-        n,
-        m,
-        &plan.marks,
-        &plan.from,
-        &plan.to,
-        &plan.low,
-        &plan.high,
-    );
-    if !sound {
-        return refuse(plan, Refusal::PlanLimits); // 0: the plan
+    let n = p.states;
+    let m = p.transitions;
+    let limited = grounds::in_limits(n, m, &p.marks, &p.from, &p.to, &p.low, &p.high);
+    let answer = grounds::mark_grounds(limited, n, state, value);
+    match answer {
+        Answer::Accepted => {
+            p.marks[state] = value as u8;
+        }
+        Answer::Refused(_) => {}
     }
-    if n <= state {
-        return refuse(plan, Refusal::StateNumber); // 7: the state
-    }
-    if 7 < value {
-        return refuse(plan, Refusal::MarksValue); // 12: the value
-    }
-    plan.marks[state] = value as u8;
-    accept(plan)
+    Edited { plan: p, answer }
 }
 
 // Puts a transition at the end of the list.
-pub fn join(mut plan: Plan, from: usize, to: usize, low: usize, high: usize) -> Edited
-    ensures { λ r. ⌜ Edit plan (step (view plan) (join (transition from to low high))) r ⌝ }
+pub fn join(mut p: Plan, from: usize, to: usize, low: usize, high: usize) -> Edited
+    ensures { λ r. ⌜ Edit p (step (view p) (join (transition from to low high))) r ⌝ }
 {
-    let n = plan.states;
-    let m = plan.transitions;
-    let limited = in_limits(
-        n,
-        m,
-        &plan.marks,
-        &plan.from,
-        &plan.to,
-        &plan.low,
-        &plan.high,
-    );
-    if !limited {
-        return refuse(plan, Refusal::PlanLimits);
+    let n = p.states;
+    let m = p.transitions;
+    let limited = grounds::in_limits(n, m, &p.marks, &p.from, &p.to, &p.low, &p.high);
+    let answer = grounds::join_grounds(limited, n, m, from, to, low, high);
+    match answer {
+        Answer::Accepted => {
+            p.from[m] = from as u16;
+            p.to[m] = to as u16;
+            p.low[m] = low as u16;
+            p.high[m] = high as u16;
+            p.transitions = m + 1;
+        }
+        Answer::Refused(_) => {}
     }
-    let grounds = limits::checked(n, from, to, low, high);
-    if let Answer::Refused(r) = grounds {
-        return refuse(plan, r);
-    }
-    if 2048 <= m {
-        return refuse(plan, Refusal::ListFull);
-    }
-    plan.from[m] = from as u16;
-    plan.to[m] = to as u16;
-    plan.low[m] = low as u16;
-    plan.high[m] = high as u16;
-    plan.transitions = m + 1;
-    accept(plan)
+    Edited { plan: p, answer }
 }
 
 // Takes a transition out of the list; later ones move down by one.
-pub fn unjoin(plan: Plan, number: usize) -> Edited
-    ensures { λ r. ⌜ Edit plan (step (view plan) (unjoin number)) r ⌝ }
+pub fn unjoin(mut p: Plan, number: usize) -> Edited
+    ensures { λ r. ⌜ Edit p (step (view p) (unjoin number)) r ⌝ }
 {
-    let n = plan.states;
-    let m = plan.transitions;
-    let limited = in_limits(
-        n,
-        m,
-        &plan.marks,
-        &plan.from,
-        &plan.to,
-        &plan.low,
-        &plan.high,
-    );
-    if !limited {
-        return refuse(plan, Refusal::PlanLimits);
+    let n = p.states;
+    let m = p.transitions;
+    let limited = grounds::in_limits(n, m, &p.marks, &p.from, &p.to, &p.low, &p.high);
+    let answer = grounds::unjoin_grounds(limited, m, number);
+    match answer {
+        Answer::Accepted => {
+            places::remove(&mut p.from, number, m);
+            places::remove(&mut p.to, number, m);
+            places::remove(&mut p.low, number, m);
+            places::remove(&mut p.high, number, m);
+            p.transitions = m - 1;
+        }
+        Answer::Refused(_) => {}
     }
-    if m <= number {
-        return refuse(plan, Refusal::TransitionNumber);
-    }
-    let marks = plan.marks;
-    let from = plan.from;
-    let to = plan.to;
-    let low = plan.low;
-    let high = plan.high;
-    let kept = Plan {
-        states: n,
-        transitions: m - 1,
-        marks,
-        from: places::without(from, number, m),
-        to: places::without(to, number, m),
-        low: places::without(low, number, m),
-        high: places::without(high, number, m),
-    };
-    accept(kept)
+    Edited { plan: p, answer }
 }
 
-// Reads an image into the arrays of a plan. An accepted one replaces the whole plan.
-fn replace(plan: Plan, octets: &[u8]) -> Edited
-    ensures { λ r. ⌜ Edit plan (readImage (now (octets .entry))) r ⌝ }
+// Reads an image into arrays, where the plan that it is to replace is within the limits; places past the counts stay.
+fn take(
+    limited: bool,
+    octets: &[u8],
+    marks: &mut [u8; 512],
+    from: &mut [u16; 2048],
+    to: &mut [u16; 2048],
+    low: &mut [u16; 2048],
+    high: &mut [u16; 2048],
+) -> Filled
+    requires { ⌜ (512 ≤ length (now marks)) × (2048 ≤ length (now from)) × (2048 ≤ length (now to))
+        × (2048 ≤ length (now low)) × (2048 ≤ length (now high)) ⌝ }
+    ensures { λ r. ⌜ Takes limited (now (octets .entry)) (now (marks .exit))
+        (fields (now (from .exit)) (now (to .exit)) (now (low .exit)) (now (high .exit))) r ⌝ }
 {
-    let mut marks = plan.marks;
-    let mut from = plan.from;
-    let mut to = plan.to;
-    let mut low = plan.low;
-    let mut high = plan.high;
+    if !limited {
+        return Filled {
+            answer: Answer::Refused(Refusal::PlanLimits),
+            states: 0,
+            transitions: 0,
+            taken: 0,
+        };
+    }
+    reading::fill(octets, marks, from, to, low, high)
+}
+
+// Reads an image. An accepted one replaces the whole plan: it is read into arrays of its own, and laid over the plan's.
+pub fn read(mut p: Plan, octets: &[u8]) -> Edited
+    ensures { λ r. ⌜ Edit p (step (view p) (read (now (octets .entry)))) r ⌝ }
+{
+    let n = p.states;
+    let m = p.transitions;
+    let limited = grounds::in_limits(n, m, &p.marks, &p.from, &p.to, &p.low, &p.high);
+    let mut marks = [0u8; 512];
+    let mut from = [0u16; 2048];
+    let mut to = [0u16; 2048];
+    let mut low = [0u16; 2048];
+    let mut high = [0u16; 2048];
+    let taken = take(
+        limited,
+        octets,
+        &mut marks,
+        &mut from,
+        &mut to,
+        &mut low,
+        &mut high,
+    );
+    let answer = taken.answer;
+    match answer {
+        Answer::Accepted => {
+            let states = taken.states;
+            let transitions = taken.transitions;
+            places::lay_marks(&mut p.marks, &marks, states);
+            places::lay(&mut p.from, &from, transitions);
+            places::lay(&mut p.to, &to, transitions);
+            places::lay(&mut p.low, &low, transitions);
+            places::lay(&mut p.high, &high, transitions);
+            p.states = states;
+            p.transitions = transitions;
+        }
+        Answer::Refused(_) => {} // the old plan
+    }
+    Edited { plan: p, answer }
+}
+
+// The plan that an image holds, or the refusal of it. A refusal makes none: the plan value beside it has 0 states, all else zero.
+pub fn held(octets: &[u8]) -> Edited
+    ensures { λ r. ⌜ Held (now (octets .entry)) r ⌝ }
+{
+    let mut marks = [0u8; 512];
+    let mut from = [0u16; 2048];
+    let mut to = [0u16; 2048];
+    let mut low = [0u16; 2048];
+    let mut high = [0u16; 2048];
     let filled = reading::fill(octets, &mut marks, &mut from, &mut to, &mut low, &mut high);
     let answer = filled.answer;
-    let image = Plan {
+    let mut plan = Plan {
         states: filled.states,
         transitions: filled.transitions,
         marks,
@@ -240,64 +238,31 @@ fn replace(plan: Plan, octets: &[u8]) -> Edited
         high,
     };
     match answer {
-        Answer::Accepted => accept(image),
-        Answer::Refused(r) => refuse(plan, r), // the old plan
+        Answer::Accepted => {}
+        Answer::Refused(_) => {
+            plan = blank(0); // no plan
+        }
     }
-}
-
-// Reads an image. An accepted one replaces the whole plan.
-pub fn read(plan: Plan, octets: &[u8]) -> Edited
-    ensures { λ r. ⌜ Edit plan (step (view plan) (read (now (octets .entry)))) r ⌝ }
-{
-    let n = plan.states;
-    let m = plan.transitions;
-    let limited = in_limits(
-        n,
-        m,
-        &plan.marks,
-        &plan.from,
-        &plan.to,
-        &plan.low,
-        &plan.high,
-    );
-    if !limited {
-        return refuse(plan, Refusal::PlanLimits);
-    }
-    replace(plan, octets)
-}
-
-// The plan that an image holds, or the refusal of it: read into a fresh plan of one state, which is within the limits.
-pub fn held(octets: &[u8]) -> Edited
-    ensures { λ r. ⌜ Held (now (octets .entry)) r ⌝ }
-{
-    replace(blank(1), octets)
+    Edited { plan, answer }
 }
 
 // Puts the image at the front of the buffer, and returns its length.
-pub fn write(plan: Plan, buffer: &mut [u8]) -> Written
-    ensures { λ r. ⌜ Write (image (view plan)) (writeRule (view plan) (now (buffer .entry)))
+pub fn write(p: Plan, buffer: &mut [u8]) -> Written
+    ensures { λ r. ⌜ Write (image (view p)) (writeRule (view p) (now (buffer .entry)))
         (now (buffer .entry)) (now (buffer .exit)) r ⌝ }
 {
-    let n = plan.states;
-    let m = plan.transitions;
-    let limited = in_limits(
-        n,
-        m,
-        &plan.marks,
-        &plan.from,
-        &plan.to,
-        &plan.low,
-        &plan.high,
-    );
+    let n = p.states;
+    let m = p.transitions;
+    let limited = grounds::in_limits(n, m, &p.marks, &p.from, &p.to, &p.low, &p.high);
     if !limited {
         return Written::Refused(Refusal::PlanLimits);
     }
-    let length = image::size(n, m);
+    let length = header::size(n, m);
     if buffer.len() < length {
         return Written::Refused(Refusal::BufferLength);
     }
     writing::header(buffer, n, m);
-    writing::states(buffer, &plan.marks, n);
-    writing::transitions(buffer, n, m, &plan.from, &plan.to, &plan.low, &plan.high);
+    writing::states(buffer, &p.marks, n);
+    writing::transitions(buffer, n, m, &p.from, &p.to, &p.low, &p.high);
     Written::Length(length)
 }

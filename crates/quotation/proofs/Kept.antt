@@ -1,7 +1,7 @@
 -- Promises kept, of one quotation and of all four: by a refusal that leaves the places, and by an accepted call of which the figures' sentences hold. And
 -- what the rules say of an accepted one: the plan is within the limits, and there are places for the walk. Assumes nothing.
 use mathlib.Core.Bool.{true, false}
-use mathlib.Core.List.{List}
+use mathlib.Core.List.{List, [], _∷_}
 use mathlib.Core.Path.{_≡_, refl, sym, ap, _∙_, subst}
 use Prim.Native.Nat.{ℕ, _≤_, _<_}
 use native.Mathlib.Omega.{arith}
@@ -18,16 +18,18 @@ use Rattle.rules.specs.declared.Quotations.{Quotations}
 use Rattle.rules.specs.declared.Quotations.the-variants.{Quoted as AllQuoted, Refused as NoneQuoted}
 use Rattle.rules.specs.Limits.{within}
 use Rattle.rules.specs.declared.Answer.{Answer}
-use Rattle.rules.specs.Image.{readImage}
-use Rattle.rules.specs.Quotations.{says, Stated, Quotes, quoteRows, quoteRule, AllStated, QuotesAll, QuotesHeld, allRule, saidQuotations}
-use Rattle.rules.specs.Refusal.{Result, accepted, refused, answerOf, said}
+use Rattle.rules.specs.Image.{readImage, imageRows, graphIn}
+use Rattle.rules.specs.Quotations.{says, Stated, Quotes, quoteRows, quoteRule, AllStated, QuotesAll, QuotesHeld, allRule, heldRows, heldRule, saidQuotations}
+use Rattle.rules.specs.Refusal.{accepted, refused, said}
+use Rattle.rules.specs.Rules.{bufferRow}
+use Rattle.rules.specs.Table.{first}
 use Rattle.rules.proofs.ReadWrite.{read-within}
 use Rattle.rules.proofs.Results.{never, not-false}
 use Rattle.plan.specs.declared.Edited.{Edited}
 use Rattle.plan.specs.Promise.{Held}
 use Rattle.plan.specs.View.{view}
 use Rattle.plan.proofs.Holding.{held-plan}
-use Rattle.rules.proofs.Tables.{accepted-only}
+use Rattle.rules.proofs.Tables.{accepted-only, accepted-where, answer-first, after-none, after-refused, none-append}
 
 -- ---- one quotation
 
@@ -93,43 +95,54 @@ module _ (g : Graph) (places : List ℕ) where
 -- ---- all four of an image
 
 module _ (image before : List ℕ) (f : Edited) (e : Held image f) where
+  -- the answer of the read is that of the image's rows
+  by-rows : said (f .answer) ≡ first (imageRows image)
+  unfolding readImage
+  by-rows = e .answer ∙ answer-first (imageRows image) (graphIn image)
+
   pub held-refused : (x : Refusal) → f .answer ≡ Answer.Refused x → QuotesHeld image before before (NoneQuoted x)
+  unfolding heldRule
   held-refused x a = record {
-    refusal = λ k i.
-        let z : _≡_ {A = Result (Unit {0})} (refused x) (refused k) = sym (ap said a) ∙ e .answer ∙ ap answerOf i in
-        let y : x ≡ k = cc in
-        (ap NoneQuoted y, refl);
-    short = λ g i. absurd (never tt x (sym (ap said a) ∙ e .answer ∙ ap answerOf i));
-    quoted = λ g i. absurd (never tt x (sym (ap said a) ∙ e .answer ∙ ap answerOf i));
+    answer = sym (after-refused (imageRows image) (bufferRow before 2048 ∷ []) tt x (sym by-rows ∙ ap said a));
+    kept = λ k i. refl;
+    quoted = λ q i. let z : _≡_ {A = ℕ} 0 1 = cc in absurd (omega arith);
   }
 
   module _ (a : f .answer ≡ Answer.Accepted) where
+    -- the image's rows accept, so the places decide
+    by-places : heldRule image before ≡ first (bufferRow before 2048 ∷ [])
+    unfolding heldRule
+    by-places = after-none (imageRows image) (bufferRow before 2048 ∷ []) tt (accepted-only (imageRows image) tt tt (sym by-rows ∙ ap said a) .0)
+
+    -- the plan that was read is the one that the octets hold
+    read-plan : view (f .plan) ≡ graphIn image
+    unfolding readImage
+    read-plan =
+        held-plan image f e (graphIn image) (accepted-where (imageRows image) (graphIn image) (accepted-only (imageRows image) tt tt (sym by-rows ∙ ap said a) .0))
+
     pub held-short : length before < 2048 → QuotesHeld image before before (NoneQuoted BufferLength)
     held-short h = record {
-      refusal = λ k i. absurd (never tt k (sym (e .answer ∙ ap answerOf i) ∙ ap said a));
-      short = λ g i l. (refl, refl);
-      quoted = λ g i l. absurd (omega arith);
+      answer = sym (by-places ∙ rw (lt-ltb (length before) 2048 h) refl);
+      kept = λ k i. refl;
+      quoted = λ q i. let z : _≡_ {A = ℕ} 0 1 = cc in absurd (omega arith);
     }
 
     pub held-quoted : (after : List ℕ) (q : FourQuotes) → 2048 ≤ length before → AllStated (view (f .plan)) q before after
         → QuotesHeld image before after (AllQuoted q)
-    held-quoted after q h s = record {
-      refusal = λ k i. absurd (never tt k (sym (e .answer ∙ ap answerOf i) ∙ ap said a));
-      short = λ g i l. absurd (omega arith);
-      quoted = λ g i l. (q, refl, subst (λ (x : Graph). AllStated x q before after) (held-plan image f e g i) s);
-    }
+    held-quoted after q h s =
+        let d : heldRule image before ≡ accepted tt = by-places ∙ rw (le-ltb (length before) 2048 h) refl in
+        record {
+          answer = sym d;
+          kept = λ k i. absurd (never tt k (sym i ∙ d));
+          quoted = λ r i.
+              let same : q ≡ r = cc in
+              rw (← same) (subst (λ (x : Graph). AllStated x q before after) read-plan s);
+        }
 
--- where it quotes, the image holds a plan, within the limits, and the quotes are its
-pub held-known : (image before after : List ℕ) (r : Quotations) → 2048 ≤ length before → QuotesHeld image before after r → (q : FourQuotes) → r ≡ AllQuoted q
-    → (g : Graph) × (readImage image ≡ accepted g) × (within g ≡ true) × AllStated g q before after
-held-known image before after r h x q e = go (readImage image) refl
-  where
-    go : (o : Result Graph) → readImage image ≡ o → (g : Graph) × (readImage image ≡ accepted g) × (within g ≡ true) × AllStated g q before after
-    go (accepted g) i =
-        let (q′, e′, s) = x .quoted g i h in
-        let same : q′ ≡ q = cc in
-        (g, i, read-within image g i, subst (λ (z : FourQuotes). AllStated g z before after) same s)
-    go (refused k) i =
-        let z = sym e ∙ x .refusal k i .0 in
-        let n : _≡_ {A = ℕ} 0 1 = cc in
-        absurd (omega arith)
+-- where it quotes, the octets hold a plan within the limits
+pub held-within-limits : (image before after : List ℕ) (r : Quotations) → QuotesHeld image before after r → (q : FourQuotes) → r ≡ AllQuoted q
+    → within (graphIn image) ≡ true
+unfolding heldRule readImage
+held-within-limits image before after r x q e =
+    let n = none-append (imageRows image) (bufferRow before 2048 ∷ []) (accepted-only (heldRows image before) tt tt (sym (x .answer) ∙ ap saidQuotations e) .0) in
+    read-within image (graphIn image) (accepted-where (imageRows image) (graphIn image) (n .0))

@@ -1,4 +1,4 @@
--- The record: four figures of 22 bits put one after another are the 88 bits of the record, and the octets after the first 11 stay (`put-record`). The
+-- The record: the fields of four quotes are the 88 bits of the record, and the octets after the first 11 stay (`put-record`). The
 -- figures are those of a plan within the limits, so each fits into its 20 bits. Assumes nothing.
 use mathlib.Core.Bool.{true}
 use mathlib.Core.List.{List, _++_}
@@ -7,33 +7,19 @@ use Prim.Native.Nat.{ℕ, _≤_, _<_}
 use native.Mathlib.Omega.{arith}
 use lib.ListN.{length, drop}
 use Rattle.field.specs.Field.{Field, Octets, widthOfAll, putAll}
-use Rattle.field.proofs.Pack.{putAll-append, putAll-pack}
+use Rattle.field.proofs.Pack.{putAll-pack}
 use Rattle.graph.specs.declared.Which.{Which}
 use Rattle.graph.specs.declared.Which.the-variants.{LeastDelay, GreatestDelay, LeastCount, GreatestCount}
 use Rattle.graph.specs.Graph.{Graph}
 use Rattle.graph.specs.Compute.{figureFor}
-use Rattle.graph.specs.Figure.{Figure, number, NONE, STRANDED, ENDLESS, kind, value}
+use Rattle.graph.specs.Figure.{value}
 use Rattle.rules.specs.declared.Refusal.{Refusal}
 use Rattle.rules.specs.declared.Written.the-variants.{Length, Refused}
 use Rattle.rules.specs.declared.FourQuotes.{FourQuotes}
 use Rattle.rules.specs.Limits.{within}
-use Rattle.rules.specs.Quotations.{meant, figureFields, quotesFields, quoteOf, recordFields, recordOctets, recordRule, AllStated, Write}
+use Rattle.rules.specs.Quotations.{meant, quotesFields, quoteOf, recordFields, recordOctets, recordRule, AllStated, Write}
 use Rattle.rules.specs.Refusal.{accepted, refused}
 use Rattle.rules.proofs.Sizes.{figure-said, quoted-fits}
-
--- figures put one after another are all their fields put at once
-pub put-four : (a b c d : Figure) (os : List ℕ)
-    → putAll (putAll (putAll (putAll os 0 (figureFields a)) 22 (figureFields b)) 44 (figureFields c)) 66 (figureFields d)
-    ≡ putAll os 0 (figureFields a ++ figureFields b ++ figureFields c ++ figureFields d)
-unfolding widthOfAll
-put-four a b c d os =
-    let A : List Field = figureFields a in
-    let B : List Field = figureFields b in
-    let C : List Field = figureFields c in
-    let D : List Field = figureFields d in
-    ap (λ (x : List ℕ). putAll (putAll x 44 C) 66 D) (sym (putAll-append A B os 0))
-    ∙ ap (λ (x : List ℕ). putAll x 66 D) (sym (putAll-append (A ++ B) C os 0))
-    ∙ sym (putAll-append (A ++ B ++ C) D os 0)
 
 module _ (g : Graph) (q : FourQuotes) (before after : List ℕ) (s : AllStated g q before after) where
   -- the figures of quotes of which the four hold
@@ -61,10 +47,3 @@ module _ (g : Graph) where
   pub record-acceptance : (before after : List ℕ) → recordRule g before ≡ accepted 11 → after ≡ recordOctets g ++ drop 11 before
       → Write (recordOctets g) (recordRule g before) before after (Length 11)
   record-acceptance before after e b = record { answer = sym e; buffer = rw e b }
-
--- a kind is one of 2 bits
-pub kind-below : (f : Figure) → kind f < 4
-kind-below (number k) = omega arith
-kind-below NONE = omega arith
-kind-below STRANDED = omega arith
-kind-below ENDLESS = omega arith

@@ -10,9 +10,10 @@ use Rattle.search.specs.Arrays.{Arrays, at, StartIn, FinalIn, UnfinishedIn, Lea
 use Rattle.search.specs.Chain.{none}
 use Rattle.reach.specs.declared.Reach.{Reach}
 use Rattle.reach.specs.declared.Reach.the-variants.{NoStart, Looped, DeadEnd, Ends}
-use Rattle.reach.specs.Explored.{Table, Sized, Grown, Placed, Searching, Ranked, Explored, Descended}
+use Rattle.turns.specs.Search.{Table, Sized, Grown, Placed, Searching}
+use Rattle.reach.specs.Explored.{Ranked, Explored, Descended}
 use Rattle.arrays.proofs.Lists.{same-or-not}
-use Rattle.reach.proofs.Stack.{Behind}
+use Rattle.turns.proofs.Stack.{Behind}
 
 module _ (A : Arrays) where
   pub searching-none : (a : Table) → ((s : ℕ) → at (a .rank) s ≡ 0) → Searching A a 0 0

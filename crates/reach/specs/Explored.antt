@@ -1,102 +1,19 @@
--- What the depth-first search keeps, and what it leaves behind. The search goes through the unfinished states that starts reach.
---
--- The rank of a state: 0 before the search enters it; 513 and its place on the stack while it is there; 1 and its place in the order of leaving
--- once it is left. The cursor of a state is its first transition that is not passed yet; it stays while the search is behind that transition, so
--- the cursors of the states on the stack are the walk along it. Assumes nothing.
-use mathlib.Core.Bool.{cond}
-use mathlib.Core.List.{List}
+-- What the depth-first search leaves behind, and what the starts reach: the arrays of the search are those of `Search` in turns. Assumes nothing.
 use mathlib.Core.Logic.{_⊎_}
 use mathlib.Core.Path.{_≡_}
-use Prim.Native.Nat.{ℕ, suc, _+_, _-_, _≤_, _<_}
-use lib.Dec.{eqb, ltb}
-use lib.ListN.{length}
+use Prim.Native.Nat.{ℕ, suc, _≤_, _<_}
 use Rattle.reach.specs.declared.Searched.{Searched}
-use Rattle.reach.specs.declared.Turn.{Turn}
-use Rattle.reach.specs.declared.Turn.the-variants.{On, Back}
 use Rattle.reach.specs.declared.Reach.{Reach}
 use Rattle.reach.specs.declared.Reach.the-variants.{NoStart, Looped, DeadEnd, Ends}
 use Rattle.search.specs.Arrays.{Arrays, at, StartIn, FinalIn, UnfinishedIn, Leaves}
-use Rattle.search.specs.Chain.{none, Linked}
-use Rattle.search.specs.Sizes.{sumTo}
+use Rattle.turns.specs.Search.{Table, Sized, Grown, table, Origin, Searching, Loop}
+use Rattle.hunt.specs.Hunted.{DeadEndAt, NoDeadEnd}
 
--- the arrays of a search, 512 places each
-pub record Table : Type 0 where
-  pub rank : List ℕ
-  pub cursor : List ℕ
-  pub stack : List ℕ
-  pub order : List ℕ
-  pub via : List ℕ
-
-pub record Sized (a : Table) : Type 0 where
-  pub rank : 512 ≤ length (a .rank)
-  pub cursor : 512 ≤ length (a .cursor)
-  pub stack : 512 ≤ length (a .stack)
-  pub order : 512 ≤ length (a .order)
-  pub via : 512 ≤ length (a .via)
-
--- what was entered stays so
-abbrev pub Grown : Table → Table → Type 0
-Grown a a′ = (s : ℕ) → 0 < at (a .rank) s → 0 < at (a′ .rank) s
-
-abbrev pub table : List ℕ → List ℕ → List ℕ → List ℕ → List ℕ → Table
-table rank cursor stack order via = record { rank = rank; cursor = cursor; stack = stack; order = order; via = via }
-
+-- what it leaves behind
 abbrev pub tableOf : Searched → Table
 tableOf s = table (s .rank) (s .cursor) (s .stack) (s .order) (s .via)
 
--- where a state stands: not entered, left as the i-th, or the i-th on the stack
-abbrev pub Placed : Table → ℕ → ℕ → ℕ → Type 0
-Placed a d done s =
-    (at (a .rank) s ≡ 0) ⊎ ((i : ℕ) × (i < done) × (at (a .rank) s ≡ suc i) × (at (a .order) i ≡ s))
-    ⊎ ((i : ℕ) × (i < d) × (at (a .rank) s ≡ 513 + i) × (at (a .stack) i ≡ s))
-
 module _ (A : Arrays) where
-  -- how a state was entered: as a start, or by a transition from a state that was entered
-  abbrev pub Rooted : List ℕ → List ℕ → ℕ → Type 0
-  Rooted rank via s = ((at via s ≡ none) × StartIn (A .marks) s) ⊎ ((at via s < A .m) × (at (A .to) (at via s) ≡ s) × (0 < at rank (at (A .from) (at via s))))
-
-  abbrev pub Origin : Table → ℕ → Type 0
-  Origin a s = Rooted (a .rank) (a .via) s
-
-  -- the search with d states on the stack and `done` states left
-  pub record Searching (a : Table) (d done : ℕ) : Type 0 where
-    pub depth : d ≤ A .n
-    pub count : done ≤ A .n
-    pub placed : (s : ℕ) → s < A .n → Placed a d done s
-    -- the stack is a walk from a start, by the cursors
-    pub stacked : (i : ℕ) → i < d → (at (a .stack) i < A .n) × (at (a .rank) (at (a .stack) i) ≡ 513 + i)
-    pub root : 0 < d → StartIn (A .marks) (at (a .stack) 0)
-    pub path : (i : ℕ) → suc i < d → Leaves A (at (a .stack) i) (at (a .cursor) (at (a .stack) i))
-        × (at (A .to) (at (a .cursor) (at (a .stack) i)) ≡ at (a .stack) (suc i))
-    -- the states that were left, in their order
-    pub behind : (i : ℕ) → i < done → (at (a .order) i < A .n) × (at (a .rank) (at (a .order) i) ≡ suc i)
-    -- each state that was entered is unfinished, and its transitions before the cursor lead to final states and to states left earlier
-    pub unfinished : (s : ℕ) → s < A .n → 0 < at (a .rank) s → UnfinishedIn (A .marks) s
-    pub next : (s : ℕ) → s < A .n → 0 < at (a .rank) s
-        → (at (a .cursor) s ≤ none) × (at (a .cursor) s < none → Leaves A s (at (a .cursor) s))
-    pub passed : (s : ℕ) → s < A .n → 0 < at (a .rank) s → (t : ℕ) → Leaves A s t → t < at (a .cursor) s
-        → FinalIn (A .marks) (at (A .to) t)
-        ⊎ ((0 < at (a .rank) (at (A .to) t)) × (at (a .rank) (at (A .to) t) < 513) × (at (a .rank) (at (A .to) t) < at (a .rank) s))
-    pub ended : (s : ℕ) → s < A .n → 0 < at (a .rank) s → at (a .rank) s < 513 → at (a .cursor) s ≡ none
-    pub origin : (s : ℕ) → s < A .n → 0 < at (a .rank) s → Origin a s
-
-  -- .. in a linked graph
-  pub record Underway (head link : List ℕ) (a : Table) (d done : ℕ) : Type 0 where
-    pub linked : Linked A head link
-    pub sized : Sized a
-    pub search : Searching a d done
-
-  -- the step from the top of the stack leads to the state at place j of it: the walk along the stack goes on forever
-  pub record Loop (a : Table) (d j : ℕ) : Type 0 where
-    pub below : j < d
-    pub depth : d ≤ A .n
-    pub root : StartIn (A .marks) (at (a .stack) 0)
-    pub stacked : (i : ℕ) → i < d → (at (a .stack) i < A .n) × (at (a .rank) (at (a .stack) i) ≡ 513 + i)
-    pub unfinished : (i : ℕ) → i < d → UnfinishedIn (A .marks) (at (a .stack) i)
-    pub leaves : (i : ℕ) → i < d → Leaves A (at (a .stack) i) (at (a .cursor) (at (a .stack) i))
-    pub path : (i : ℕ) → suc i < d → at (A .to) (at (a .cursor) (at (a .stack) i)) ≡ at (a .stack) (suc i)
-    pub back : (i : ℕ) → suc i ≡ d → at (A .to) (at (a .cursor) (at (a .stack) i)) ≡ at (a .stack) j
-
   -- the search is over: every start that is unfinished was entered, and all that was entered was left; the rank falls along the transitions
   pub record Ranked (a : Table) (done : ℕ) : Type 0 where
     pub count : done ≤ A .n
@@ -106,51 +23,21 @@ module _ (A : Arrays) where
         → FinalIn (A .marks) (at (A .to) t) ⊎ ((0 < at (a .rank) (at (A .to) t)) × (at (a .rank) (at (A .to) t) < at (a .rank) s))
     pub listed : (i : ℕ) → i < done → (at (a .order) i < A .n) × (at (a .rank) (at (a .order) i) ≡ suc i)
     pub placed : (s : ℕ) → s < A .n → 0 < at (a .rank) s → (i : ℕ) × (i < done) × (at (a .rank) s ≡ suc i) × (at (a .order) i ≡ s)
-    pub origin : (s : ℕ) → s < A .n → 0 < at (a .rank) s → Origin a s
+    pub origin : (s : ℕ) → s < A .n → 0 < at (a .rank) s → Origin A a s
 
   -- what the search from all starts found: no start; a loop; or neither
   abbrev pub Explored : Table → Reach → Type 0
   Explored a NoStart = (s : ℕ) → s < A .n → StartIn (A .marks) s → ⊥
-  Explored a (Looped d j) = Loop a d j
+  Explored a (Looped d j) = Loop A a d j
   Explored a (DeadEnd s) = ⊥
   Explored a (Ends done) = Ranked a done × ((s : ℕ) × (s < A .n) × StartIn (A .marks) s)
-
-  -- a state with a rank that no transition leaves; and that there is none
-  abbrev pub DeadEndAt : List ℕ → ℕ → Type 0
-  DeadEndAt rank s = (s < A .n) × (0 < at rank s) × ((t : ℕ) → Leaves A s t → ⊥)
-
-  abbrev pub NoDeadEnd : List ℕ → Type 0
-  NoDeadEnd rank = (s : ℕ) → s < A .n → 0 < at rank s → (t : ℕ) × Leaves A s t
-
-  -- what the hunt goes by: each state with a rank is unfinished and was entered as a start, or by a transition from another one; and where it leads on, there is a rank
-  pub record Entered (head link rank via : List ℕ) : Type 0 where
-    pub linked : Linked A head link
-    pub rooted : (s : ℕ) → s < A .n → 0 < at rank s → UnfinishedIn (A .marks) s × Rooted rank via s
-    pub onward : (s t : ℕ) → s < A .n → 0 < at rank s → Leaves A s t → UnfinishedIn (A .marks) (at (A .to) t) → 0 < at rank (at (A .to) t)
-
-  -- what the hunt answers: a dead end, or 512
-  abbrev pub Hunted : List ℕ → ℕ → Type 0
-  Hunted rank r = DeadEndAt rank r ⊎ ((r ≡ 512) × NoDeadEnd rank)
 
   -- and after the hunt for a dead end
   abbrev pub Reached : Table → Reach → Type 0
   Reached a NoStart = (s : ℕ) → s < A .n → StartIn (A .marks) s → ⊥
-  Reached a (Looped d j) = Loop a d j
-  Reached a (DeadEnd s) = ((done : ℕ) × Ranked a done) × DeadEndAt (a .rank) s
-  Reached a (Ends done) = Ranked a done × ((s : ℕ) × (s < A .n) × StartIn (A .marks) s) × NoDeadEnd (a .rank)
-
--- what is left to do at a state: it is entered, its transitions are passed, and it is left
-abbrev pub toDo : ℕ → ℕ → ℕ
-toDo rank cursor = cond (eqb rank 0) 3000 (cond (ltb rank 513) 0 (2049 - cursor))
-
-abbrev pub workIn : Table → ℕ
-workIn a = sumTo 512 (λ s. toDo (at (a .rank) s) (at (a .cursor) s))
-
-module _ (A : Arrays) where
-  -- what a turn of the search makes of it: the search goes on with another depth and number left, and less to do; or it has found a loop
-  abbrev pub Turned : Table → ℕ → Turn → Table → Type 0
-  Turned a d (On d′ done′) a′ = Searching A a′ d′ done′ × Sized a′ × Grown a a′ × (workIn a′ < workIn a)
-  Turned a d (Back j) a′ = Loop A a′ d j
+  Reached a (Looped d j) = Loop A a d j
+  Reached a (DeadEnd s) = ((done : ℕ) × Ranked a done) × DeadEndAt A (a .rank) s
+  Reached a (Ends done) = Ranked a done × ((s : ℕ) × (s < A .n) × StartIn (A .marks) s) × NoDeadEnd A (a .rank)
 
   -- what the search from one start makes of it
   abbrev pub Descended : Table → ℕ → Reach → Table → Type 0

@@ -2,95 +2,17 @@
 // there is none, the order of leaving is a rank that falls along every transition.
 ghost use mathlib.Core.List.{List};
 ghost use mathlib.Core.Path.{_≡_};
-ghost use Prim.Native.Nat.{ℕ, _+_, _<_};
-ghost use lib.ListN.{set};
+ghost use Prim.Native.Nat.{ℕ, _<_};
 ghost use Rattle.search.specs.Arrays.{arrays, at, StartIn, UnfinishedIn};
 ghost use Rattle.search.specs.Chain.{Linked};
-ghost use Rattle.reach.specs.Explored.{table, tableOf, Sized, Underway, Explored, Turned, Descended, Reached};
+ghost use Rattle.turns.specs.Search.{table, Sized, Underway};
+ghost use Rattle.reach.specs.Explored.{tableOf, Explored, Descended, Reached};
 use crate::Reach;
 use crate::Searched;
-use crate::Turn;
-use crate::hunt;
-use arrays::limits::wide;
 use search::NONE;
 use search::is_final;
 use search::is_start;
-
-// Enters a state: it goes on the stack at place d.
-fn enter(
-    s: usize,
-    by: u16,
-    d: usize,
-    head: &[u16; 512],
-    rank: &mut [u16; 512],
-    cursor: &mut [u16; 512],
-    stack: &mut [u16; 512],
-    via: &mut [u16; 512],
-)
-    requires { ⌜ (s < 512) × (d < 512) ⌝ }
-    ensures { λ r. ⌜ (now (rank .exit) ≡ set (now (rank .entry)) s (513 + d)) × (now (cursor .exit) ≡ set (now (cursor .entry)) s (at (now (head .entry)) s))
-        × (now (stack .exit) ≡ set (now (stack .entry)) d s) × (now (via .exit) ≡ set (now (via .entry)) s by) ⌝ }
-{
-    rank[s] = (513 + d) as u16;
-    cursor[s] = head[s];
-    stack[d] = s as u16;
-    via[s] = by;
-}
-
-// One turn at the state on top of the stack, with its cursor: leaves the state, passes a transition, or enters the state that it leads to.
-// Lent one by one: a struct of the arrays would be copied at every turn.
-fn turn(
-    d: usize,
-    done: usize,
-    marks: &[u8; 512],
-    to: &[u16; 2048],
-    head: &[u16; 512],
-    link: &[u16; 2048],
-    rank: &mut [u16; 512],
-    cursor: &mut [u16; 512],
-    stack: &mut [u16; 512],
-    order: &mut [u16; 512],
-    via: &mut [u16; 512],
-) -> Turn
-    requires { ⌜ ((n m : ℕ) × (from : List ℕ) × (0 < d)
-        × Underway (arrays n m (now marks) from (now to)) (now head) (now link) (table (now rank) (now cursor) (now stack) (now order) (now via)) d done) ⌝ }
-    ensures { λ r. ⌜ ((n m : ℕ) (from : List ℕ)
-        → Underway (arrays n m (now (marks .entry)) from (now (to .entry))) (now (head .entry)) (now (link .entry))
-        (table (now (rank .entry)) (now (cursor .entry)) (now (stack .entry)) (now (order .entry)) (now (via .entry))) d done
-        → Turned (arrays n m (now (marks .entry)) from (now (to .entry)))
-        (table (now (rank .entry)) (now (cursor .entry)) (now (stack .entry)) (now (order .entry)) (now (via .entry))) d r
-        (table (now (rank .exit)) (now (cursor .exit)) (now (stack .exit)) (now (order .exit)) (now (via .exit)))) ⌝ }
-{
-    let s = wide(stack[d - 1]);
-    let t = wide(cursor[s]);
-    if t == NONE {
-        order[done] = s as u16;
-        rank[s] = (done + 1) as u16;
-        return Turn::On {
-            depth: d - 1,
-            left: done + 1,
-        };
-    }
-    let v = wide(to[t]);
-    let r = wide(rank[v]);
-    if 512 < r {
-        return Turn::Back(r - 513);
-    }
-    if !is_final(marks[v]) {
-        if r == 0 {
-            enter(v, t as u16, d, head, rank, cursor, stack, via);
-            return Turn::On {
-                depth: d + 1,
-                left: done,
-            };
-        }
-    }
-    cursor[s] = link[t];
-    Turn::On {
-        depth: d,
-        left: done,
-    }
-}
+use turns::Course;
 
 // Searches from a start that was not entered yet, until all that was entered is left, or a loop is found.
 // Lent one by one: a struct of the arrays would be copied for every start.
@@ -117,11 +39,11 @@ fn descend(
         (table (now (rank .entry)) (now (cursor .entry)) (now (stack .entry)) (now (order .entry)) (now (via .entry))) s r
         (table (now (rank .exit)) (now (cursor .exit)) (now (stack .exit)) (now (order .exit)) (now (via .exit)))) ⌝ }
 {
-    enter(s, NONE as u16, 0, head, rank, cursor, stack, via);
+    turns::enter(s, NONE as u16, 0, head, rank, cursor, stack, via);
     let mut d = 1;
     let mut left = done;
     while 0 < d {
-        let turned = turn(
+        let turned = turns::turn(
             d,
             left,
             marks,
@@ -135,11 +57,11 @@ fn descend(
             via,
         );
         match turned {
-            Turn::On { depth, left: count } => {
+            Course::On { depth, left: count } => {
                 d = depth;
                 left = count;
             }
-            Turn::Back(j) => return Reach::Looped { depth: d, back: j },
+            Course::Back(j) => return Reach::Looped { depth: d, back: j },
         }
     }
     Reach::Ends(left)

@@ -11,12 +11,6 @@ use arrays::START;
 // No transition: the number after the last that a plan may have.
 pub const NONE: usize = 2048;
 
-// A cost: what each transition weighs, and what each state adds where it is the last.
-pub struct Weights {
-    pub weight: [u32; 2048],
-    pub close: [u32; 512],
-}
-
 // Whether a marks value has the start mark.
 pub fn is_start(mark: u8) -> bool
     ensures { λ r. ⌜ r ≡ startMark mark ⌝ }

@@ -3,7 +3,8 @@ use Prim.Native.Nat.{ℕ}
 use native.Mathlib.Omega.{arith}
 use borrow.Author.Needs.{needs}
 use Rattle.search.specs.Arrays.{Arrays, arrays}
-use Rattle.reach.specs.Explored.{Table, tableOf}
+use Rattle.turns.specs.Search.{Table}
+use Rattle.reach.specs.Explored.{tableOf}
 use Rattle.greatest_search.proofs.GreatestFigure.{none-quoted, loop-quoted, climbable, dead-end-quoted}
 use Rattle.greatest_search.proofs.greatest.Statement.{statement}
 use Rattle.greatest_search.proofs.greatest.Tie as tie

@@ -1,25 +1,54 @@
--- `plan::held`: the plan value that the image is read into is the one that fresh makes of one state. Assumes nothing.
-use mathlib.Core.Path.{_∙_, subst}
+-- `plan::held`: arrays of zeros filled from an image are its plan over the plan value with 0 states, all else zero; beside a refusal that value itself comes back.
+-- Assumes nothing.
+use mathlib.Core.Path.{_≡_, refl, sym, ap, _∙_}
+use Rattle.graph.specs.Graph.{Graph}
+use Rattle.rules.specs.declared.Answer.{Answer}
 use Rattle.rules.specs.Image.{readImage}
-use Rattle.plan.specs.declared.Plan.{Plan}
-use Rattle.plan.specs.Promise.{Edit}
-use Rattle.plan.proofs.Holding.{blank-fresh}
+use Rattle.arrays.specs.Tables.{graphOf}
+use Rattle.image.specs.Read.{came}
+use Rattle.plan.specs.View.{view, noPlan}
+use Rattle.plan.proofs.Edits.{refusal, acceptance}
 use borrow.Author.Needs.{needs}
 use Rattle.plan.proofs.held.Statement.{statement}
 use Rattle.plan.proofs.held.Tie as tie
 use Rattle.plan.proofs.held.Reads as reads
 use Rattle.plan.proofs.held.Lts as lts
+use Rattle.image.proofs.reading.fill.Reads as fill-reads
 use Rattle.plan.proofs.blank.Reads as blank-reads
-use Rattle.plan.proofs.replace.Reads as replace-reads
+
+fill-requires : tie.Need-fill-requires
+fill-requires c κs = search needs
+
+enum-told : tie.Need-enum-told
+enum-told c = search needs
+
+enum-told-2 : tie.Need-enum-told-2
+enum-told-2 c = search needs
 
 blank-requires : tie.Need-blank-requires
 blank-requires c κs = search needs
 
-replace-requires : tie.Need-replace-requires
-replace-requires c κs = search needs
+-- what the arrays hold is what the rules give, by its answer
+abbrev filled : tie.After-fill → Graph
+filled c = graphOf (c .fill .result .states) (c .fill .result .transitions) (c .fill .last .1 .0) (c .fill .last .1 .1 .0) (c .fill .last .1 .1 .1 .0) (c .fill .last .1 .1 .1 .1 .0) (c .fill .last .1 .1 .1 .1 .1 .0)
+
+ruled : (c : tie.After-fill) → readImage (c .before .before .before .before .before .before .before .args .octets .now) ≡ came (c .fill .result .answer) (filled c)
+ruled c = sym (c .fill .ensures .rule)
 
 returns : tie.Need-returns
-returns c = subst (λ (p : Plan). Edit p (readImage (c .before .before .before .args .octets .now)) (c .replace .result)) (c .before .blank .ensures ∙ blank-fresh) (c .replace .ensures)
+unfolding view
+returns c =
+    let e = c .before .before .fill .ensures in
+    let g = filled (c .before .before) in
+    rw (c .enum-told .given .1)
+    (acceptance noPlan _ (readImage (c .before .before .before .before .before .before .before .before .before .args .octets .now)) g (ruled (c .before .before) ∙ ap (λ (x : Answer). came x g) (c .enum-told .given .1)) refl
+    (record { marks = e .marks; from = e .later .from; to = e .later .to; low = e .later .low; high = e .later .high }))
+
+returns-2 : tie.Need-returns-2
+returns-2 c =
+    let g = filled (c .before .before .before) in
+    rw (c .before .enum-told2 .given .1, c .blank .ensures)
+    (refusal noPlan (readImage (c .before .before .before .before .before .before .before .before .before .before .args .octets .now)) _ (ruled (c .before .before .before) ∙ ap (λ (x : Answer). came x g) (c .before .enum-told2 .given .1)))
 
 pub held-spec : {M : Type 1} → statement M
-held-spec = tie.close (tie.spec blank-requires replace-requires returns)
+held-spec = tie.close (tie.spec fill-requires enum-told enum-told-2 blank-requires returns returns-2)

@@ -1,201 +1,147 @@
--- `plan::join` meets its contract: the plan's limits, the transition's own grounds and the list's room are looked at in the rule's order.
--- Assumes nothing.
+-- `plan::join`: the grounds are the rule's rows (`answered`); where none holds the transition is put at the end, and otherwise the plan stays. Assumes nothing.
 use Prim.Native.Nat.{_≤_, _<_}
-use mathlib.Core.Bool.{true, false}
-use mathlib.Core.List.{List, [], _∷_}
-use mathlib.Core.Path.{_≡_, sym, ap, _∙_}
+use mathlib.Core.Bool.{true}
+use mathlib.Core.List.{[], _∷_}
+use mathlib.Core.Path.{_≡_, sym}
 use native.Mathlib.Omega.{arith}
 use borrow.Author.Needs.{needs}
-use borrow.Author.Tests.{le-leb, lt-leb, not-true, not-false}
+use borrow.Author.Tests.{leb-false, not-false}
 use lib.Dec.{leb}
-use Rattle.graph.specs.Graph.{Transition, count}
-use Rattle.rules.specs.declared.Refusal.the-variants.{PlanLimits, ListFull}
-use Rattle.rules.specs.Calls.{step, join}
+use Rattle.graph.specs.Graph.{states, count}
+use Rattle.rules.specs.declared.Refusal.the-variants.{ListFull}
 use Rattle.rules.specs.Image.{transitionRows}
 use Rattle.rules.specs.Limits.{within}
-use Rattle.rules.specs.Refusal.{refused, said}
-use Rattle.rules.specs.Rules.{withTransition}
-use Rattle.rules.specs.Table.{Row, first, NoneHolds}
+use Rattle.rules.specs.Refusal.{said}
+use Rattle.rules.specs.Rules.{joinRows, withTransition}
+use Rattle.rules.specs.Table.{first}
 use Rattle.rules.proofs.ReadWrite.{limited, Bounded, bounded, rows-ok}
-use Rattle.rules.proofs.Tables.{accepted-only, after-none, after-refused}
+use Rattle.rules.proofs.Tables.{none-append}
 use Rattle.arrays.specs.Tables.{transition}
-use Rattle.plan.specs.declared.Plan.{Plan}
 use Rattle.plan.specs.View.{view}
-use Rattle.plan.proofs.Edits.{refusal, acceptance, joined, view-joined, past-joined}
-use Rattle.plan.proofs.Values.{Sized, states-view, count-view}
+use Rattle.plan.proofs.Edits.{stays, becomes, none-holds, joined, view-joined, past-joined}
+use Rattle.plan.proofs.Values.{Sized, states-view, count-view, limits-view}
 use Rattle.plan.proofs.join.Statement.{statement}
 use Rattle.plan.proofs.join.Tie as tie
 use Rattle.plan.proofs.join.Reads as reads
 use Rattle.plan.proofs.join.Lts as lts
-use Rattle.arrays.proofs.limits.checked.Reads as checked-reads
-use Rattle.plan.proofs.accept.Reads as accept-reads
-use Rattle.plan.proofs.refuse.Reads as refuse-reads
-use Rattle.plan.proofs.in_limits.Reads as in-limits-reads
-
--- the row of a full list
-abbrev full : Plan → List Row
-full p = (ListFull, leb 2048 (count (view p))) ∷ []
+use Rattle.grounds.proofs.join_grounds.Reads as join-grounds-reads
+use Rattle.grounds.proofs.in_limits.Reads as in-limits-reads
 
 in-limits-requires : tie.Need-in-limits-requires
 in-limits-requires c κs = search needs
 
-refuse-requires : tie.Need-refuse-requires
-refuse-requires c κs = search needs
+join-grounds-requires : tie.Need-join-grounds-requires
+join-grounds-requires c κs = search needs
 
-returns : tie.Need-returns
-returns c =
-    let p = c .before .before .before .before .before .before .before .before .before .args .t1 in
-    let a = c .before .before .before .before .before .before .before .before .before .args in
-    let w : within (view p) ≡ false = sym (c .before .before .in-limits .ensures) ∙ not-true _ (c .before .if1 .taken) in
-    rw (c .refuse .ensures) (refusal p (step (view p) (join (transition (a .from) (a .to) (a .low) (a .high)))) PlanLimits (rw w))
-
-checked-requires : tie.Need-checked-requires
-checked-requires c κs = search needs
-
-enum-known-grounds : tie.Need-enum-known-grounds
-enum-known-grounds c = search needs
-
-refuse-requires-2 : tie.Need-refuse-requires-2
-refuse-requires-2 c κs = search needs
-
-returns-2 : tie.Need-returns-2
-returns-2 c =
-    let a = c .before .before .before .before .before .before .before .before .before .before .before .before .before .args in
-    let p = a .t1 in
-    let t = transition (a .from) (a .to) (a .low) (a .high) in
-    let r = c .before .before .grounds .given .0 .0 in
-    let w : within (view p) ≡ true = sym (c .before .before .before .before .before .before .in-limits .ensures) ∙ not-false _ (c .before .before .before .before .before .if1 .left) in
-    let k : first (transitionRows (p .states) t) ≡ refused r = sym (c .before .before .before .before .checked .ensures) ∙ ap said (c .before .before .grounds .given .1) in
-    rw (c .refuse2 .ensures) (refusal p (step (view p) (join t)) r (rw (w, states-view p) (after-refused (transitionRows (p .states) t) (full p) (withTransition (view p) t) r k)))
+-- the answer is the first row's
+answered : (c : tie.After-join-grounds) → said (c .join-grounds .result) ≡ first (joinRows (view (c .before .before .before .before .before .before .before .before .args .t1)) (transition (c .before .before .before .before .before .before .before .before .args .from) (c .before .before .before .before .before .before .before .before .args .to) (c .before .before .before .before .before .before .before .before .args .low) (c .before .before .before .before .before .before .before .before .args .high)))
+answered c = let p = c .before .before .before .before .before .before .before .before .args .t1 in rw (states-view p, count-view p, sym (limits-view p (c .before .in-limits .ensures))) (c .join-grounds .ensures)
 
 enum-told : tie.Need-enum-told
 enum-told c = search needs
 
--- what is known once the transition is accepted
-record Known (p : Plan) (t : Transition) : Type 0 where
-  sound : within (view p) ≡ true
-  grounds : NoneHolds (transitionRows (p .states) t)
-  numbers : Bounded (p .states) t
-  states : p .states ≤ 512
-  count : p .transitions ≤ 2048
+-- what is known of a join that is accepted
+record Known (c : tie.Start) : Type 0 where
+  numbers : Bounded (c .args .t1 .states) (transition (c .args .from) (c .args .to) (c .args .low) (c .args .high))
+  states : c .args .t1 .states ≤ 512
+  room : c .args .t1 .transitions < 2048
 
-known : (c : tie.After-enum-told) → Known (c .before .before .before .before .before .before .before .before .before .before .before .args .t1) (transition (c .before .before .before .before .before .before .before .before .before .before .before .args .from) (c .before .before .before .before .before .before .before .before .before .before .before .args .to) (c .before .before .before .before .before .before .before .before .before .before .before .args .low) (c .before .before .before .before .before .before .before .before .before .before .before .args .high))
+known : (c : tie.After-enum-told) → Known (c .before .before .before .before .before .before .before .before .before .before)
 known c =
-    let a = c .before .before .before .before .before .before .before .before .before .before .before .args in
-    let p = a .t1 in
-    let t = transition (a .from) (a .to) (a .low) (a .high) in
-    let w : within (view p) ≡ true = sym (c .before .before .before .before .in-limits .ensures) ∙ not-false _ (c .before .before .before .if1 .left) in
-    let k = accepted-only (transitionRows (p .states) t) tt tt (sym (c .before .before .checked .ensures) ∙ ap said (c .enum-told .given .1)) .0 in
+    let p = c .before .before .before .before .before .before .before .before .before .before .args .t1 in
+    let t = (transition (c .before .before .before .before .before .before .before .before .before .before .args .from) (c .before .before .before .before .before .before .before .before .before .before .args .to) (c .before .before .before .before .before .before .before .before .before .before .args .low) (c .before .before .before .before .before .before .before .before .before .before .args .high)) in
+    let k = none-holds (joinRows (view p) t) _ (c .enum-told .given .1) (answered (c .before .before)) in
+    let w : within (view p) ≡ true = not-false _ (k .0) in
+    let q = none-append (transitionRows (states (view p)) t) ((ListFull, leb 2048 (count (view p))) ∷ []) (k .1) in
     let l = limited (view p) w in
     record {
-      sound = w;
-      grounds = k;
-      numbers = bounded (p .states) t (rows-ok (p .states) t k);
+      numbers = rw (states-view p) at (bounded (states (view p)) t (rows-ok (states (view p)) t (q .0)));
       states = omega (arith, l, states-view p);
-      count = omega (arith, l, count-view p);
+      room = omega (arith, leb-false 2048 (count (view p)) (q .1 .0), count-view p);
     }
 
-refuse-requires-3 : tie.Need-refuse-requires-3
-refuse-requires-3 c κs = search needs
+cast-p : tie.Need-cast-p
+cast-p c = omega (arith, known c .numbers, known c .states)
 
-returns-3 : tie.Need-returns-3
-returns-3 c =
-    let a = c .before .before .before .before .before .before .before .before .before .before .before .before .before .args in
-    let p = a .t1 in
-    let t = transition (a .from) (a .to) (a .low) (a .high) in
-    let k = known (c .before .before) in
-    rw (c .refuse3 .ensures)
-    (refusal p (step (view p) (join (transition (a .from) (a .to) (a .low) (a .high)))) ListFull
-    (rw (k .sound, states-view p)
-    (after-none (transitionRows (p .states) t) (full p) (withTransition (view p) t) (k .grounds) ∙ rw (count-view p, le-leb 2048 (p .transitions) (c .before .if2 .taken)))))
+mul-p : tie.Need-mul-p
+mul-p c = omega (arith, known c .room)
+
+element-write-p : tie.Need-element-write-p
+element-write-p c = omega (arith, known c .room)
+
+cast-p-2 : tie.Need-cast-p-2
+cast-p-2 c = omega (arith, known c .numbers, known c .states)
+
+mul-p-2 : tie.Need-mul-p-2
+mul-p-2 c = omega (arith, known c .room)
+
+element-write-p-2 : tie.Need-element-write-p-2
+element-write-p-2 c = omega (arith, known c .room)
+
+cast-p-3 : tie.Need-cast-p-3
+cast-p-3 c = omega (arith, known c .numbers, known c .states)
+
+mul-p-3 : tie.Need-mul-p-3
+mul-p-3 c = omega (arith, known c .room)
+
+element-write-p-3 : tie.Need-element-write-p-3
+element-write-p-3 c = omega (arith, known c .room)
+
+cast-p-4 : tie.Need-cast-p-4
+cast-p-4 c = omega (arith, known c .numbers, known c .states)
+
+mul-p-4 : tie.Need-mul-p-4
+mul-p-4 c = omega (arith, known c .room)
+
+element-write-p-4 : tie.Need-element-write-p-4
+element-write-p-4 c = omega (arith, known c .room)
+
+add-p : tie.Need-add-p
+add-p c = omega (arith, known c .room)
+
+enum-told-2 : tie.Need-enum-told-2
+enum-told-2 c = search needs
 
 -- the arrays of a plan value have their lengths
 sized : (c : tie.Start) → Sized (c .args .t1)
 sized c = record { marks = search needs; from = search needs; to = search needs; low = search needs; high = search needs }
 
-cast-plan : tie.Need-cast-plan
-cast-plan c = omega (arith, known (c .before))
-
-mul-plan : tie.Need-mul-plan
-mul-plan c = search needs
-
-element-write-plan : tie.Need-element-write-plan
-element-write-plan c = search needs
-
-cast-plan-2 : tie.Need-cast-plan-2
-cast-plan-2 c = omega (arith, known (c .before))
-
-mul-plan-2 : tie.Need-mul-plan-2
-mul-plan-2 c = search needs
-
-element-write-plan-2 : tie.Need-element-write-plan-2
-element-write-plan-2 c = search needs
-
-cast-plan-3 : tie.Need-cast-plan-3
-cast-plan-3 c = omega (arith, known (c .before))
-
-mul-plan-3 : tie.Need-mul-plan-3
-mul-plan-3 c = search needs
-
-element-write-plan-3 : tie.Need-element-write-plan-3
-element-write-plan-3 c = search needs
-
-cast-plan-4 : tie.Need-cast-plan-4
-cast-plan-4 c = omega (arith, known (c .before))
-
-mul-plan-4 : tie.Need-mul-plan-4
-mul-plan-4 c = search needs
-
-element-write-plan-4 : tie.Need-element-write-plan-4
-element-write-plan-4 c = search needs
-
-add-plan : tie.Need-add-plan
-add-plan c = search needs
-
-accept-requires : tie.Need-accept-requires
-accept-requires c κs = search needs
-
-returns-4 : tie.Need-returns-4
-returns-4 c =
-    let a = c .before .before .before .before .before .before .before .before .before .before .before .before .before .args in
+returns : tie.Need-returns
+returns c =
+    let a = c .before .before .before .before .before .before .before .before .before .before .args in
     let p = a .t1 in
-    let t = transition (a .from) (a .to) (a .low) (a .high) in
-    let k = known (c .before .before) in
-    let z = sized (c .before .before .before .before .before .before .before .before .before .before .before .before .before) in
-    let m : p .transitions < 2048 = c .before .if2 .left in
-    rw (c .accept .ensures)
-    (acceptance p (joined p (a .from) (a .to) (a .low) (a .high)) (step (view p) (join t)) (withTransition (view p) t)
-    (rw (k .sound, states-view p)
-    (after-none (transitionRows (p .states) t) (full p) (withTransition (view p) t) (k .grounds) ∙ rw (count-view p, lt-leb 2048 (p .transitions) m)))
-    (view-joined p z (a .from) (a .to) (a .low) (a .high) m)
-    (past-joined p z (a .from) (a .to) (a .low) (a .high) (k .states) m))
+    let t = (transition (c .before .before .before .before .before .before .before .before .before .before .args .from) (c .before .before .before .before .before .before .before .before .before .before .args .to) (c .before .before .before .before .before .before .before .before .before .before .args .low) (c .before .before .before .before .before .before .before .before .before .before .args .high)) in
+    let z = sized (c .before .before .before .before .before .before .before .before .before .before) in
+    let k = known c in
+    becomes p (joined p (a .from) (a .to) (a .low) (a .high)) (joinRows (view p) t) (withTransition (view p) t) _ (c .enum-told .given .1) (answered (c .before .before))
+    (view-joined p z (a .from) (a .to) (a .low) (a .high) (k .room)) (past-joined p z (a .from) (a .to) (a .low) (a .high) (k .states) (k .room))
+
+returns-2 : tie.Need-returns-2
+returns-2 c =
+    let p = c .before .before .before .before .before .before .before .before .before .before .args .t1 in
+    let t = (transition (c .before .before .before .before .before .before .before .before .before .before .args .from) (c .before .before .before .before .before .before .before .before .before .before .args .to) (c .before .before .before .before .before .before .before .before .before .before .args .low) (c .before .before .before .before .before .before .before .before .before .before .args .high)) in
+    stays p (joinRows (view p) t) (withTransition (view p) t) _ _ (c .enum-told2 .given .1) (answered (c .before .before))
 
 pub join-spec : {M : Type 1} → statement M
 join-spec =
     tie.close
     (tie.spec
     in-limits-requires
-    refuse-requires
-    returns
-    checked-requires
-    enum-known-grounds
-    refuse-requires-2
-    returns-2
+    join-grounds-requires
     enum-told
-    refuse-requires-3
-    returns-3
-    cast-plan
-    mul-plan
-    element-write-plan
-    cast-plan-2
-    mul-plan-2
-    element-write-plan-2
-    cast-plan-3
-    mul-plan-3
-    element-write-plan-3
-    cast-plan-4
-    mul-plan-4
-    element-write-plan-4
-    add-plan
-    accept-requires
-    returns-4)
+    cast-p
+    mul-p
+    element-write-p
+    cast-p-2
+    mul-p-2
+    element-write-p-2
+    cast-p-3
+    mul-p-3
+    element-write-p-3
+    cast-p-4
+    mul-p-4
+    element-write-p-4
+    add-p
+    enum-told-2
+    returns
+    returns-2)

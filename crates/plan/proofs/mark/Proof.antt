@@ -1,104 +1,98 @@
--- `plan::mark` meets its contract: each test is the next ground of the rule, in the rule's order.
--- Assumes nothing.
-use Prim.Native.Nat.{_≤_}
-use mathlib.Core.Bool.{true, false}
-use mathlib.Core.Path.{_≡_, sym, _∙_}
+-- `plan::mark`: the grounds are the rule's rows (`answered`); where none holds the value is put, and otherwise the plan stays. Assumes nothing.
+use Prim.Native.Nat.{_≤_, _<_}
+use mathlib.Core.Bool.{true}
+use mathlib.Core.Path.{_≡_, sym}
 use native.Mathlib.Omega.{arith}
 use borrow.Author.Needs.{needs}
-use borrow.Author.Tests.{le-leb, lt-leb, not-true, not-false}
-use Rattle.rules.specs.declared.Refusal.the-variants.{PlanLimits, StateNumber, MarksValue}
-use Rattle.rules.specs.Limits.{within}
-use Rattle.rules.specs.Calls.{step, mark}
-use Rattle.rules.specs.Rules.{withMark}
+use borrow.Author.Tests.{leb-true, leb-false, not-false}
+use Rattle.graph.specs.Graph.{states}
+use Rattle.rules.specs.Limits.{within, marksOk}
+use Rattle.rules.specs.Refusal.{said}
+use Rattle.rules.specs.Rules.{markRows, withMark}
+use Rattle.rules.specs.Table.{first}
 use Rattle.rules.proofs.ReadWrite.{limited}
 use Rattle.plan.specs.View.{view}
-use Rattle.plan.proofs.Edits.{refusal, acceptance, marked, view-marked, past-marked}
-use Rattle.plan.proofs.Values.{Sized, states-view, count-view}
+use Rattle.plan.proofs.Edits.{stays, becomes, none-holds, marked, view-marked, past-marked}
+use Rattle.plan.proofs.Values.{Sized, states-view, count-view, limits-view}
 use Rattle.plan.proofs.mark.Statement.{statement}
 use Rattle.plan.proofs.mark.Tie as tie
 use Rattle.plan.proofs.mark.Reads as reads
 use Rattle.plan.proofs.mark.Lts as lts
-use Rattle.plan.proofs.accept.Reads as accept-reads
-use Rattle.plan.proofs.refuse.Reads as refuse-reads
-use Rattle.plan.proofs.in_limits.Reads as in-limits-reads
+use Rattle.grounds.proofs.mark_grounds.Reads as mark-grounds-reads
+use Rattle.grounds.proofs.in_limits.Reads as in-limits-reads
 
 in-limits-requires : tie.Need-in-limits-requires
 in-limits-requires c κs = search needs
 
-refuse-requires : tie.Need-refuse-requires
-refuse-requires c κs = search needs
+mark-grounds-requires : tie.Need-mark-grounds-requires
+mark-grounds-requires c κs = search needs
 
-returns : tie.Need-returns
-returns c =
-    let p = c .before .before .before .before .before .before .before .before .before .args .t1 in
-    let w : within (view p) ≡ false = sym (c .before .before .in-limits .ensures) ∙ not-true _ (c .before .if1 .taken) in
-    rw (c .refuse .ensures) (refusal p (step (view p) (mark (c .before .before .before .before .before .before .before .before .before .args .state) (c .before .before .before .before .before .before .before .before .before .args .value))) PlanLimits (rw w))
+-- the answer is the first row's
+answered : (c : tie.After-mark-grounds) → said (c .mark-grounds .result) ≡ first (markRows (view (c .before .before .before .before .before .before .before .before .args .t1)) (c .before .before .before .before .before .before .before .before .args .state) (c .before .before .before .before .before .before .before .before .args .value))
+answered c = let p = c .before .before .before .before .before .before .before .before .args .t1 in rw (states-view p, sym (limits-view p (c .before .in-limits .ensures))) (c .mark-grounds .ensures)
 
-refuse-requires-2 : tie.Need-refuse-requires-2
-refuse-requires-2 c κs = search needs
+enum-told : tie.Need-enum-told
+enum-told c = search needs
 
-returns-2 : tie.Need-returns-2
-returns-2 c =
+-- what is known of a mark that is accepted
+record Known (c : tie.Start) : Type 0 where
+  below : c .args .state < c .args .t1 .states
+  few : c .args .value ≤ 7
+  states : c .args .t1 .states ≤ 512
+  count : c .args .t1 .transitions ≤ 2048
+
+known : (c : tie.After-enum-told) → Known (c .before .before .before .before .before .before .before .before .before .before)
+known c =
     let p = c .before .before .before .before .before .before .before .before .before .before .args .t1 in
-    let w : within (view p) ≡ true = sym (c .before .before .before .in-limits .ensures) ∙ not-false _ (c .before .before .if1 .left) in
-    rw (c .refuse2 .ensures)
-    (refusal p (step (view p) (mark (c .before .before .before .before .before .before .before .before .before .before .args .state) (c .before .before .before .before .before .before .before .before .before .before .args .value))) StateNumber
-    (rw (w, states-view p, le-leb (p .states) (c .before .before .before .before .before .before .before .before .before .before .args .state) (c .before .if2 .taken))))
+    let k = none-holds (markRows (view p) (c .before .before .before .before .before .before .before .before .before .before .args .state) (c .before .before .before .before .before .before .before .before .before .before .args .value)) _ (c .enum-told .given .1) (answered (c .before .before)) in
+    let w : within (view p) ≡ true = not-false _ (k .0) in
+    let l = limited (view p) w in
+    let v : marksOk (c .before .before .before .before .before .before .before .before .before .before .args .value) ≡ true = not-false _ (k .1 .1 .0) in
+    record {
+      below = omega (arith, leb-false (states (view p)) (c .before .before .before .before .before .before .before .before .before .before .args .state) (k .1 .0), states-view p);
+      few = leb-true (c .before .before .before .before .before .before .before .before .before .before .args .value) 7 v;
+      states = omega (arith, l, states-view p);
+      count = omega (arith, l, count-view p);
+    }
 
-refuse-requires-3 : tie.Need-refuse-requires-3
-refuse-requires-3 c κs = search needs
+cast-p : tie.Need-cast-p
+cast-p c = omega (arith, known c .few)
 
-returns-3 : tie.Need-returns-3
-returns-3 c =
-    let p = c .before .before .before .before .before .before .before .before .before .before .before .args .t1 in
-    let w : within (view p) ≡ true = sym (c .before .before .before .before .in-limits .ensures) ∙ not-false _ (c .before .before .before .if1 .left) in
-    rw (c .refuse3 .ensures)
-    (refusal p (step (view p) (mark (c .before .before .before .before .before .before .before .before .before .before .before .args .state) (c .before .before .before .before .before .before .before .before .before .before .before .args .value))) MarksValue
-    (rw (w, states-view p, lt-leb (p .states) (c .before .before .before .before .before .before .before .before .before .before .before .args .state) (c .before .before .if2 .left), lt-leb (c .before .before .before .before .before .before .before .before .before .before .before .args .value) 7 (c .before .if3 .taken))))
+element-write-p : tie.Need-element-write-p
+element-write-p c = omega (arith, known c .below, known c .states)
 
-cast-plan : tie.Need-cast-plan
-cast-plan c = omega arith
-
-element-write-plan : tie.Need-element-write-plan
-element-write-plan c =
-    let p = c .before .before .before .before .before .before .before .before .before .before .args .t1 in
-    let w : within (view p) ≡ true = sym (c .before .before .before .in-limits .ensures) ∙ not-false _ (c .before .before .if1 .left) in
-    omega (arith, limited (view p) w, states-view p)
-
-accept-requires : tie.Need-accept-requires
-accept-requires c κs = search needs
+enum-told-2 : tie.Need-enum-told-2
+enum-told-2 c = search needs
 
 -- the arrays of a plan value have their lengths
 sized : (c : tie.Start) → Sized (c .args .t1)
 sized c = record { marks = search needs; from = search needs; to = search needs; low = search needs; high = search needs }
 
-returns-4 : tie.Need-returns-4
-returns-4 c =
-    let p = c .before .before .before .before .before .before .before .before .before .before .before .args .t1 in
-    let state = c .before .before .before .before .before .before .before .before .before .before .before .args .state in
-    let value = c .before .before .before .before .before .before .before .before .before .before .before .args .value in
-    let w : within (view p) ≡ true = sym (c .before .before .before .before .in-limits .ensures) ∙ not-false _ (c .before .before .before .if1 .left) in
-    let z = sized (c .before .before .before .before .before .before .before .before .before .before .before) in
-    let l = limited (view p) w in
-    let n : p .states ≤ 512 = omega (arith, l, states-view p) in
-    rw (c .accept .ensures)
-    (acceptance p (marked p state value) (step (view p) (mark state value)) (withMark (view p) state value)
-    (rw (w, states-view p, lt-leb (p .states) state (c .before .before .if2 .left), le-leb value 7 (c .before .if3 .left)))
-    (view-marked p state value (omega (arith, z .marks)))
-    (past-marked p z state value (c .before .before .if2 .left) n (omega (arith, l, count-view p))))
+returns : tie.Need-returns
+returns c =
+    let p = c .before .before .before .before .before .before .before .before .before .before .args .t1 in
+    let state = c .before .before .before .before .before .before .before .before .before .before .args .state in
+    let value = c .before .before .before .before .before .before .before .before .before .before .args .value in
+    let z = sized (c .before .before .before .before .before .before .before .before .before .before) in
+    let k = known c in
+    becomes p (marked p state value) (markRows (view p) state value) (withMark (view p) state value) _ (c .enum-told .given .1) (answered (c .before .before))
+    (view-marked p state value (omega (arith, z .marks, k .below, k .states))) (past-marked p z state value (k .below) (k .states) (k .count))
+
+returns-2 : tie.Need-returns-2
+returns-2 c =
+    let p = c .before .before .before .before .before .before .before .before .before .before .args .t1 in
+    stays p (markRows (view p) (c .before .before .before .before .before .before .before .before .before .before .args .state) (c .before .before .before .before .before .before .before .before .before .before .args .value)) (withMark (view p) (c .before .before .before .before .before .before .before .before .before .before .args .state) (c .before .before .before .before .before .before .before .before .before .before .args .value)) _ _
+    (c .enum-told2 .given .1) (answered (c .before .before))
 
 pub mark-spec : {M : Type 1} → statement M
 mark-spec =
     tie.close
     (tie.spec
     in-limits-requires
-    refuse-requires
+    mark-grounds-requires
+    enum-told
+    cast-p
+    element-write-p
+    enum-told-2
     returns
-    refuse-requires-2
-    returns-2
-    refuse-requires-3
-    returns-3
-    cast-plan
-    element-write-plan
-    accept-requires
-    returns-4)
+    returns-2)

@@ -1,45 +1,118 @@
--- `plan::read`: the old plan's limits are the first row; past it the image alone decides. Assumes nothing.
-use mathlib.Core.Bool.{true, false}
-use mathlib.Core.Path.{_≡_, sym, _∙_, subst}
-use borrow.Author.Tests.{not-true, not-false}
+-- `plan::read`: the old plan's limits are the first row, then the image's decide. An accepted image's plan is laid over the old plan's arrays (`overlaid`);
+-- otherwise the plan stays. Assumes nothing.
+use Prim.Native.Nat.{_≤_}
+use mathlib.Core.Path.{_≡_, sym, ap, _∙_, subst}
+use native.Mathlib.Omega.{arith}
 use Rattle.graph.specs.Graph.{Graph}
-use Rattle.rules.specs.declared.Refusal.the-variants.{PlanLimits}
+use Rattle.rules.specs.declared.Answer.{Answer}
 use Rattle.rules.specs.Calls.{step, read}
-use Rattle.rules.specs.Limits.{within}
 use Rattle.rules.specs.Refusal.{Result}
-use Rattle.rules.proofs.Basic.{read-given}
-use Rattle.plan.specs.Promise.{Edit}
-use Rattle.plan.specs.View.{view}
-use Rattle.plan.proofs.Edits.{refusal}
+use Rattle.image.specs.Read.{came}
+use Rattle.plan.specs.declared.Plan.{Plan}
+use Rattle.plan.specs.View.{view, planOf}
+use Rattle.plan.proofs.Edits.{Past, refusal, acceptance, InArrays, overlaid, view-overlaid, past-overlaid}
+use Rattle.plan.proofs.Values.{Sized, limits-view}
 use borrow.Author.Needs.{needs}
 use Rattle.plan.proofs.read.Statement.{statement}
 use Rattle.plan.proofs.read.Tie as tie
 use Rattle.plan.proofs.read.Reads as reads
 use Rattle.plan.proofs.read.Lts as lts
-use Rattle.plan.proofs.refuse.Reads as refuse-reads
-use Rattle.plan.proofs.replace.Reads as replace-reads
-use Rattle.plan.proofs.in_limits.Reads as in-limits-reads
+use Rattle.places.proofs.lay.Reads as lay-reads
+use Rattle.places.proofs.lay_marks.Reads as lay-marks-reads
+use Rattle.plan.proofs.take.Reads as take-reads
+use Rattle.grounds.proofs.in_limits.Reads as in-limits-reads
 
 in-limits-requires : tie.Need-in-limits-requires
 in-limits-requires c κs = search needs
 
-refuse-requires : tie.Need-refuse-requires
-refuse-requires c κs = search needs
+take-requires : tie.Need-take-requires
+take-requires c κs = search needs
+
+enum-told : tie.Need-enum-told
+enum-told c = search needs
+
+-- the arrays of a plan value have their lengths
+sized : (c : tie.Start) → Sized (c .args .t1)
+sized c = record { marks = search needs; from = search needs; to = search needs; low = search needs; high = search needs }
+
+-- the plan value that was taken from the image
+taken : tie.After-take → Plan
+taken c = planOf (c .take .result .states) (c .take .result .transitions) (c .take .last .1 .1 .0) (c .take .last .1 .1 .1 .0) (c .take .last .1 .1 .1 .1 .0) (c .take .last .1 .1 .1 .1 .1 .0) (c .take .last .1 .1 .1 .1 .1 .1 .0)
+
+-- its plan is what the rules give, by its answer
+ruled : (c : tie.After-take) → step (view (c .before .before .before .before .before .before .before .before .before .before .before .before .before .before .args .t1)) (read (c .before .before .before .before .before .before .before .before .before .before .before .before .before .before .args .octets .now)) ≡ came (c .take .result .answer) (view (taken c))
+unfolding view taken
+ruled c = rw (sym (limits-view (c .before .before .before .before .before .before .before .before .before .before .before .before .before .before .args .t1) (c .before .before .before .before .before .before .in-limits .ensures))) (sym (c .take .ensures .rule))
+
+-- it has room in its arrays
+room : (c : tie.After-take) → InArrays (taken c)
+unfolding taken
+room c =
+    let e = c .take .ensures in
+    record { marks = e .states; from = e .transitions .0; to = e .transitions .1; low = e .transitions .2; high = e .transitions .3 }
+
+-- an accepted one's counts are a plan's
+counts : (c : tie.After-enum-told) → (taken (c .before .before) .states ≤ 512) × (taken (c .before .before) .transitions ≤ 2048)
+unfolding taken
+counts c = c .before .before .take .ensures .counts (c .enum-told .given .1)
+
+lay-marks-requires : tie.Need-lay-marks-requires
+unfolding taken
+lay-marks-requires c κs = omega (arith, counts (c .before .before), room (c .before .before .before .before), sized (c .before .before .before .before .before .before .before .before .before .before .before .before .before .before .before .before .before .before))
+
+lay-requires : tie.Need-lay-requires
+unfolding taken
+lay-requires c κs = omega (arith, counts (c .before .before .before .before .before), room (c .before .before .before .before .before .before .before), sized (c .before .before .before .before .before .before .before .before .before .before .before .before .before .before .before .before .before .before .before .before .before))
+
+lay-requires-2 : tie.Need-lay-requires-2
+unfolding taken
+lay-requires-2 c κs = omega (arith, counts (c .before .before .before .before .before .before .before .before), room (c .before .before .before .before .before .before .before .before .before .before), sized (c .before .before .before .before .before .before .before .before .before .before .before .before .before .before .before .before .before .before .before .before .before .before .before .before))
+
+lay-requires-3 : tie.Need-lay-requires-3
+unfolding taken
+lay-requires-3 c κs = omega (arith, counts (c .before .before .before .before .before .before .before .before .before .before .before), room (c .before .before .before .before .before .before .before .before .before .before .before .before .before), sized (c .before .before .before .before .before .before .before .before .before .before .before .before .before .before .before .before .before .before .before .before .before .before .before .before .before .before .before))
+
+lay-requires-4 : tie.Need-lay-requires-4
+unfolding taken
+lay-requires-4 c κs = omega (arith, counts (c .before .before .before .before .before .before .before .before .before .before .before .before .before .before), room (c .before .before .before .before .before .before .before .before .before .before .before .before .before .before .before .before), sized (c .before .before .before .before .before .before .before .before .before .before .before .before .before .before .before .before .before .before .before .before .before .before .before .before .before .before .before .before .before .before))
+
+enum-told-2 : tie.Need-enum-told-2
+enum-told-2 c = search needs
 
 returns : tie.Need-returns
+unfolding taken
 returns c =
-    let a = c .before .before .before .before .before .before .before .before .before .before .args in
-    let w : within (view (a .t1)) ≡ false = sym (c .before .before .in-limits .ensures) ∙ not-true _ (c .before .if1 .taken) in
-    rw (c .refuse .ensures) (refusal (a .t1) (step (view (a .t1)) (read (a .octets .now))) PlanLimits (rw w))
-
-replace-requires : tie.Need-replace-requires
-replace-requires c κs = search needs
+    let p = c .before .before .before .before .before .before .before .before .before .before .before .before .before .before .before .before .before .before .before .before .before .before .before .before .before .before .before .before .before .before .before .args .t1 in
+    let q = taken (c .before .before .before .before .before .before .before .before .before .before .before .before .before .before .before .before .before) in
+    let r = room (c .before .before .before .before .before .before .before .before .before .before .before .before .before .before .before .before .before) in
+    let n = counts (c .before .before .before .before .before .before .before .before .before .before .before .before .before .before .before) in
+    let o : Result Graph = step (view p) (read (c .before .before .before .before .before .before .before .before .before .before .before .before .before .before .before .before .before .before .before .before .before .before .before .before .before .before .before .before .before .before .before .args .octets .now)) in
+    let e : record { states = q .states; transitions = q .transitions; marks = c .before .before .before .before .before .before .before .before .before .before .before .before .lay-marks .last .0; from = c .before .before .before .before .before .before .before .before .before .lay .last .0; to = c .before .before .before .before .before .before .lay2 .last .0; low = c .before .before .before .lay3 .last .0; high = c .lay4 .last .0 } ≡ overlaid p q =
+    λ i. record { states = q .states; transitions = q .transitions; marks = c .before .before .before .before .before .before .before .before .before .before .before .before .lay-marks .ensures i; from = c .before .before .before .before .before .before .before .before .before .lay .ensures i; to = c .before .before .before .before .before .before .lay2 .ensures i; low = c .before .before .before .lay3 .ensures i; high = c .lay4 .ensures i } in
+    rw (c .before .before .before .before .before .before .before .before .before .before .before .before .before .before .before .enum-told .given .1)
+    (acceptance p _ o (view q) (ruled (c .before .before .before .before .before .before .before .before .before .before .before .before .before .before .before .before .before) ∙ ap (λ (x : Answer). came x (view q)) (c .before .before .before .before .before .before .before .before .before .before .before .before .before .before .before .enum-told .given .1)) (ap view e ∙ view-overlaid p q r)
+    (subst (Past p) (sym e) (past-overlaid p (sized (c .before .before .before .before .before .before .before .before .before .before .before .before .before .before .before .before .before .before .before .before .before .before .before .before .before .before .before .before .before .before .before)) q r (n .0) (n .1))))
 
 returns-2 : tie.Need-returns-2
 returns-2 c =
-    let a = c .before .before .before .before .before .before .before .before .before .before .args in
-    let w : within (view (a .t1)) ≡ true = sym (c .before .before .in-limits .ensures) ∙ not-false _ (c .before .if1 .left) in
-    subst (λ (o : Result Graph). Edit (a .t1) o (c .replace .result)) (sym (read-given (view (a .t1)) (a .octets .now) w)) (c .replace .ensures)
+    let p = c .before .before .before .before .before .before .before .before .before .before .before .before .before .before .before .before .args .t1 in
+    let q = taken (c .before .before) in
+    let o : Result Graph = step (view p) (read (c .before .before .before .before .before .before .before .before .before .before .before .before .before .before .before .before .args .octets .now)) in
+    rw (c .enum-told2 .given .1)
+    (refusal p o _ (ruled (c .before .before) ∙ ap (λ (x : Answer). came x (view q)) (c .enum-told2 .given .1)))
 
 pub read-spec : {M : Type 1} → statement M
-read-spec = tie.close (tie.spec in-limits-requires refuse-requires returns replace-requires returns-2)
+read-spec =
+    tie.close
+    (tie.spec
+    in-limits-requires
+    take-requires
+    enum-told
+    lay-marks-requires
+    lay-requires
+    lay-requires-2
+    lay-requires-3
+    lay-requires-4
+    enum-told-2
+    returns
+    returns-2)

@@ -1,108 +1,109 @@
--- `plan::unjoin` meets its contract: each test is the next ground of the rule, in the rule's order, and each array has its later places moved down.
+-- `plan::unjoin`: the grounds are the rule's rows (`answered`); where none holds each array has its later places moved down, and otherwise the plan stays.
 -- Assumes nothing.
 use Prim.Native.Nat.{_-_, _≤_, _<_}
-use mathlib.Core.Bool.{true, false}
+use mathlib.Core.Bool.{true}
 use mathlib.Core.Path.{_≡_, sym, ap, _∙_, subst}
 use native.Mathlib.Omega.{arith}
 use borrow.Author.Needs.{needs}
-use borrow.Author.Tests.{le-leb, lt-leb, not-true, not-false}
-use Rattle.rules.specs.declared.Refusal.the-variants.{PlanLimits, TransitionNumber}
+use borrow.Author.Tests.{leb-false, not-false}
+use Rattle.graph.specs.Graph.{count}
 use Rattle.rules.specs.Limits.{within}
-use Rattle.rules.specs.Calls.{step, unjoin}
-use Rattle.rules.specs.Rules.{without}
+use Rattle.rules.specs.Refusal.{said}
+use Rattle.rules.specs.Rules.{unjoinRows, without}
+use Rattle.rules.specs.Table.{first}
 use Rattle.rules.proofs.ReadWrite.{limited}
 use Rattle.plan.specs.View.{view}
-use Rattle.plan.proofs.Edits.{Past, refusal, acceptance, unjoined, view-unjoined, past-unjoined}
-use Rattle.plan.proofs.Values.{Sized, states-view, count-view}
+use Rattle.plan.proofs.Edits.{Past, stays, becomes, none-holds, unjoined, view-unjoined, past-unjoined}
+use Rattle.plan.proofs.Values.{Sized, states-view, count-view, limits-view}
 use Rattle.plan.proofs.unjoin.Statement.{statement}
 use Rattle.plan.proofs.unjoin.Tie as tie
 use Rattle.plan.proofs.unjoin.Reads as reads
 use Rattle.plan.proofs.unjoin.Lts as lts
-use Rattle.arrays.proofs.places.without.Reads as without-reads
-use Rattle.plan.proofs.in_limits.Reads as in-limits-reads
-use Rattle.plan.proofs.accept.Reads as accept-reads
-use Rattle.plan.proofs.refuse.Reads as refuse-reads
+use Rattle.places.proofs.remove.Reads as remove-reads
+use Rattle.grounds.proofs.unjoin_grounds.Reads as unjoin-grounds-reads
+use Rattle.grounds.proofs.in_limits.Reads as in-limits-reads
 
 in-limits-requires : tie.Need-in-limits-requires
 in-limits-requires c κs = search needs
 
-refuse-requires : tie.Need-refuse-requires
-refuse-requires c κs = search needs
+unjoin-grounds-requires : tie.Need-unjoin-grounds-requires
+unjoin-grounds-requires c κs = search needs
+
+-- the answer is the first row's
+answered : (c : tie.After-unjoin-grounds) → said (c .unjoin-grounds .result) ≡ first (unjoinRows (view (c .before .before .before .before .before .before .before .before .args .t1)) (c .before .before .before .before .before .before .before .before .args .number))
+answered c = let p = c .before .before .before .before .before .before .before .before .args .t1 in rw (count-view p, sym (limits-view p (c .before .in-limits .ensures))) (c .unjoin-grounds .ensures)
+
+enum-told : tie.Need-enum-told
+enum-told c = search needs
+
+-- what is known of an unjoin that is accepted
+record Known (c : tie.Start) : Type 0 where
+  below : c .args .number < c .args .t1 .transitions
+  states : c .args .t1 .states ≤ 512
+  count : c .args .t1 .transitions ≤ 2048
+
+known : (c : tie.After-enum-told) → Known (c .before .before .before .before .before .before .before .before .before .before)
+known c =
+    let p = c .before .before .before .before .before .before .before .before .before .before .args .t1 in
+    let k = none-holds (unjoinRows (view p) (c .before .before .before .before .before .before .before .before .before .before .args .number)) _ (c .enum-told .given .1) (answered (c .before .before)) in
+    let w : within (view p) ≡ true = not-false _ (k .0) in
+    let l = limited (view p) w in
+    record {
+      below = omega (arith, leb-false (count (view p)) (c .before .before .before .before .before .before .before .before .before .before .args .number) (k .1 .0), count-view p);
+      states = omega (arith, l, states-view p);
+      count = omega (arith, l, count-view p);
+    }
 
 -- the arrays of a plan value have their lengths
 sized : (c : tie.Start) → Sized (c .args .t1)
 sized c = record { marks = search needs; from = search needs; to = search needs; low = search needs; high = search needs }
 
+remove-requires : tie.Need-remove-requires
+remove-requires c κs = let k = known (c .before) in omega (arith, k .below, k .count, sized (c .before .before .before .before .before .before .before .before .before .before .before) .from)
+
+remove-requires-2 : tie.Need-remove-requires-2
+remove-requires-2 c κs = let k = known (c .before .before .before) in omega (arith, k .below, k .count, sized (c .before .before .before .before .before .before .before .before .before .before .before .before .before) .to)
+
+remove-requires-3 : tie.Need-remove-requires-3
+remove-requires-3 c κs = let k = known (c .before .before .before .before .before) in omega (arith, k .below, k .count, sized (c .before .before .before .before .before .before .before .before .before .before .before .before .before .before .before) .low)
+
+remove-requires-4 : tie.Need-remove-requires-4
+remove-requires-4 c κs = let k = known (c .before .before .before .before .before .before .before) in omega (arith, k .below, k .count, sized (c .before .before .before .before .before .before .before .before .before .before .before .before .before .before .before .before .before) .high)
+
+sub-p : tie.Need-sub-p
+sub-p c = omega (arith, known (c .before .before .before .before .before .before .before .before) .below)
+
+enum-told-2 : tie.Need-enum-told-2
+enum-told-2 c = search needs
+
 returns : tie.Need-returns
 returns c =
-    let p = c .before .before .before .before .before .before .before .before .before .args .t1 in
-    let w : within (view p) ≡ false = sym (c .before .before .in-limits .ensures) ∙ not-true _ (c .before .if1 .taken) in
-    rw (c .refuse .ensures)
-    (refusal p (step (view p) (unjoin (c .before .before .before .before .before .before .before .before .before .args .number))) PlanLimits (rw w))
-
-refuse-requires-2 : tie.Need-refuse-requires-2
-refuse-requires-2 c κs = search needs
+    let p = c .before .before .before .before .before .before .before .before .before .before .before .before .before .before .before .before .before .before .args .t1 in
+    let k = c .before .before .before .before .before .before .before .before .before .before .before .before .before .before .before .before .before .before .args .number in
+    let z = sized (c .before .before .before .before .before .before .before .before .before .before .before .before .before .before .before .before .before .before) in
+    let h = known (c .before .before .before .before .before .before .before .before) in
+    let e : record { states = p .states; transitions = p .transitions - 1; marks = p .marks; from = c .before .before .before .before .before .before .remove .last .0; to = c .before .before .before .before .remove2 .last .0; low = c .before .before .remove3 .last .0; high = c .remove4 .last .0 } ≡ unjoined p k =
+    λ i. record { states = p .states; transitions = p .transitions - 1; marks = p .marks; from = c .before .before .before .before .before .before .remove .ensures i; to = c .before .before .before .before .remove2 .ensures i; low = c .before .before .remove3 .ensures i; high = c .remove4 .ensures i } in
+    becomes p _ (unjoinRows (view p) k) (without (view p) k) _ (c .before .before .before .before .before .before .before .before .enum-told .given .1) (answered (c .before .before .before .before .before .before .before .before .before .before))
+    (ap view e ∙ view-unjoined p z k (h .below) (h .count)) (subst (Past p) (sym e) (past-unjoined p z k (h .states) (h .below) (h .count)))
 
 returns-2 : tie.Need-returns-2
 returns-2 c =
     let p = c .before .before .before .before .before .before .before .before .before .before .args .t1 in
-    let w : within (view p) ≡ true = sym (c .before .before .before .in-limits .ensures) ∙ not-false _ (c .before .before .if1 .left) in
-    rw (c .refuse2 .ensures)
-    (refusal p (step (view p) (unjoin (c .before .before .before .before .before .before .before .before .before .before .args .number))) TransitionNumber (rw (w, count-view p, le-leb (p .transitions) (c .before .before .before .before .before .before .before .before .before .before .args .number) (c .before .if2 .taken))))
-
-sub-t23 : tie.Need-sub-t23
-sub-t23 c = search needs
-
-room : (c : tie.After-high) → (c .before .before .before .before .before .before .before .before .before .before .before .before .before .before .args .number < c .before .before .before .before .before .before .before .before .before .before .before .before .before .before .args .t1 .transitions) × (c .before .before .before .before .before .before .before .before .before .before .before .before .before .before .args .t1 .transitions ≤ 2048)
-room c =
-    let p = c .before .before .before .before .before .before .before .before .before .before .before .before .before .before .args .t1 in
-    let w : within (view p) ≡ true = sym (c .before .before .before .before .before .before .before .in-limits .ensures) ∙ not-false _ (c .before .before .before .before .before .before .if1 .left) in
-    (omega arith, omega (arith, limited (view p) w, count-view p))
-
-without-requires : tie.Need-without-requires
-without-requires c κs = omega (arith, room c)
-
-without-requires-2 : tie.Need-without-requires-2
-without-requires-2 c κs = omega (arith, room (c .before))
-
-without-requires-3 : tie.Need-without-requires-3
-without-requires-3 c κs = omega (arith, room (c .before .before))
-
-without-requires-4 : tie.Need-without-requires-4
-without-requires-4 c κs = omega (arith, room (c .before .before .before))
-
-accept-requires : tie.Need-accept-requires
-accept-requires c κs = search needs
-
-returns-3 : tie.Need-returns-3
-returns-3 c =
-    let p = c .before .before .before .before .before .before .before .before .before .before .before .before .before .before .before .before .before .before .before .args .t1 in
-    let k = c .before .before .before .before .before .before .before .before .before .before .before .before .before .before .before .before .before .before .before .args .number in
-    let w : within (view p) ≡ true = sym (c .before .before .before .before .before .before .before .before .before .before .before .before .in-limits .ensures) ∙ not-false _ (c .before .before .before .before .before .before .before .before .before .before .before .if1 .left) in
-    let r = room (c .before .before .before .before .before) in
-    let z = sized (c .before .before .before .before .before .before .before .before .before .before .before .before .before .before .before .before .before .before .before) in
-    let n : p .states ≤ 512 = omega (arith, limited (view p) w, states-view p) in
-    let e : record { states = p .states; transitions = p .transitions - 1; marks = p .marks; from = c .before .before .before .before .without .result; to = c .before .before .before .without2 .result; low = c .before .before .without3 .result; high = c .before .without4 .result } ≡ unjoined p k =
-    λ i. record { states = p .states; transitions = p .transitions - 1; marks = p .marks; from = c .before .before .before .before .without .ensures i; to = c .before .before .before .without2 .ensures i; low = c .before .before .without3 .ensures i; high = c .before .without4 .ensures i } in
-    rw (c .accept .ensures)
-    (acceptance p _ (step (view p) (unjoin k)) (without (view p) k)
-    (rw (w, count-view p, lt-leb (p .transitions) k (r .0)))
-    (ap view e ∙ view-unjoined p z k (r .0) (r .1))
-    (subst (Past p) (sym e) (past-unjoined p z k n (r .0) (r .1))))
+    stays p (unjoinRows (view p) (c .before .before .before .before .before .before .before .before .before .before .args .number)) (without (view p) (c .before .before .before .before .before .before .before .before .before .before .args .number)) _ _ (c .enum-told2 .given .1) (answered (c .before .before))
 
 pub unjoin-spec : {M : Type 1} → statement M
 unjoin-spec =
     tie.close
     (tie.spec
     in-limits-requires
-    refuse-requires
+    unjoin-grounds-requires
+    enum-told
+    remove-requires
+    remove-requires-2
+    remove-requires-3
+    remove-requires-4
+    sub-p
+    enum-told-2
     returns
-    refuse-requires-2
-    returns-2
-    sub-t23
-    without-requires
-    without-requires-2
-    without-requires-3
-    without-requires-4
-    accept-requires
-    returns-3)
+    returns-2)

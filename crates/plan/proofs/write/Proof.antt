@@ -16,17 +16,17 @@ use Rattle.rules.specs.Rules.{writeRule}
 use Rattle.rules.proofs.ReadWrite.{Limited, limited}
 use Rattle.arrays.specs.Tables.{statesOf, transitionsOf}
 use Rattle.plan.specs.View.{view}
-use Rattle.plan.proofs.Values.{states-view, count-view, put-view}
+use Rattle.plan.proofs.Values.{states-view, count-view, put-view, limits-view}
 use borrow.Author.Needs.{needs}
 use Rattle.plan.proofs.write.Statement.{statement}
 use Rattle.plan.proofs.write.Tie as tie
 use Rattle.plan.proofs.write.Reads as reads
 use Rattle.plan.proofs.write.Lts as lts
-use Rattle.image.proofs.size.Reads as size-reads
+use Rattle.header.proofs.size.Reads as size-reads
 use Rattle.image.proofs.writing.header.Reads as header-reads
 use Rattle.image.proofs.writing.states.Reads as states-reads
 use Rattle.image.proofs.writing.transitions.Reads as transitions-reads
-use Rattle.plan.proofs.in_limits.Reads as in-limits-reads
+use Rattle.grounds.proofs.in_limits.Reads as in-limits-reads
 
 in-limits-requires : tie.Need-in-limits-requires
 in-limits-requires c κs = search needs
@@ -34,12 +34,12 @@ in-limits-requires c κs = search needs
 returns : tie.Need-returns
 unfolding writeRule
 returns c =
-    let w : within (view (c .before .before .before .before .before .before .before .before .before .args .t1)) ≡ false = sym (c .before .in-limits .ensures) ∙ not-true _ (c .if1 .taken) in
+    let w : within (view (c .before .before .before .before .before .before .before .before .before .args .t1)) ≡ false = sym (limits-view (c .before .before .before .before .before .before .before .before .before .args .t1) (c .before .in-limits .ensures)) ∙ not-true _ (c .if1 .taken) in
     record { answer = rw w; buffer = rw w }
 
 -- past the first test the plan is within the limits
 sound : (c : tie.Else1) → within (view (c .before .before .before .before .before .before .before .before .before .args .t1)) ≡ true
-sound c = sym (c .before .in-limits .ensures) ∙ not-false _ (c .if1 .left)
+sound c = sym (limits-view (c .before .before .before .before .before .before .before .before .before .args .t1) (c .before .in-limits .ensures)) ∙ not-false _ (c .if1 .left)
 
 limits : (c : tie.Else1) → Limited (view (c .before .before .before .before .before .before .before .before .before .args .t1))
 limits c = limited (view (c .before .before .before .before .before .before .before .before .before .args .t1)) (sound c)

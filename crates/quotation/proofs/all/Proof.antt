@@ -10,7 +10,7 @@ use Rattle.quotation.proofs.all.Tie as tie
 use Rattle.quotation.proofs.all.Reads as reads
 use Rattle.quotation.proofs.all.Lts as lts
 use Rattle.plan.proofs.within.Reads as within-reads
-use Rattle.quotation.proofs.show_all.Reads as show-all-reads
+use Rattle.shown.proofs.show_all.Reads as show-all-reads
 
 within-requires : tie.Need-within-requires
 within-requires c κs = search needs

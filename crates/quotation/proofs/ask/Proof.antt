@@ -28,7 +28,7 @@ returns c =
 returns-2 : tie.Need-returns-2
 unfolding quoteRule
 returns-2 c =
-    let p = c .before .before .before .args .plan in
+    let p = c .before .before .before .args .p in
     let w = sym (c .before .before .within .ensures) ∙ not-false _ (c .before .if1 .left) in
     λ lent e.
     let l : ltb (length lent) (states (view p)) ≡ true = lt-ltb (length lent) (states (view p)) (omega (arith, states-view p, c .if2 .taken)) in
@@ -37,7 +37,7 @@ returns-2 c =
 returns-3 : tie.Need-returns-3
 unfolding quoteRule
 returns-3 c =
-    let p = c .before .before .before .args .plan in
+    let p = c .before .before .before .args .p in
     let w = sym (c .before .before .within .ensures) ∙ not-false _ (c .before .if1 .left) in
     λ lent e.
     let l : ltb (length lent) (states (view p)) ≡ false = le-ltb (length lent) (states (view p)) (omega (arith, states-view p, c .if2 .left)) in

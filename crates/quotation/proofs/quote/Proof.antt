@@ -11,7 +11,7 @@ use Rattle.quotation.proofs.quote.Tie as tie
 use Rattle.quotation.proofs.quote.Reads as reads
 use Rattle.quotation.proofs.quote.Lts as lts
 use Rattle.quotation.proofs.ask.Reads as ask-reads
-use Rattle.quotation.proofs.show.Reads as show-reads
+use Rattle.shown.proofs.show.Reads as show-reads
 
 ask-requires : tie.Need-ask-requires
 ask-requires c κs = search needs
@@ -21,7 +21,7 @@ enum-told c = search needs
 
 show-requires : tie.Need-show-requires
 show-requires c κs =
-    let p = c .before .before .before .before .before .args .plan in
+    let p = c .before .before .before .before .before .args .p in
     let e = sym (c .before .before .before .ask .ensures _ refl) ∙ ap said (c .before .enum-told .given .1) in
     (accepted-within (view p) (c .before .before .before .before .before .args .walk .now) e, omega (arith, states-view p, room (view p) (c .before .before .before .before .before .args .walk .now) e))
 
@@ -34,10 +34,10 @@ same-length c = search needs
 returns : tie.Need-returns
 returns c =
     let e = sym (c .before .before .before .before .before .before .ask .ensures _ refl) ∙ ap said (c .before .before .before .before .enum-told .given .1) in
-    acceptance (c .before .before .before .before .before .before .before .before .args .which) (view (c .before .before .before .before .before .before .before .before .args .plan)) _ _ _ e (c .before .before .show .ensures)
+    acceptance (c .before .before .before .before .before .before .before .before .args .which) (view (c .before .before .before .before .before .before .before .before .args .p)) _ _ _ e (c .before .before .show .ensures)
 
 returns-2 : tie.Need-returns-2
-returns-2 c = refusal (c .before .before .before .before .before .args .which) (view (c .before .before .before .before .before .args .plan)) _ (c .before .asked .given .0 .0) (sym (ap said (c .before .asked .given .1)) ∙ c .before .before .before .ask .ensures _ refl)
+returns-2 c = refusal (c .before .before .before .before .before .args .which) (view (c .before .before .before .before .before .args .p)) _ (c .before .asked .given .0 .0) (sym (ap said (c .before .asked .given .1)) ∙ c .before .before .before .ask .ensures _ refl)
 
 pub quote-spec : {M : Type 1} → statement M
 quote-spec =

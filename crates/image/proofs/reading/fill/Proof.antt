@@ -14,7 +14,7 @@ use Rattle.image.proofs.reading.fill.Statement.{statement}
 use Rattle.image.proofs.reading.fill.Tie as tie
 use Rattle.image.proofs.reading.fill.Reads as reads
 use Rattle.image.proofs.reading.fill.Lts as lts
-use Rattle.image.proofs.reading.header.Reads as header-reads
+use Rattle.header.proofs.header.Reads as header-reads
 use Rattle.image.proofs.reading.states.Reads as states-reads
 use Rattle.image.proofs.reading.transitions.Reads as transitions-reads
 

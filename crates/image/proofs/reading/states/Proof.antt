@@ -27,7 +27,7 @@ use Rattle.image.proofs.reading.states.Statement.{statement}
 use Rattle.image.proofs.reading.states.Tie as tie
 use Rattle.image.proofs.reading.states.Reads as reads
 use Rattle.image.proofs.reading.states.Lts as lts
-use Rattle.image.proofs.reader.next.Reads as next-reads
+use Rattle.reader.proofs.next.Reads as next-reads
 use Rattle.image.proofs.reading.marks_of.Reads as marks-of-reads
 
 abbrev Inv-loop : tie.InvT-loop

@@ -6,7 +6,7 @@ use Rattle.image.proofs.reading.transition.Statement.{statement}
 use Rattle.image.proofs.reading.transition.Tie as tie
 use Rattle.image.proofs.reading.transition.Reads as reads
 use Rattle.image.proofs.reading.transition.Lts as lts
-use Rattle.image.proofs.reader.next.Reads as next-reads
+use Rattle.reader.proofs.next.Reads as next-reads
 
 next-requires : tie.Need-next-requires
 next-requires c κs = search needs

@@ -7,10 +7,10 @@ use native.Mathlib.Omega.{arith}
 use borrow.Author.Needs.{needs}
 use Rattle.search.specs.Arrays.{arrays}
 use Rattle.search.specs.Chain.{none}
-use Rattle.reach.specs.Explored.{Table, table, Grown, Underway, workIn}
-use Rattle.reach.proofs.Stack.{onStack}
-use Rattle.reach.proofs.Entering.{enter-sized, enter-grown, enter-now}
-use Rattle.reach.proofs.Turns.{enter-start}
+use Rattle.turns.specs.Search.{Table, table, Grown, Underway, workIn}
+use Rattle.turns.proofs.Stack.{onStack}
+use Rattle.turns.proofs.Entering.{enter-sized, enter-grown, enter-now}
+use Rattle.turns.proofs.Turns.{enter-start}
 use Rattle.reach.proofs.explore.descend.Statement.{statement}
 use Rattle.reach.proofs.explore.descend.Tie as tie
 

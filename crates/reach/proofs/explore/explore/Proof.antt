@@ -10,7 +10,7 @@ use borrow.Author.Needs.{needs}
 use borrow.Author.Tests.{not-true, not-false}
 use Rattle.search.specs.Arrays.{arrays, StartIn}
 use Rattle.search.specs.Chain.{Linked}
-use Rattle.reach.specs.Explored.{Table, table}
+use Rattle.turns.specs.Search.{Table, table}
 use Rattle.reach.specs.declared.Reach.the-variants.{Ends}
 use Rattle.reach.proofs.Exploring.{Exploring, exploring-none, exploring-more, explored-ends, explored-early}
 use Rattle.reach.proofs.explore.explore.Statement.{statement}

@@ -8,7 +8,8 @@ use native.Mathlib.Omega.{arith}
 use borrow.Author.Needs.{needs}
 use Rattle.search.specs.Arrays.{Arrays, arrays}
 use Rattle.search.specs.Chain.{Linked}
-use Rattle.reach.specs.Explored.{Table, table, Explored}
+use Rattle.turns.specs.Search.{Table, table}
+use Rattle.reach.specs.Explored.{Explored}
 use Rattle.search.proofs.Places.{zeros}
 use Rattle.reach.specs.declared.Reach.the-variants.{Ends}
 use Rattle.reach.proofs.Hunting.{ranked-entered, reached-dead, reached-end, reached-early}

@@ -1,0 +1,55 @@
+-- `header::header` meets its contract: fewer than four octets are the rule's first ground, and the others are those of `grounds`, over the
+-- four fields that stand from bit position 0 on.
+-- Assumes nothing.
+use Prim.Native.Nat.{ℕ}
+use mathlib.Core.Path.{_≡_, ap, _∙_}
+use native.Mathlib.Omega.{arith}
+use borrow.Author.Needs.{needs}
+use borrow.Author.Tests.{lt-ltb}
+use mathlib.Core.Bool.{true}
+use lib.Dec.{ltb}
+use lib.ListN.{length}
+use Rattle.field.specs.Field.{fourAt}
+use Rattle.field.specs.declared.Four.{Four}
+use Rattle.rules.specs.Image.{headerRows}
+use Rattle.header.proofs.header.Statement.{statement}
+use Rattle.header.proofs.header.Tie as tie
+use Rattle.header.proofs.header.Reads as reads
+use Rattle.header.proofs.header.Lts as lts
+use Rattle.reader.proofs.next.Reads as next-reads
+use Rattle.header.proofs.grounds.Reads as grounds-reads
+
+returns : tie.Need-returns
+unfolding headerRows
+returns c =
+    let e : ltb (length (c .before .before .args .octets .now)) 4 ≡ true = lt-ltb (length (c .before .before .args .octets .now)) 4 (c .if1 .taken) in
+    record {
+      answer = rw e;
+      states = λ e. absurd (let z : _≡_ {A = ℕ} 0 1 = cc in omega arith);
+      transitions = λ e. absurd (let z : _≡_ {A = ℕ} 0 1 = cc in omega arith);
+      all = λ e. absurd (let z : _≡_ {A = ℕ} 0 1 = cc in omega arith);
+      most = omega arith;
+    }
+
+next-requires : tie.Need-next-requires
+next-requires c κs = search needs
+
+-- the fields are those from bit position 0 on
+taken : (c : tie.After-next) → c .next .result ≡ fourAt (c .before .before .before .before .args .octets .now) 0 4 10 12 6
+taken c = c .next .ensures .0 ∙ ap (λ (k : ℕ). fourAt (c .before .before .before .before .args .octets .now) k 4 10 12 6) (c .before .before .before .before .pre)
+
+grounds-requires : tie.Need-grounds-requires
+grounds-requires c κs = (omega arith, taken c)
+
+returns-2 : tie.Need-returns-2
+returns-2 c =
+    record {
+      answer = c .grounds .ensures;
+      states = λ e. ap (λ (f : Four). f .second) (taken (c .before));
+      transitions = λ e. ap (λ (f : Four). f .third) (taken (c .before));
+      all = λ e. omega (arith, c .before .next .ensures .1);
+      most = omega (arith, c .before .next .ensures .1);
+    }
+
+pub header-spec : {M : Type 1} → statement M
+header-spec = tie.close (tie.spec returns next-requires grounds-requires returns-2)

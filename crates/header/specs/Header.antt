@@ -1,0 +1,19 @@
+-- What reading the header of an image promises. Document 01, "The image": "with a running bit position, one after another", and the order of read's
+-- refusals. Assumes nothing.
+use mathlib.Core.List.{List}
+use mathlib.Core.Path.{_≡_}
+use Prim.Native.Nat.{ℕ, _*_, _≤_}
+use lib.ListN.{length}
+use Rattle.rules.specs.declared.Answer.the-variants.{Accepted}
+use Rattle.rules.specs.Image.{stateCountOf, transitionCountOf, headerRows}
+use Rattle.rules.specs.Refusal.{said}
+use Rattle.rules.specs.Table.{first}
+use Rattle.header.specs.declared.Heading.{Heading}
+
+-- "version, 4 bits, the value 1; state count, 10 bits; transition count, 12 bits; pad, 6 bits": the position is past them, where there are so many
+pub record HeaderRead (os : List ℕ) (at : ℕ) (r : Heading) : Type 0 where
+  pub answer : said (r .answer) ≡ first (headerRows os)
+  pub states : r .answer ≡ Accepted → r .states ≡ stateCountOf os
+  pub transitions : r .answer ≡ Accepted → r .transitions ≡ transitionCountOf os
+  pub all : r .answer ≡ Accepted → at ≡ 32
+  pub most : at ≤ 8 * length os

@@ -1,0 +1,2 @@
+-- Keys that are lowered.
+pub mod Lowered

@@ -1,0 +1,2 @@
+-- Four parts of one lent slice.
+pub mod Parts

@@ -1,0 +1,2 @@
+-- The way up the tree.
+pub mod Climbing
