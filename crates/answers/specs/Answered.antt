@@ -1,7 +1,8 @@
 -- The numbers of a figure in the places of an answer. Document 01, "The quotation record", for the kind and the figure. Assumes nothing.
 use mathlib.Core.List.{List, [], _∷_}
 use mathlib.Core.Path.{_≡_}
-use Prim.Native.Nat.{ℕ}
+use Prim.Native.Nat.{ℕ, _≤_}
+use lib.ListN.{length}
 use Rattle.graph.specs.declared.Which.{Which}
 use Rattle.graph.specs.Figure.{Figure, kind, value}
 use Rattle.graph.specs.Which.{inTurn}
@@ -27,6 +28,10 @@ numbersOf q = numbers (meant (q .figure)) (q .k) (q .j)
 abbrev pub Small : Quotation → Type 0
 Small r = (q : Quote) → r ≡ Quoted q → SmallQuote q
 
+-- there are places for the numbers of a quotation that is not refused
+abbrev pub Fits : Quotation → List ℕ → Type 0
+Fits r out = (q : Quote) → r ≡ Quoted q → 4 ≤ length out
+
 -- what is left in the places of an answer: the four numbers at the front, or after a refusal every place as it was
 abbrev pub Answered : Quotation → List ℕ → List ℕ → ℕ → Type 0
 Answered (Quoted q) before after r = (r ≡ 256) × (after ≡ over (numbersOf q) before)
@@ -44,6 +49,9 @@ FourSmall q = (which : Which) → SmallQuote (quoteOf q which)
 
 abbrev pub AllSmall : Quotations → Type 0
 AllSmall r = (q : FourQuotes) → r ≡ AllQuoted q → FourSmall q
+
+abbrev pub AllFit : Quotations → List ℕ → Type 0
+AllFit r out = (q : FourQuotes) → r ≡ AllQuoted q → 16 ≤ length out
 
 -- what is left in the places of an answer: the sixteen numbers at the front, or after a refusal every place as it was
 abbrev pub AllAnswered : Quotations → List ℕ → List ℕ → ℕ → Type 0

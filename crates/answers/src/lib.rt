@@ -5,7 +5,7 @@ ghost use lib.ListN.{length};
 ghost use lib.Seq.{paste};
 ghost use Rattle.arrays.specs.Tables.{over};
 ghost use Rattle.rules.specs.Quotations.{SmallQuote};
-ghost use Rattle.answers.specs.Answered.{numbersOf, Small, Answered, fourNumbers, FourSmall, AllSmall, AllAnswered};
+ghost use Rattle.answers.specs.Answered.{numbersOf, Small, Fits, Answered, fourNumbers, FourSmall, AllSmall, AllFit, AllAnswered};
 use rules::FourQuotes;
 use rules::Quotation;
 use rules::Quotations;
@@ -30,8 +30,7 @@ fn put_quote(quote: Quote, out: &mut [u32], at: usize)
 
 // Puts the numbers of an accepted quotation at the front of a slice, and gives the number of its answer.
 pub fn one(quotation: Quotation, out: &mut [u32]) -> u32
-    requires { ⌜ Small quotation ⌝ }
-    requires { ⌜ 4 ≤ length (now out) ⌝ }
+    requires { ⌜ Small quotation × Fits quotation (now out) ⌝ }
     ensures { λ r. ⌜ Answered quotation (now (out .entry)) (now (out .exit)) r ⌝ }
 {
     match quotation {
@@ -44,7 +43,7 @@ pub fn one(quotation: Quotation, out: &mut [u32]) -> u32
 }
 
 // Puts the sixteen numbers of four quotes at the front of a slice.
-fn put_quotes(quotes: FourQuotes, out: &mut [u32])
+pub fn put_quotes(quotes: FourQuotes, out: &mut [u32])
     requires { ⌜ FourSmall quotes ⌝ }
     requires { ⌜ 16 ≤ length (now out) ⌝ }
     ensures { λ r. ⌜ now (out .exit) ≡ over (fourNumbers quotes) (now (out .entry)) ⌝ }
@@ -61,8 +60,7 @@ fn put_quotes(quotes: FourQuotes, out: &mut [u32])
 
 // Puts the numbers of four accepted quotations at the front of a slice, and gives the number of their answer.
 pub fn four(quotations: Quotations, out: &mut [u32]) -> u32
-    requires { ⌜ AllSmall quotations ⌝ }
-    requires { ⌜ 16 ≤ length (now out) ⌝ }
+    requires { ⌜ AllSmall quotations × AllFit quotations (now out) ⌝ }
     ensures { λ r. ⌜ AllAnswered quotations (now (out .entry)) (now (out .exit)) r ⌝ }
 {
     match quotations {

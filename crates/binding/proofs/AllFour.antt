@@ -1,61 +1,60 @@
--- All four figures of an image on lent slices: the promises of the plan's own read and quotations are the promise on the slices (`short-of-walks`,
--- `short-of-places`, `quotes-done`). Assumes nothing.
-use mathlib.Core.Bool.{true, false}
+-- All four figures of an image on lent slices: the quotation of the image was handed its places or none (proofs/Handing.antt), so its promise is the
+-- promise on the slices (`quotes-done`). Its numbers fit, since the plan is within the limits. Assumes nothing.
 use mathlib.Core.List.{List}
-use mathlib.Core.Path.{_≡_, refl, subst}
-use Prim.Native.Nat.{ℕ, _≤_, _<_}
-use borrow.Author.Tests.{lt-leb, le-leb}
+use mathlib.Core.Path.{_≡_, refl, sym, ap, subst, _∙_}
+use Prim.Native.Nat.{ℕ}
+use native.Mathlib.Omega.{arith}
 use lib.ListN.{length}
 use Rattle.rules.specs.declared.Quotations.{Quotations}
-use Rattle.rules.specs.Quotations.{QuotesHeld}
+use Rattle.rules.specs.declared.Quotations.the-variants.{Quoted, Refused}
+use Rattle.rules.specs.Image.{graphIn, imageRows}
+use Rattle.rules.specs.Quotations.{AllStated, QuotesHeld, heldRule, lentHeldRule, saidQuotations}
+use Rattle.rules.specs.Refusal.{Result, code}
+use Rattle.rules.proofs.Results.{never}
 use Rattle.quotation.proofs.Small.{four-small}
-use Rattle.quotation.proofs.Kept.{held-known}
-use Rattle.answers.specs.Answered.{AllSmall, AllAnswered}
-use Rattle.binding.specs.Quoted.{canQuote, LentQuotes}
-use Rattle.binding.proofs.Edits.{true-false}
+use Rattle.quotation.proofs.Kept.{held-within-limits}
+use Rattle.answers.specs.Answered.{AllSmall, AllFit, AllAnswered}
+use Rattle.binding.specs.Quoted.{Handed, LentQuotes}
+use Rattle.binding.proofs.Handing.{part, back, rule-same, enough, handed-all, handed-back, rest-kept}
 
 -- ---- the numbers fit
 
-pub all-small : (image before after : List ℕ) (r : Quotations) → 2048 ≤ length before → QuotesHeld image before after r → AllSmall r
-all-small image before after r h x q e =
-    let (g, i, w, s) = held-known image before after r h x q e in
-    four-small g w q before after s
+pub all-small : (image before after : List ℕ) (r : Quotations) → QuotesHeld image before after r → AllSmall r
+all-small image before after r x q e = four-small (graphIn image) (held-within-limits image before after r x q e) q before after (x .quoted q e)
 
 -- ---- the promise on the slices
 
-module _ (image walks out : List ℕ) where
-  few-walks : length walks < 2048 → canQuote walks out ≡ false
-  few-walks h = rw (lt-leb 2048 (length walks) h) refl
+module _ (image walks out : List ℕ) (end : ℕ) (h : Handed (length walks) (length out) 16 end) where
+  -- what was handed over is refused or accepted as all that was lent
+  same : heldRule image (part end walks) ≡ lentHeldRule image walks out
+  unfolding heldRule lentHeldRule
+  same = rule-same walks out 16 end h (imageRows image) 2048 (λ k. omega arith)
 
-  few-places : 2048 ≤ length walks → length out < 16 → canQuote walks out ≡ false
-  few-places h l = rw (le-leb 2048 (length walks) h, lt-leb 16 (length out) l) refl
+  -- where it is accepted there are sixteen places for the answer
+  pub sixteen-places : (left : List ℕ) (r : Quotations) → QuotesHeld image (part end walks) left r → AllFit r out
+  unfolding lentHeldRule
+  sixteen-places left r x q e = enough walks out 16 end h (imageRows image) 2048 (sym same ∙ sym (x .answer) ∙ ap saidQuotations e)
 
-  enough : 2048 ≤ length walks → 16 ≤ length out → canQuote walks out ≡ true
-  enough h l = rw (le-leb 2048 (length walks) h, le-leb 16 (length out) l) refl
-
-  none : canQuote walks out ≡ false → LentQuotes image walks walks out out 255
-  none e = record {
-    short = λ h. (refl, refl, refl);
-    refusal = λ h. true-false (canQuote walks out) h e;
-    quoted = λ h. true-false (canQuote walks out) h e;
-  }
-
-  pub short-of-walks : length walks < 2048 → LentQuotes image walks walks out out 255
-  short-of-walks h = none (few-walks h)
-
-  pub short-of-places : 2048 ≤ length walks → length out < 16 → LentQuotes image walks walks out out 255
-  short-of-places h l = none (few-places h l)
-
-  pub quotes-done : 2048 ≤ length walks → 16 ≤ length out → (walks′ out′ : List ℕ) (a : Quotations) (r : ℕ) → QuotesHeld image walks walks′ a
-      → AllAnswered a out out′ r → LentQuotes image walks walks′ out out′ r
-  quotes-done h l walks′ out′ a r x y = record {
-    short = λ s. true-false (canQuote walks out) (enough h l) s;
-    refusal = λ s k i.
-        let (e, kept) = x .refusal k i in
-        let (n, o) = subst (λ (z : Quotations). AllAnswered z out out′ r) e y in
-        (n, kept, o);
-    quoted = λ s g i.
-        let (q, e, stated) = x .quoted g i h in
-        let (n, o) = subst (λ (z : Quotations). AllAnswered z out out′ r) e y in
-        (n, record { quotes = q; stated = stated; places = o });
-  }
+  pub quotes-done : (left out′ : List ℕ) (a : Quotations) (r : ℕ) → QuotesHeld image (part end walks) left a → AllAnswered a out out′ r
+      → LentQuotes image walks (back end walks left) out out′ r
+  quotes-done left out′ (Quoted q) r x a =
+      let g = graphIn image in
+      let l = sixteen-places left (Quoted q) x q refl in
+      let e = x .answer ∙ same in
+      let stated : AllStated g q walks left = subst (λ (z : List ℕ). AllStated g q z left) (handed-all walks out 16 end h l) (x .quoted q refl) in
+      record {
+        answer = a .0 ∙ ap (λ (o : Result (Unit {0})). code o) e;
+        kept = λ k f. absurd (never tt k (sym f ∙ sym e));
+        quoted = λ f. record {
+          quotes = q;
+          stated = subst (λ (z : List ℕ). AllStated g q walks z) (sym (handed-back walks out 16 end h l left)) stated;
+          places = a .1;
+        };
+      }
+  quotes-done left out′ (Refused n) r x a =
+      let e = x .answer ∙ same in
+      record {
+        answer = a .0 ∙ ap (λ (o : Result (Unit {0})). code o) e;
+        kept = λ k f. (rest-kept end walks left (x .kept n (sym (x .answer))), a .1);
+        quoted = λ f. absurd (never tt n (e ∙ f));
+      }

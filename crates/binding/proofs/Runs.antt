@@ -1,21 +1,24 @@
 -- A list of calls on lent slices is a run of the rules, from the promises alone. A call leaves the slices as long as they were, so what has room for a
 -- plan keeps it; each call's promise is then one step of the rules, and its number that of the rules' answer. From a fresh plan on this is what
--- demand 3 says of the list.
+-- demand 3 says of the list (`lent-fresh-run`), and a quotation of the slices after it is right (`lent-one-claim`).
 -- Assumes nothing.
 use mathlib.Core.Bool.{true, _&&_}
 use mathlib.Core.List.{List, [], _∷_, _++_, map}
-use mathlib.Core.Path.{_≡_, refl, ap, ap₂, _∙_}
+use mathlib.Core.Path.{_≡_, refl, ap, ap₂, subst, _∙_}
 use Prim.Native.Nat.{ℕ, _≤_}
 use native.Mathlib.Omega.{arith}
-use borrow.Author.Tests.{le-leb}
+use borrow.Author.Tests.{le-leb, le-ltb}
 use lib.Dec.{leb}
 use lib.ListN.{length, drop, length-append, length-drop}
-use Rattle.graph.specs.Graph.{Graph}
+use Rattle.graph.specs.declared.Which.{Which}
+use Rattle.graph.specs.Graph.{Graph, states}
 use Rattle.rules.specs.Calls.{Call, step, run, runFresh}
-use Rattle.rules.specs.Limits.{stateCountOk}
+use Rattle.rules.specs.Limits.{stateCountOk, within}
+use Rattle.rules.specs.Quotations.{lentQuoteRule}
 use Rattle.rules.specs.Refusal.{Result, accepted, refused, code}
 use Rattle.rules.specs.Rules.{freshGraph, freshRule, next}
 use Rattle.rules.proofs.Basic.{fresh-done}
+use Rattle.rules.proofs.Figures.{listed-within}
 use Rattle.rules.proofs.Results.{both-true, code-answer}
 use Rattle.arrays.specs.Tables.{over}
 use Rattle.plan.specs.declared.Plan.{Plan}
@@ -23,13 +26,14 @@ use Rattle.plan.specs.View.{view, laid, noPlan}
 use Rattle.slices.specs.Lent.{Roomy, Slices, hasRoom, planIn, storing}
 use Rattle.slices.proofs.Stores.{has-room}
 use Rattle.binding.specs.Lent.{nextSlices, LentEdit, LentObeyed, none, more}
+use Rattle.binding.specs.Quoted.{LentQuote, Stands}
 
 -- ---- room
 
 over-long : (k : ℕ) (xs ys : List ℕ) → k ≤ length ys → k ≤ length (over xs ys)
 over-long k xs ys h = omega (arith, length-append xs (drop (length xs) ys), length-drop (length xs) ys)
 
-room-of : (s : Slices) → Roomy (s .counts) (s .marks) (s .fields) → hasRoom s ≡ true
+pub room-of : (s : Slices) → Roomy (s .counts) (s .marks) (s .fields) → hasRoom s ≡ true
 room-of s r =
     both-true (leb 2 (length (s .counts))) (leb 512 (length (s .marks)) && leb 8192 (length (s .fields))) (le-leb 2 (length (s .counts)) (r .two))
     (both-true (leb 512 (length (s .marks))) (leb 8192 (length (s .fields))) (le-leb 512 (length (s .marks)) (r .states)) (le-leb 8192 (length (s .fields)) (r .transitions)))
@@ -75,4 +79,31 @@ lent-fresh-run n {s} {t} {u} {calls} {answers} r h k x o =
       x .answer h ∙ ap code f,
       l .0 ∙ ap (λ (g : Graph). map code (run g calls .answers)) v,
       l .1 ∙ ap (λ (g : Graph). run g calls .last) v,
+    )
+
+-- ---- the one claim
+
+room-after : {s u : Slices} {calls : List Call} {answers : List ℕ} → hasRoom s ≡ true → LentObeyed s calls answers u → hasRoom u ≡ true
+room-after h none = h
+room-after h (more {s} {u} {call} {calls} {answers} t r x rest) = room-after (room-kept (planIn s) s t (step (view (planIn s)) call) r h x) rest
+
+-- a quotation of a plan within the limits, lent its states' places and four for the answer, is not refused
+quote-accepted : (g : Graph) (walk out : List ℕ) → within g ≡ true → states g ≤ length walk → 4 ≤ length out → lentQuoteRule g walk out ≡ accepted tt
+unfolding lentQuoteRule
+quote-accepted g walk out w h k = rw (w, le-ltb (length walk) (states g) h, le-ltb (length out) 4 k) refl
+
+-- "That plan is then quoted into n or more places, n its state count." After a fresh and a list of calls on the slices, a quotation of the slices is
+-- accepted, and says of the plan that the rules give what demand 3 asks: `accepted-where` and `right` of OneClaim (demands/specs/Demands.antt)
+pub lent-one-claim : (n : ℕ) {s t u : Slices} {calls : List Call} {answers : List ℕ} (r : ℕ) → hasRoom s ≡ true → stateCountOk n ≡ true
+    → LentEdit noPlan s t (freshRule n) r → LentObeyed t calls answers u
+    → (which : Which) (walk walk′ out out′ : List ℕ) (a : ℕ) → states (runFresh n calls .last) ≤ length walk → 4 ≤ length out
+    → LentQuote which u walk walk′ out out′ a
+    → (a ≡ 256) × Stands which (runFresh n calls .last) walk walk′ out out′
+lent-one-claim n {s} {t} {u} {calls} {answers} r h k x o which walk walk′ out out′ a places four q =
+    let room = room-after (room-kept noPlan s t (freshRule n) r h x) o in
+    let last : view (planIn u) ≡ runFresh n calls .last = lent-fresh-run n r h k x o .2 in
+    let e : lentQuoteRule (view (planIn u)) walk out ≡ accepted tt =
+    ap (λ (g : Graph). lentQuoteRule g walk out) last ∙ quote-accepted (runFresh n calls .last) walk out (listed-within n calls k) places four in (
+      q .answer room ∙ ap (λ (z : Result (Unit {0})). code z) e,
+      subst (λ (g : Graph). Stands which g walk walk′ out out′) last (q .quoted room e),
     )

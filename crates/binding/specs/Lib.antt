@@ -1,3 +1,4 @@
 pub mod Lent
 pub mod Shapes
 pub mod Quoted
+pub mod Lists

@@ -12,9 +12,9 @@ use Rattle.graph.specs.Which.{place}
 use Rattle.rules.specs.declared.FourQuotes.{FourQuotes}
 use Rattle.graph.specs.Figure.{value}
 use Rattle.rules.specs.Quotations.{quoteOf, part, meant, SmallQuote}
-use Rattle.lines.specs.Lines.{nameText, lineOf, linesOf}
+use Rattle.wording.specs.Lines.{nameText, lineOf, linesOf}
 use Rattle.lines.specs.Printed.{room}
-use Rattle.lines.proofs.Lengths.{line-length, names-length}
+use Rattle.wording.proofs.Lengths.{line-length, names-length}
 use Rattle.text.proofs.Listed.{listed-length}
 use Rattle.text.specs.Put.{Put}
 use Rattle.text.proofs.Puts.{put-length, put-then}

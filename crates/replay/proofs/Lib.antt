@@ -6,5 +6,5 @@ pub mod Lists
 pub mod ReadCalls
 pub mod Runs
 pub mod Promises
--- What the driver's promise comes to.
-pub mod Claim
+-- What an outcome tells.
+pub mod Outcomes

@@ -6,13 +6,15 @@ use mathlib.Core.Path.{_≡_, refl, sym, ap, ap₂, _∙_}
 use Prim.Native.Nat.{ℕ, zero, suc, _+_, _-_, _*_, _/_, _≤_, _<_}
 use native.Mathlib.Nat.{not-suc-le-zero, le-of-suc-le-suc}
 use native.Mathlib.Omega.{arith}
-use borrow.Author.Tests.{le-leb}
+use borrow.Author.Tests.{le-leb, le-ltb}
 use lib.ListN.{length, getD, take, drop, length-append}
 use lib.Seq.{take-at, drop-at}
 use Rattle.rules.specs.Image.{tabulate}
 use Rattle.rules.proofs.Tabulated.{tabulate-same, all-tabulate}
 use Rattle.rules.specs.Calls.{Call, mark, join, unjoin, read}
 use Rattle.rules.specs.Limits.{stateCountOk}
+use Rattle.rules.specs.Refusal.{accepted}
+use Rattle.replay.specs.Replayed.{replayRule}
 use Rattle.replay.specs.Slices.{Item, itemAt, callIn, isCall, callsIn, areCalls}
 
 -- a call as an item, its octets behind the first k
@@ -136,17 +138,18 @@ each-is (call ∷ calls) k long h (suc i) l =
 
 -- ---- so it is
 
--- slices that stand for the list, and are taken for calls with any places for the answers
-pub record Slices (n : ℕ) (calls : List Call) : Type 0 where
+-- slices that stand for the list
+pub record Slices (calls : List Call) : Type 0 where
   pub kinds : List ℕ
   pub arguments : List ℕ
   pub octets : List ℕ
   pub stand : callsIn kinds arguments octets ≡ calls
-  pub are : (answers : List ℕ) → length calls ≤ length answers → areCalls n kinds arguments octets answers ≡ true
+  pub are : areCalls kinds arguments octets ≡ true
+  pub as-many : length kinds ≡ length calls
 
-pub every-list : (n : ℕ) (calls : List Call) → stateCountOk n ≡ true → Slices n calls
+pub every-list : (calls : List Call) → Slices calls
 unfolding areCalls
-every-list n calls h =
+every-list calls =
     let ks = kindsOf 0 calls in
     let as′ = argumentsOf 0 calls in
     let os = octetsOf calls in
@@ -157,8 +160,16 @@ every-list n calls h =
       arguments = as′;
       octets = os;
       stand = calls-back calls [];
-      are = λ answers room.
-          rw (h, le-leb (length ks) (length as′ / 4) (omega arith), le-leb (length ks) (length answers) (omega arith))
-          (all-tabulate (isCall (length os)) (length ks) (itemAt ks as′)
-          (λ i l. each-is calls 0 (length os) (omega arith) i (omega arith)));
+      are =
+          rw (le-leb (length ks) (length as′ / 4) (omega arith))
+          (all-tabulate (isCall (length os)) (length ks) (itemAt ks as′) (λ i l. each-is calls 0 (length os) (omega arith) i (omega arith)));
+      as-many = lk;
     }
+
+-- and no row of the driver refuses them, with a number of states, a place for each answer and the walks' places
+pub every-list-made : (n : ℕ) (calls : List Call) (answers walks : List ℕ) → stateCountOk n ≡ true → length calls ≤ length answers → 2048 ≤ length walks
+    → replayRule n (every-list calls .kinds) answers walks ≡ accepted tt
+unfolding replayRule
+every-list-made n calls answers walks h a w =
+    let ks = every-list calls .kinds in
+    rw (h, le-ltb (length answers) (length ks) (omega (arith, every-list calls .as-many)), le-ltb (length walks) 2048 w) refl

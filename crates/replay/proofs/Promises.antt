@@ -1,110 +1,115 @@
--- The driver's promise from those of the calls that it makes: what is no list of calls gets the plan of a refused fresh, and a list of calls is a run
--- from the plan of an accepted one. The quotations are of the plan value that is returned, so of the run's plan; where there was no list of calls it has no
--- states, and each is refused by 0. Assumes nothing.
+-- The driver's promise from those of the calls that it makes. What is no list of calls, and a list that is refused, come with the plan of a refused fresh.
+-- A list that is made is a run from the plan of an accepted fresh (`made`): the quotations are of the plan value that is returned, so of the run's plan.
+-- That plan is within the limits after every list, and there are places, so its quotation is not refused (`not-refused`). Assumes nothing.
 use mathlib.Core.Bool.{true, false}
 use mathlib.Core.List.{List, map}
-use mathlib.Core.Path.{_≡_, refl, ap, _∙_, subst}
-use Prim.Native.Nat.{ℕ, _/_}
+use mathlib.Core.Path.{_≡_, refl, sym, ap, _∙_, subst}
+use Prim.Native.Nat.{ℕ, _/_, _≤_}
 use native.Mathlib.Omega.{arith}
-use borrow.Author.Tests.{leb-true}
+use borrow.Author.Tests.{leb-true, ltb-false}
 use lib.Dec.{leb}
 use lib.ListN.{length}
-use Rattle.graph.specs.declared.Which.{Which}
-use Rattle.graph.specs.declared.Which.the-variants.{LeastDelay, GreatestDelay, LeastCount, GreatestCount}
-use Rattle.graph.proofs.Figures.{each-of}
 use Rattle.graph.specs.Graph.{Graph}
 use Rattle.arrays.specs.Tables.{over}
-use Rattle.rules.proofs.Tabulated.{all-at}
-use Rattle.rules.specs.Calls.{Call, run}
-use Rattle.rules.specs.Limits.{stateCountOk}
-use Rattle.rules.specs.declared.Quotation.{Quotation}
-use Rattle.rules.specs.declared.Refusal.the-variants.{PlanLimits}
-use Rattle.rules.specs.Quotations.{Quotes, saidQuotation, quoteRule}
-use Rattle.rules.specs.Refusal.{code, refused}
+use Rattle.rules.specs.declared.FourQuotes.{FourQuotes}
+use Rattle.rules.specs.declared.Quotations.{Quotations}
+use Rattle.rules.specs.declared.Quotations.the-variants.{Quoted as AllQuoted, Refused as NoneQuoted}
+use Rattle.rules.specs.declared.Refusal.{Refusal}
+use Rattle.rules.specs.Calls.{Call, run, runFresh}
+use Rattle.rules.specs.Limits.{stateCountOk, within}
+use Rattle.rules.specs.Quotations.{AllStated, QuotesAll}
+use Rattle.rules.specs.Refusal.{Result, accepted, code, refused}
 use Rattle.rules.specs.Rules.{freshRule, freshGraph, next}
-use Rattle.rules.proofs.Basic.{fresh-refused, fresh-done, quote-limits}
-use Rattle.rules.proofs.Results.{and-true}
+use Rattle.rules.proofs.Basic.{fresh-refused, fresh-done}
+use Rattle.rules.proofs.Figures.{listed-within}
+use Rattle.rules.proofs.Results.{and-true, never, not-false}
+use Rattle.rules.proofs.Tables.{accepted-only}
+use Rattle.rules.proofs.Tabulated.{all-at}
 use Rattle.plan.specs.declared.Edited.{Edited}
 use Rattle.plan.specs.declared.Plan.{Plan}
 use Rattle.plan.specs.Promise.{Edit, nextValue}
-use Rattle.plan.specs.View.{view, laid, noPlan}
-use Rattle.plan.proofs.Values.{within-view}
-use Rattle.replay.specs.declared.Replayed.{Replayed}
-use Rattle.replay.specs.Replayed.{quotationOf, Replays}
-use Rattle.replay.specs.declared.Outcome.the-variants.{Done, NoCalls}
-use Rattle.replay.specs.Applied.{Applies, Callable, InTurn, runValue}
+use Rattle.plan.specs.View.{view, noPlan}
+use Rattle.quotation.proofs.Kept.{all-done, all-not-refused}
+use Rattle.replay.specs.declared.Outcome.the-variants.{Done, Refused, NoCalls}
+use Rattle.replay.specs.Replayed.{Replays, replayRows, replayRule, unmade}
 use Rattle.replay.specs.Slices.{itemAt, isCall, callsIn, areCalls}
+use Rattle.replay.specs.Turns.{Callable, InTurn, runValue}
 use Rattle.replay.proofs.Runs.{view-value}
 
-module _ (n : ℕ) (kinds arguments octets before : List ℕ) where
+-- the plan value of a refused fresh
+pub none-made : (e : Edited) → Edit noPlan (freshRule 0) e → e .plan ≡ noPlan
+none-made e x = x .whole ∙ ap (nextValue noPlan) (fresh-refused 0 refl)
+
+module _ (n : ℕ) (kinds arguments octets before lent : List ℕ) where
+  abbrev are : Type 0
+  are = areCalls kinds arguments octets ≡ true
+
+  is-not : are → areCalls kinds arguments octets ≡ false → ⊥
+  is-not h e = let z : _≡_ {A = ℕ} 0 1 = cc in omega arith
+
   -- what is no list of calls
-  pub told : (e : Edited) → areCalls n kinds arguments octets before ≡ false → Edit noPlan (freshRule 0) e
-      → Applies n kinds arguments octets before before (record { outcome = NoCalls; plan = e .plan })
-  told e not-calls x = record {
-    no-calls = λ h. (refl, x .whole ∙ ap (nextValue noPlan) (fresh-refused 0 refl), refl);
-    done = λ h. absurd (never h);
-    answers = λ h. absurd (never h);
-    plan = λ h. absurd (never h);
-    whole = λ h. absurd (never h);
-  }
-    where
-      never : areCalls n kinds arguments octets before ≡ true → ⊥
-      never h = let z : _≡_ {A = ℕ} 0 1 = cc in omega arith
+  pub told : areCalls kinds arguments octets ≡ false → Replays n kinds arguments octets before before lent lent (unmade NoCalls)
+  told e = record { no-calls = λ h. (refl, refl, refl); refusal = λ h. absurd (is-not h e); made = λ h. absurd (is-not h e) }
 
-  module _ (are : areCalls n kinds arguments octets before ≡ true) where
-    pub n-ok : stateCountOk n ≡ true
-    unfolding areCalls
-    n-ok = and-true (stateCountOk n) _ are .0
-
-    pub callable : Callable kinds arguments octets before
-    unfolding areCalls
-    callable =
-        let (a, bcd) = and-true (stateCountOk n) _ are in
-        let (b, cd) = and-true (leb (length kinds) (length arguments / 4)) _ bcd in
-        let (c, d) = and-true (leb (length kinds) (length before)) _ cd in
-        record {
-          four = leb-true (length kinds) (length arguments / 4) b;
-          room = leb-true (length kinds) (length before) c;
-          each = λ i h. all-at (isCall (length octets)) (length kinds) (itemAt kinds arguments) d i h;
-        }
-
-    -- a list of calls
-    pub applied : (e : Edited) (after : List ℕ) (q : Plan) → Edit noPlan (freshRule n) e → InTurn (e .plan) (callsIn kinds arguments octets) before after q
-        → Applies n kinds arguments octets before after (record { outcome = Done; plan = q })
-    applied e after q x t =
-        let calls : List Call = callsIn kinds arguments octets in
-        let r = fresh-done n n-ok in
-        let v : view (e .plan) ≡ freshGraph n = x .plan ∙ ap (next (view noPlan)) r in
-        let w : e .plan ≡ laid noPlan (freshGraph n) = x .whole ∙ ap (nextValue noPlan) r in
-        record {
-          no-calls = λ h. absurd (let z : _≡_ {A = ℕ} 0 1 = cc in omega arith);
-          done = λ h. refl;
-          answers = λ h. t .answers ∙ ap (λ (g : Graph). over (map code (run g calls .answers)) before) v;
-          plan = λ h. ap view (t .whole) ∙ view-value (e .plan) calls ∙ ap (λ (g : Graph). run g calls .last) v;
-          whole = λ h. t .whole ∙ ap (λ (p : Plan). runValue p calls) w;
-        }
-
--- ---- the quotations
-
--- of the plan value with no states each is refused by 0, and leaves its places
-none-quoted : {which : Which} {before after : List ℕ} {q : Quotation} → Quotes which (view noPlan) before after q
-    → (saidQuotation q ≡ refused PlanLimits) × (after ≡ before)
-none-quoted {which} {before} x =
-    let r : quoteRule (view noPlan) before ≡ refused PlanLimits = quote-limits (view noPlan) before (within-view noPlan) in
-    (x .answer ∙ r, x .kept PlanLimits r)
-
-pub replayed : (n : ℕ) (kinds arguments octets before after : List ℕ) (lent left : Which → List ℕ) (r : Replayed)
-    → Applies n kinds arguments octets before after (r .applied)
-    → Quotes LeastDelay (view (r .applied .plan)) (lent LeastDelay) (left LeastDelay) (r .«least_delay»)
-    → Quotes GreatestDelay (view (r .applied .plan)) (lent GreatestDelay) (left GreatestDelay) (r .«greatest_delay»)
-    → Quotes LeastCount (view (r .applied .plan)) (lent LeastCount) (left LeastCount) (r .«least_count»)
-    → Quotes GreatestCount (view (r .applied .plan)) (lent GreatestCount) (left GreatestCount) (r .«greatest_count»)
-    → Replays n kinds arguments octets before after lent left r
-replayed n kinds arguments octets before after lent left r x ld gd lc gc =
-    let f = each-of (λ which. Quotes which (view (r .applied .plan)) (lent which) (left which) (quotationOf r which)) ld gd lc gc in
-    record {
-      list = x;
-      quoted = λ are which. subst (λ (g : Graph). Quotes which g (lent which) (left which) (quotationOf r which)) (x .plan are) (f which);
-      none-quoted = λ are-not which.
-          none-quoted (subst (λ (p : Plan). Quotes which (view p) (lent which) (left which) (quotationOf r which)) (x .no-calls are-not .1) (f which));
+  module _ (h : are) where
+    -- a list that is refused
+    pub turned-away : (k : Refusal) → refused k ≡ replayRule n kinds before lent → Replays n kinds arguments octets before before lent lent (unmade (Refused k))
+    turned-away k e = record {
+      no-calls = λ f. absurd (is-not h f);
+      refusal = λ _ j f.
+          let z : _≡_ {A = Result (Unit {0})} (refused k) (refused j) = e ∙ f in
+          let same : k ≡ j = cc in
+          (ap (λ (r : Refusal). unmade (Refused r)) same, refl, refl);
+      made = λ _ f. absurd (never tt k (e ∙ f));
     }
+
+    -- a list that is not
+    module _ (e : replayRule n kinds before lent ≡ accepted tt) where
+      n-ok : stateCountOk n ≡ true
+      unfolding replayRule
+      n-ok = not-false (stateCountOk n) (accepted-only (replayRows n kinds before lent) tt tt e .0 .0)
+
+      pub callable : Callable kinds arguments octets before
+      unfolding areCalls replayRule
+      callable =
+          let (b, d) = and-true (leb (length kinds) (length arguments / 4)) _ h in
+          record {
+            four = leb-true (length kinds) (length arguments / 4) b;
+            room = ltb-false (length before) (length kinds) (accepted-only (replayRows n kinds before lent) tt tt e .0 .1 .0);
+            each = λ i l. all-at (isCall (length octets)) (length kinds) (itemAt kinds arguments) d i l;
+          }
+
+      places : 2048 ≤ length lent
+      unfolding replayRule
+      places = ltb-false (length lent) 2048 (accepted-only (replayRows n kinds before lent) tt tt e .0 .1 .1 .0)
+
+      module _ (f : Edited) (x : Edit noPlan (freshRule n) f) (after : List ℕ) (p : Plan) (t : InTurn (f .plan) (callsIn kinds arguments octets) before after p) where
+        abbrev calls : List Call
+        calls = callsIn kinds arguments octets
+
+        from-fresh : view (f .plan) ≡ freshGraph n
+        from-fresh = x .plan ∙ ap (next (view noPlan)) (fresh-done n n-ok)
+
+        last : view p ≡ runFresh n calls .last
+        last = ap view (t .whole) ∙ view-value (f .plan) calls ∙ ap (λ (g : Graph). run g calls .last) from-fresh
+
+        pub not-refused : (left : List ℕ) (a : Quotations) (k : Refusal) → QuotesAll (view p) lent left a → a ≡ NoneQuoted k → ⊥
+        not-refused left a k s i =
+            all-not-refused (view p) lent left a k s i (all-done (view p) lent (ap within last ∙ listed-within n calls n-ok) places)
+
+        pub made : (left : List ℕ) (a : Quotations) (q : FourQuotes) → QuotesAll (view p) lent left a → a ≡ AllQuoted q
+            → Replays n kinds arguments octets before after lent left (record { outcome = Done q; plan = p })
+        made left a q s i = record {
+          no-calls = λ o. absurd (is-not h o);
+          refusal = λ _ k o. absurd (never tt k (sym o ∙ e));
+          made = λ _ _. (
+            q,
+            refl,
+            record {
+              answers = t .answers ∙ ap (λ (g : Graph). over (map code (run g calls .answers)) before) from-fresh;
+              plan = last;
+              whole = t .whole ∙ ap (λ (z : Plan). runValue z calls) (x .whole ∙ ap (nextValue noPlan) (fresh-done n n-ok));
+              quoted = subst (λ (g : Graph). AllStated g q lent left) last (s .quoted q i);
+            },
+          );
+        }

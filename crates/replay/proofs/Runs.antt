@@ -12,14 +12,13 @@ use Rattle.rules.specs.Image.{tabulate}
 use Rattle.arrays.proofs.Lists.{tabulate-more}
 use Rattle.rules.proofs.Tabulated.{length-tabulate}
 use Rattle.rules.specs.Calls.{Call, step, run}
-use Rattle.rules.specs.Refusal.{Result, answerOf, said, code}
+use Rattle.rules.specs.Refusal.{Result, answerOf, code}
 use Rattle.rules.specs.Rules.{next}
 use Rattle.plan.specs.declared.Plan.{Plan}
-use Rattle.plan.specs.declared.Edited.{Edited}
-use Rattle.plan.specs.Promise.{Edit, nextValue}
+use Rattle.plan.specs.Promise.{nextValue}
 use Rattle.plan.specs.View.{view}
 use Rattle.plan.proofs.Values.{view-next}
-use Rattle.replay.specs.Applied.{runValue}
+use Rattle.replay.specs.Turns.{runValue}
 
 -- ---- one call more
 
@@ -85,22 +84,23 @@ module _ (f : ℕ → Call) (p : Plan) (before : List ℕ) where
   unfolding tabulate run runValue
   after-none = record { answers = refl; whole = refl }
 
-  pub after-more : (i : ℕ) (answers : List ℕ) (plan : Plan) (e : Edited) → i < length before → After i answers plan → Edit plan (step (view plan) (f i)) e
-      → After (i + 1) (set answers i (code (said (e .answer)))) (e .plan)
-  after-more i answers plan e h a x =
+  -- one call more, that answers r and leaves the plan value q
+  pub after-more : (i : ℕ) (answers : List ℕ) (plan q : Plan) (r : ℕ) → i < length before → After i answers plan
+      → r ≡ code (answerOf (step (view plan) (f i))) → q ≡ nextValue plan (step (view plan) (f i))
+      → After (i + 1) (set answers i r) q
+  after-more i answers plan q r h a said-is whole-is =
       let calls : List Call = tabulate i f in
       let more : tabulate (i + 1) f ≡ calls ++ (f i ∷ []) = tabulate-more i f f (f i) (λ k l. refl) refl in
       let k : length calls ≡ i = length-tabulate i f in
       let v : view plan ≡ run (view p) calls .last = ap view (a .whole) ∙ view-value p calls in
-      let said-is : code (said (e .answer)) ≡ code (answerOf (step (run (view p) calls .last) (f i))) =
-      ap code (x .answer ∙ ap (λ (g : Graph). answerOf (step g (f i))) v) in
+      let number-is : r ≡ code (answerOf (step (run (view p) calls .last) (f i))) = said-is ∙ ap (λ (g : Graph). code (answerOf (step g (f i)))) v in
       record {
         answers =
-            ap₂ (λ (l : List ℕ) (c : ℕ). set l i c) (a .answers) said-is
+            ap₂ (λ (l : List ℕ) (c : ℕ). set l i c) (a .answers) number-is
             ∙ ap (λ (n : ℕ). set (over (map code (run (view p) calls .answers)) before) n (code (answerOf (step (run (view p) calls .last) (f i))))) (sym k)
             ∙ codes-more (view p) calls (f i) before (omega arith)
             ∙ ap (λ (l : List Call). over (map code (run (view p) l .answers)) before) (sym more);
         whole =
-            x .whole ∙ ap (λ (q : Plan). nextValue q (step (view q) (f i))) (a .whole)
+            whole-is ∙ ap (λ (z : Plan). nextValue z (step (view z) (f i))) (a .whole)
             ∙ sym (value-more p calls (f i)) ∙ ap (runValue p) (sym more);
       }

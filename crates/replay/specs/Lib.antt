@@ -1,3 +1,3 @@
 pub mod Slices
-pub mod Applied
+pub mod Turns
 pub mod Replayed

@@ -8,7 +8,7 @@ use lib.ListN.{length, getD, take, drop}
 use Rattle.arrays.specs.Tables.{transition}
 use Rattle.rules.specs.Image.{tabulate}
 use Rattle.rules.specs.Calls.{Call, mark, join, unjoin, read}
-use Rattle.rules.specs.Limits.{all, stateCountOk}
+use Rattle.rules.specs.Limits.{all}
 
 -- a kind and four arguments
 pub record Item : Type 0 where
@@ -46,9 +46,7 @@ isCall long t = ltb (t .kind) 3 || (eqb (t .kind) 3 && (leb (t .a) (t .b) && leb
 unfoldable pub callsIn : List ℕ → List ℕ → List ℕ → List Call
 callsIn kinds arguments octets = tabulate (length kinds) (λ i. callIn octets (itemAt kinds arguments i))
 
--- they are a list of calls from a fresh plan of n states: n is a number of states, there are four arguments for each kind and a place for each
--- answer, and every item is a call
-unfoldable pub areCalls : ℕ → List ℕ → List ℕ → List ℕ → List ℕ → Bool
-areCalls n kinds arguments octets answers =
-    stateCountOk n && (leb (length kinds) (length arguments / 4) && (leb (length kinds) (length answers)
-    && all (isCall (length octets)) (tabulate (length kinds) (itemAt kinds arguments))))
+-- they are a list of calls: there are four arguments for each kind, and every item is a call
+unfoldable pub areCalls : List ℕ → List ℕ → List ℕ → Bool
+areCalls kinds arguments octets =
+    leb (length kinds) (length arguments / 4) && all (isCall (length octets)) (tabulate (length kinds) (itemAt kinds arguments))

@@ -2,7 +2,7 @@
 ghost use mathlib.Core.Path.{_≡_};
 ghost use mathlib.Core.Bool.{true, _&&_, _||_};
 ghost use lib.Dec.{leb, ltb, eqb};
-ghost use Prim.Native.Nat.{_≤_, _/_};
+ghost use Prim.Native.Nat.{_≤_, _<_, _/_};
 ghost use lib.ListN.{length};
 ghost use Rattle.rules.specs.Image.{tabulate};
 ghost use Rattle.rules.specs.Calls.{step};
@@ -10,36 +10,28 @@ ghost use Rattle.rules.specs.Limits.{all};
 ghost use Rattle.rules.specs.Refusal.{code as codeOf, said};
 ghost use Rattle.plan.specs.Promise.{Edit};
 ghost use Rattle.plan.specs.View.{view};
-ghost use Rattle.replay.specs.Slices.{callOf, isCall, itemAt, callsIn, areCalls};
-ghost use Rattle.graph.specs.Which.{four};
-ghost use Rattle.replay.specs.Replayed.{Replays};
-ghost use Rattle.replay.specs.Applied.{Applies, Callable, InTurn};
+ghost use Rattle.replay.specs.Slices.{callOf, callIn, isCall, itemAt, callsIn, areCalls};
+ghost use Rattle.replay.specs.Replayed.{Replays, replayRule, unmade};
+ghost use Rattle.replay.specs.Turns.{Callable, InTurn};
 use arrays::limits;
-use graph::Which;
 use plan::Edited;
 use plan::Plan;
 use rules::Answer;
-use rules::Quotation;
+use rules::FourQuotes;
+use rules::Quotations;
+use rules::Refusal;
 
-// Whether the slices were a list of calls, which was then applied.
+// What came of a list of calls: it was made, and the plan after it has these quotes; it was refused; or the slices were no list of calls.
 pub enum Outcome {
-    Done,
+    Done(FourQuotes),
+    Refused(Refusal),
     NoCalls,
 }
 
-// What came of a list of calls: the plan after it.
-pub struct Applied {
+// What came of a list of calls, and the plan after it.
+pub struct Replayed {
     pub outcome: Outcome,
     pub plan: Plan,
-}
-
-// What came of a list of calls, and the four quotations of the plan after it, in the record's order.
-pub struct Replayed {
-    pub applied: Applied,
-    pub least_delay: Quotation,
-    pub greatest_delay: Quotation,
-    pub least_count: Quotation,
-    pub greatest_count: Quotation,
 }
 
 // An answer as one number: 256 for accepted, or the refusal's.
@@ -89,20 +81,30 @@ fn each_call(kinds: &[u8], arguments: &[usize], long: usize) -> bool
     true
 }
 
-// Whether the slices are a list of calls from a fresh plan of n states.
-fn are_calls(n: usize, kinds: &[u8], arguments: &[usize], octets: &[u8], answers: &[u32]) -> bool
-    ensures { λ r. ⌜ r ≡ areCalls n (now (kinds .entry)) (now (arguments .entry)) (now (octets .entry)) (now (answers .entry)) ⌝ }
+// Whether the slices are a list of calls.
+pub fn are_calls(kinds: &[u8], arguments: &[usize], octets: &[u8]) -> bool
+    ensures { λ r. ⌜ r ≡ areCalls (now (kinds .entry)) (now (arguments .entry)) (now (octets .entry)) ⌝ }
 {
-    if !limits::state_count_ok(n) {
-        return false;
-    }
     if arguments.len() / 4 < kinds.len() {
         return false;
     }
-    if answers.len() < kinds.len() {
-        return false;
-    }
     each_call(kinds, arguments, octets.len())
+}
+
+// Whether a list of calls from a fresh plan of n states is refused: n, then the places for its answers, then those for the walks.
+pub fn ask(n: usize, kinds: &[u8], answers: &[u32], walks: &[u16]) -> Answer
+    ensures { λ r. ⌜ said r ≡ replayRule n (now (kinds .entry)) (now (answers .entry)) (now (walks .entry)) ⌝ }
+{
+    if !limits::state_count_ok(n) {
+        return Answer::Refused(Refusal::StateCount);
+    }
+    if answers.len() < kinds.len() {
+        return Answer::Refused(Refusal::BufferLength);
+    }
+    if walks.len() < 2048 {
+        return Answer::Refused(Refusal::BufferLength);
+    }
+    Answer::Accepted
 }
 
 // One call on a plan.
@@ -116,6 +118,20 @@ fn perform(plan: Plan, kind: u8, a: usize, b: usize, c: usize, d: usize, octets:
         2 => plan::unjoin(plan, a),
         _ => plan::read(plan, &octets[a..b]),
     }
+}
+
+// The call numbered `turn` of a list, on a plan.
+fn obey(plan: Plan, turn: usize, kinds: &[u8], arguments: &[usize], octets: &[u8]) -> Edited
+    requires { ⌜ (turn < length (now kinds)) × (length (now kinds) ≤ length (now arguments) / 4) ⌝ }
+    requires { ⌜ isCall (length (now octets)) (itemAt (now kinds) (now arguments) turn) ≡ true ⌝ }
+    ensures { λ r. ⌜ Edit plan (step (view plan) (callIn (now (octets .entry)) (itemAt (now (kinds .entry)) (now (arguments .entry)) turn))) r ⌝ }
+{
+    let at = 4 * turn;
+    let a = arguments[at];
+    let b = arguments[at + 1];
+    let c = arguments[at + 2];
+    let d = arguments[at + 3];
+    perform(plan, kinds[turn], a, b, c, d, octets)
 }
 
 // The calls in turn, on a plan: each on the plan that the one before it left. Each answer goes to its place.
@@ -133,12 +149,7 @@ fn in_turn(
     let mut plan = first;
     let mut turn = 0;
     while turn < kinds.len() {
-        let at = 4 * turn;
-        let a = arguments[at];
-        let b = arguments[at + 1];
-        let c = arguments[at + 2];
-        let d = arguments[at + 3];
-        let edited = perform(plan, kinds[turn], a, b, c, d, octets);
+        let edited = obey(plan, turn, kinds, arguments, octets);
         let answer = edited.answer;
         answers[turn] = code(answer);
         plan = edited.plan;
@@ -147,61 +158,42 @@ fn in_turn(
     plan
 }
 
-// Applies a list of calls, in turn, to a fresh plan of n states.
-pub fn apply(
-    n: usize,
-    kinds: &[u8],
-    arguments: &[usize],
-    octets: &[u8],
-    answers: &mut [u32],
-) -> Applied
-    ensures { λ r. ⌜ Applies n (now (kinds .entry)) (now (arguments .entry)) (now (octets .entry))
-        (now (answers .entry)) (now (answers .exit)) r ⌝ }
+// What comes beside a list that was not made: a plan value with no states.
+fn not_made(outcome: Outcome) -> Replayed
+    ensures { λ r. ⌜ r ≡ unmade outcome ⌝ }
 {
-    if !are_calls(n, kinds, arguments, octets, answers) {
-        let none = plan::fresh(0).plan;
-        return Applied {
-            outcome: Outcome::NoCalls,
-            plan: none,
-        };
-    }
-    let first = plan::fresh(n).plan;
-    let plan = in_turn(first, kinds, arguments, octets, answers);
-    Applied {
-        outcome: Outcome::Done,
-        plan,
-    }
+    let plan = plan::fresh(0).plan;
+    Replayed { outcome, plan }
 }
 
-// Applies a list of calls to a fresh plan of n states, and quotes the plan after it. A slice is lent for each walk, in the record's order.
-// Nine slices and numbers: the list is four of them, and two parts of one slice cannot be lent at the same time.
+// Makes a list of calls in turn, from a fresh plan of n states, and quotes the plan after it. The walks have 512 places each.
 pub fn replay(
     n: usize,
     kinds: &[u8],
     arguments: &[usize],
     octets: &[u8],
     answers: &mut [u32],
-    shortest: &mut [u16],
-    longest: &mut [u16],
-    fewest: &mut [u16],
-    most: &mut [u16],
+    walks: &mut [u16],
 ) -> Replayed
     ensures { λ r. ⌜ Replays n (now (kinds .entry)) (now (arguments .entry)) (now (octets .entry))
-        (now (answers .entry)) (now (answers .exit))
-        (four (now (shortest .entry)) (now (longest .entry)) (now (fewest .entry)) (now (most .entry)))
-        (four (now (shortest .exit)) (now (longest .exit)) (now (fewest .exit)) (now (most .exit))) r ⌝ }
+        (now (answers .entry)) (now (answers .exit)) (now (walks .entry)) (now (walks .exit)) r ⌝ }
 {
-    let applied = apply(n, kinds, arguments, octets, answers);
-    let plan = applied.plan;
-    let least_delay = quotation::quote(Which::LeastDelay, plan, shortest);
-    let greatest_delay = quotation::quote(Which::GreatestDelay, plan, longest);
-    let least_count = quotation::quote(Which::LeastCount, plan, fewest);
-    let greatest_count = quotation::quote(Which::GreatestCount, plan, most);
-    Replayed {
-        applied,
-        least_delay,
-        greatest_delay,
-        least_count,
-        greatest_count,
+    if !are_calls(kinds, arguments, octets) {
+        return not_made(Outcome::NoCalls);
+    }
+    let asked = ask(n, kinds, answers, walks);
+    if let Answer::Refused(r) = asked {
+        return not_made(Outcome::Refused(r));
+    }
+    let first = plan::fresh(n).plan;
+    let plan = in_turn(first, kinds, arguments, octets, answers);
+    let quotations = quotation::all(plan, walks);
+    match quotations {
+        Quotations::Quoted(quotes) => Replayed {
+            outcome: Outcome::Done(quotes),
+            plan,
+        },
+        // it never is: the plan is within the limits, and there are places
+        Quotations::Refused(r) => not_made(Outcome::Refused(r)),
     }
 }

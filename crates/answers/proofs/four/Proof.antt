@@ -8,7 +8,7 @@ enum-known-quotations : tie.Need-enum-known-quotations
 enum-known-quotations c = search needs
 
 put-quotes-requires : tie.Need-put-quotes-requires
-put-quotes-requires c κs = (c .before .before .before .before .before .pre .0 _ (c .before .before .quotations .given .1), c .before .before .before .before .before .pre .1)
+put-quotes-requires c κs = (c .before .before .before .before .before .pre .0 _ (c .before .before .quotations .given .1), c .before .before .before .before .before .pre .1 _ (c .before .before .quotations .given .1))
 
 enum-known-quotations-2 : tie.Need-enum-known-quotations-2
 enum-known-quotations-2 c = search needs

@@ -11,7 +11,7 @@ enum-known-quotation : tie.Need-enum-known-quotation
 enum-known-quotation c = search needs
 
 put-quote-requires : tie.Need-put-quote-requires
-put-quote-requires c κs = (c .before .before .before .before .before .pre .0 _ (c .before .before .quotation .given .1), c .before .before .before .before .before .pre .1)
+put-quote-requires c κs = (c .before .before .before .before .before .pre .0 _ (c .before .before .quotation .given .1), c .before .before .before .before .before .pre .1 _ (c .before .before .quotation .given .1))
 
 enum-known-quotation-2 : tie.Need-enum-known-quotation-2
 enum-known-quotation-2 c = search needs

@@ -1,4 +1,5 @@
--- `answers::put_quotes`: four copies of four numbers, one behind another, are the sixteen at the front (`four-copied` of arrays). Assumes nothing.
+-- `answers::put_quotes`: four copies of four numbers, one behind another, are the sixteen at the front (`four-copied` of arrays). All four quotes are small, and
+-- each bound is given by all of them: a quote in another one's places is then refused for its places. Assumes nothing.
 use Prim.Native.Nat.{ℕ}
 use mathlib.Core.List.{List}
 use mathlib.Core.Path.{refl, ap, _∙_}
@@ -17,16 +18,24 @@ use Rattle.answers.proofs.put_quotes.Lts as lts
 use Rattle.answers.proofs.put_quote.Reads as put-quote-reads
 
 put-quote-requires : tie.Need-put-quote-requires
-put-quote-requires c κs = (c .before .before .before .before .before .before .pre .0 LeastDelay, omega arith)
+put-quote-requires c κs =
+    let s = c .before .before .before .before .before .before .pre .0 in
+    (omega (arith, s LeastDelay, s GreatestDelay, s LeastCount, s GreatestCount), omega arith)
 
 put-quote-requires-2 : tie.Need-put-quote-requires-2
-put-quote-requires-2 c κs = (c .before .before .before .before .before .before .before .before .before .before .pre .0 GreatestDelay, omega (arith, c .before .before .before .put-quote .kept))
+put-quote-requires-2 c κs =
+    let s = c .before .before .before .before .before .before .before .before .before .before .pre .0 in
+    (omega (arith, s LeastDelay, s GreatestDelay, s LeastCount, s GreatestCount), omega (arith, c .before .before .before .put-quote .kept))
 
 put-quote-requires-3 : tie.Need-put-quote-requires-3
-put-quote-requires-3 c κs = (c .before .before .before .before .before .before .before .before .before .before .before .before .before .before .pre .0 LeastCount, omega (arith, c .before .before .before .before .before .before .before .put-quote .kept, c .before .before .before .put-quote2 .kept))
+put-quote-requires-3 c κs =
+    let s = c .before .before .before .before .before .before .before .before .before .before .before .before .before .before .pre .0 in
+    (omega (arith, s LeastDelay, s GreatestDelay, s LeastCount, s GreatestCount), omega (arith, c .before .before .before .before .before .before .before .put-quote .kept, c .before .before .before .put-quote2 .kept))
 
 put-quote-requires-4 : tie.Need-put-quote-requires-4
-put-quote-requires-4 c κs = (c .before .before .before .before .before .before .before .before .before .before .before .before .before .before .before .before .before .before .pre .0 GreatestCount, omega (arith, c .before .before .before .before .before .before .before .before .before .before .before .put-quote .kept, c .before .before .before .before .before .before .before .put-quote2 .kept, c .before .before .before .put-quote3 .kept))
+put-quote-requires-4 c κs =
+    let s = c .before .before .before .before .before .before .before .before .before .before .before .before .before .before .before .before .before .before .pre .0 in
+    (omega (arith, s LeastDelay, s GreatestDelay, s LeastCount, s GreatestCount), omega (arith, c .before .before .before .before .before .before .before .before .before .before .before .put-quote .kept, c .before .before .before .before .before .before .before .put-quote2 .kept, c .before .before .before .put-quote3 .kept))
 
 same-length : tie.Need-same-length
 same-length c = search needs

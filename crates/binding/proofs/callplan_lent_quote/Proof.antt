@@ -1,25 +1,35 @@
--- `binding::callplan_lent_quote`: too few places first; then what the quotation of the image says, on lent slices (proofs/AllFour.antt). Assumes nothing.
-use native.Mathlib.Omega.{arith}
-use Rattle.binding.proofs.AllFour.{all-small, short-of-walks, short-of-places, quotes-done}
+-- `binding::callplan_lent_quote`: the quotation of the image was handed its places or none, so what it says is the promise on lent slices
+-- (proofs/AllFour.antt). Assumes nothing.
+use mathlib.Core.Path.{sym}
+use lib.Seq.{length-take-le}
+use Rattle.binding.proofs.Handing.{handed-le}
+use Rattle.binding.proofs.AllFour.{all-small, sixteen-places, quotes-done}
 use borrow.Author.Needs.{needs}
 use Rattle.binding.proofs.callplan_lent_quote.Statement.{statement}
 use Rattle.binding.proofs.callplan_lent_quote.Tie as tie
 use Rattle.binding.proofs.callplan_lent_quote.Reads as reads
 use Rattle.binding.proofs.callplan_lent_quote.Lts as lts
 use Rattle.answers.proofs.four.Reads as four-reads
+use Rattle.binding.proofs.handed.Reads as handed-reads
 use Rattle.quotation.proofs.held.Reads as held-reads
 
-returns : tie.Need-returns
-returns c = short-of-walks (c .before .before .before .before .args .octets .now) (c .before .before .before .before .args .walks .now) (c .before .before .before .before .args .out .now) (c .if1 .taken)
+handed-requires : tie.Need-handed-requires
+handed-requires c κs = search needs
 
-returns-2 : tie.Need-returns-2
-returns-2 c = short-of-places (c .before .before .before .before .before .args .octets .now) (c .before .before .before .before .before .args .walks .now) (c .before .before .before .before .before .args .out .now) (c .before .if1 .left) (c .if2 .taken)
+slice-relend-prefix-held : tie.Need-slice-relend-prefix-held
+slice-relend-prefix-held c = handed-le _ _ _ _ (c .handed .ensures)
+
+slice-aggregate-held : tie.Need-slice-aggregate-held
+slice-aggregate-held c = sym (length-take-le _ _ (handed-le _ _ _ _ (c .before .handed .ensures)))
 
 held-requires : tie.Need-held-requires
 held-requires c κs = search needs
 
 four-requires : tie.Need-four-requires
-four-requires c κs = (all-small (c .before .before .before .before .before .before .before .before .before .before .args .octets .now) (c .before .before .before .before .before .before .before .before .before .before .args .walks .now) _ (c .before .before .before .held .result) (c .before .before .before .before .before .before .if1 .left) (c .before .before .before .held .ensures), omega (arith, c .before .before .before .before .before .if2 .left))
+four-requires c κs =
+    let a = c .before .before .before .before .before .before .before .before .before .args in
+    let x = c .before .before .before .held .ensures in
+    (all-small (a .octets .now) _ _ (c .before .before .before .held .result) x, sixteen-places (a .octets .now) (a .walks .now) (a .out .now) (c .before .before .before .before .before .handed .result) (c .before .before .before .before .before .handed .ensures) _ (c .before .before .before .held .result) x)
 
 same-length : tie.Need-same-length
 same-length c = search needs
@@ -27,10 +37,20 @@ same-length c = search needs
 same-length-2 : tie.Need-same-length-2
 same-length-2 c = search needs
 
-returns-3 : tie.Need-returns-3
-returns-3 c = quotes-done (c .before .before .before .before .before .before .before .before .before .before .before .before .before .args .octets .now) (c .before .before .before .before .before .before .before .before .before .before .before .before .before .args .walks .now) (c .before .before .before .before .before .before .before .before .before .before .before .before .before .args .out .now) (c .before .before .before .before .before .before .before .before .before .if1 .left) (c .before .before .before .before .before .before .before .before .if2 .left) _ _ (c .before .before .before .before .before .before .held .result) (c .before .before .four .result) (c .before .before .before .before .before .before .held .ensures) (c .before .before .four .ensures)
+returns : tie.Need-returns
+returns c =
+    let a = c .before .before .before .before .before .before .before .before .before .before .before .before .args in
+    quotes-done (a .octets .now) (a .walks .now) (a .out .now) (c .before .before .before .before .before .before .before .before .handed .result) (c .before .before .before .before .before .before .before .before .handed .ensures) _ _ (c .before .before .before .before .before .before .held .result) (c .before .before .four .result) (c .before .before .before .before .before .before .held .ensures) (c .before .before .four .ensures)
 
 pub callplan-lent-quote-spec : {M : Type 1} → statement M
 callplan-lent-quote-spec =
     tie.close
-    (tie.spec returns returns-2 held-requires four-requires same-length same-length-2 returns-3)
+    (tie.spec
+    handed-requires
+    slice-relend-prefix-held
+    slice-aggregate-held
+    held-requires
+    four-requires
+    same-length
+    same-length-2
+    returns)

@@ -1,7 +1,7 @@
--- `lines::answer`: a short buffer gets nothing, a refused image its number, and any other its four lines (proofs/Prints.antt). Assumes nothing.
+-- `lines::answer`: a short buffer is refused, a refused image gets its number, and any other its four lines (proofs/Prints.antt). Assumes nothing.
 use native.Mathlib.Nat.{le-refl}
 use native.Mathlib.Omega.{arith}
-use Rattle.quotation.proofs.Kept.{held-known}
+use Rattle.quotation.proofs.Kept.{held-within-limits}
 use Rattle.quotation.proofs.Recorded.{quotes-fit}
 use Rattle.quotation.proofs.Small.{four-small}
 use Rattle.lines.proofs.Prints.{refused-room, prints-nothing, prints-figures, prints-refusal}
@@ -11,7 +11,7 @@ use Rattle.lines.proofs.answer.Tie as tie
 use Rattle.lines.proofs.answer.Reads as reads
 use Rattle.lines.proofs.answer.Lts as lts
 use Rattle.lines.proofs.four.Reads as four-reads
-use Rattle.lines.proofs.refused.Reads as refused-reads
+use Rattle.line.proofs.refused.Reads as refused-reads
 use Rattle.quotation.proofs.held.Reads as held-reads
 use Rattle.rules.proofs.number.Reads as number-reads
 
@@ -32,8 +32,10 @@ slice-aggregate-four c = search needs
 
 four-requires : tie.Need-four-requires
 four-requires c κs =
-    let (g, i, w, s) = held-known (c .before .before .before .before .before .before .before .before .before .before .before .args .octets .now) _ _ (c .before .before .before .before .before .before .held .result) (le-refl 2048) (c .before .before .before .before .before .before .held .ensures) _ (c .before .before .before .quotations .given .1) in
-    ((four-small g w _ _ _ s, λ which. omega (arith, quotes-fit g _ _ _ s w which)), (omega (arith, c .before .before .before .before .before .before .held .kept .1 .0), c .before .before .before .before .before .before .before .before .if1 .left))
+    let e = c .before .before .before .quotations .given .1 in
+    let x = c .before .before .before .before .before .before .held .ensures in
+    let w = held-within-limits (c .before .before .before .before .before .before .before .before .before .before .before .args .octets .now) _ _ (c .before .before .before .before .before .before .held .result) x _ e in
+    ((four-small _ w _ _ _ (x .quoted _ e), λ which. omega (arith, quotes-fit _ _ _ _ (x .quoted _ e) w which)), (omega (arith, c .before .before .before .before .before .before .held .kept .1 .0), c .before .before .before .before .before .before .before .before .if1 .left))
 
 enum-known-quotations-2 : tie.Need-enum-known-quotations-2
 enum-known-quotations-2 c = search needs

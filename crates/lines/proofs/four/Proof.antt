@@ -8,7 +8,7 @@ use Rattle.lines.proofs.four.Statement.{statement}
 use Rattle.lines.proofs.four.Tie as tie
 use Rattle.lines.proofs.four.Reads as reads
 use Rattle.lines.proofs.four.Lts as lts
-use Rattle.lines.proofs.line.Reads as line-reads
+use Rattle.line.proofs.line.Reads as line-reads
 
 sub-line : tie.Need-sub-line
 sub-line c = search needs

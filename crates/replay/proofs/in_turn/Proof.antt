@@ -1,12 +1,12 @@
--- `replay::in_turn` meets its contract. The invariant: plan and answers are those after the calls passed (`After`), none at first (`after-none`); a turn is one call more, by the
--- promise of `perform` (`after-more`). The measure is what is left of the kinds. Assumes nothing.
+-- `replay::in_turn`. The invariant: plan and answers are those after the calls passed (`After`), none at first (`after-none`); a turn is one call more, by
+-- the promise of `obey` (`after-more`). The measure is what is left of the kinds. Assumes nothing.
 use Prim.Native.Nat.{ℕ, _-_, _≤_}
 use mathlib.Core.List.{map}
 use mathlib.Core.Path.{_≡_, refl, ap, _∙_}
 use native.Mathlib.Omega.{arith}
 use borrow.Author.Needs.{needs}
 use lib.ListN.{length, length-set}
-use Rattle.replay.specs.Applied.{runValue}
+use Rattle.replay.specs.Turns.{runValue}
 use Rattle.plan.specs.View.{view}
 use Rattle.rules.specs.Refusal.{code}
 use Rattle.rules.specs.Calls.{Call, run}
@@ -19,58 +19,19 @@ use Rattle.replay.proofs.in_turn.Tie as tie
 use Rattle.replay.proofs.in_turn.Reads as reads
 use Rattle.replay.proofs.in_turn.Lts as lts
 use Rattle.replay.proofs.code.Reads as code-reads
-use Rattle.replay.proofs.perform.Reads as perform-reads
+use Rattle.replay.proofs.obey.Reads as obey-reads
 
 abbrev Inv-loop : tie.InvT-loop
-Inv-loop kinds arguments octets answers₀ plan₀ i₀ answers plan i = (i ≤ length kinds) × (length answers ≡ length answers₀) × After (λ k. callIn octets (itemAt kinds arguments k)) plan₀ answers₀ i answers plan
+Inv-loop kinds arguments octets answers₀ plan₀ turn₀ answers plan turn = (turn ≤ length kinds) × (length answers ≡ length answers₀) × After (λ k. callIn octets (itemAt kinds arguments k)) plan₀ answers₀ turn answers plan
 
 abbrev μ-loop : tie.MeasureT-loop
-μ-loop kinds arguments octets answers₀ plan₀ i₀ answers plan i = length kinds - i
+μ-loop kinds arguments octets answers₀ plan₀ turn₀ answers plan turn = length kinds - turn
 
 loop-holds : tie.Need-loop-holds Inv-loop μ-loop
 loop-holds c = (search needs, refl, after-none _ _ _)
 
-mul-at : tie.Need-mul-at Inv-loop μ-loop
-mul-at c = omega (arith, c .before .before .before .before .before .before .pre .four)
-
-mul-a : tie.Need-mul-a Inv-loop μ-loop
-mul-a c = omega (arith, c .before .before .before .before .before .before .pre .four)
-
-shared-slice-read-a : tie.Need-shared-slice-read-a Inv-loop μ-loop
-shared-slice-read-a c = omega (arith, c .before .before .before .before .before .before .before .pre .four)
-
-add-b : tie.Need-add-b Inv-loop μ-loop
-add-b c = omega (arith, c .before .before .before .before .before .before .before .pre .four)
-
-mul-b : tie.Need-mul-b Inv-loop μ-loop
-mul-b c = omega (arith, c .before .before .before .before .before .before .before .pre .four)
-
-shared-slice-read-b : tie.Need-shared-slice-read-b Inv-loop μ-loop
-shared-slice-read-b c = omega (arith, c .before .before .before .before .before .before .before .before .pre .four)
-
-add-c : tie.Need-add-c Inv-loop μ-loop
-add-c c = omega (arith, c .before .before .before .before .before .before .before .before .pre .four)
-
-mul-c : tie.Need-mul-c Inv-loop μ-loop
-mul-c c = omega (arith, c .before .before .before .before .before .before .before .before .pre .four)
-
-shared-slice-read-c : tie.Need-shared-slice-read-c Inv-loop μ-loop
-shared-slice-read-c c = omega (arith, c .before .before .before .before .before .before .before .before .before .pre .four)
-
-add-d : tie.Need-add-d Inv-loop μ-loop
-add-d c = omega (arith, c .before .before .before .before .before .before .before .before .before .pre .four)
-
-mul-d : tie.Need-mul-d Inv-loop μ-loop
-mul-d c = omega (arith, c .before .before .before .before .before .before .before .before .before .pre .four)
-
-shared-slice-read-d : tie.Need-shared-slice-read-d Inv-loop μ-loop
-shared-slice-read-d c = omega (arith, c .before .before .before .before .before .before .before .before .before .before .pre .four)
-
-shared-slice-read-perform : tie.Need-shared-slice-read-perform Inv-loop μ-loop
-shared-slice-read-perform c = search needs
-
-perform-requires : tie.Need-perform-requires Inv-loop μ-loop
-perform-requires c κs = c .before .before .before .before .before .before .before .before .before .before .before .pre .each (c .before .before .before .before .before .before .loop .turn) (omega arith)
+obey-requires : tie.Need-obey-requires Inv-loop μ-loop
+obey-requires c κs = ((omega arith, c .before .before .before .before .before .before .pre .four), c .before .before .before .before .before .before .pre .each (c .before .loop .turn) (omega arith))
 
 code-requires : tie.Need-code-requires Inv-loop μ-loop
 code-requires c κs = search needs
@@ -79,7 +40,7 @@ mul-answers : tie.Need-mul-answers Inv-loop μ-loop
 mul-answers c = search needs
 
 slice-write-answers : tie.Need-slice-write-answers Inv-loop μ-loop
-slice-write-answers c = omega (arith, c .before .before .before .before .before .before .before .before .before .before .before .before .before .pre .room)
+slice-write-answers c = omega (arith, c .before .before .before .before .before .before .before .before .pre .room)
 
 add-turn : tie.Need-add-turn Inv-loop μ-loop
 add-turn c = search needs
@@ -89,13 +50,12 @@ loop-less c = search needs
 
 loop-again : tie.Need-loop-again Inv-loop μ-loop
 loop-again c =
-    let a = c .before .before .before .before .before .before .before .before .before .before .before .before .before .before .args in
-    let l = c .before .before .before .before .before .before .before .before .before .loop in (
+    let a = c .before .before .before .before .before .before .before .before .before .args in
+    let l = c .before .before .before .before .loop in (
       omega arith,
-      length-set (l .answers) (l .turn) _ ∙ l .inv .1,
-      rw (c .before .code .ensures)
-          (after-more (λ k. callIn (a .octets .now) (itemAt (a .kinds .now) (a .arguments .now) k)) (a .first) (a .answers .now) (l .turn) (l .answers) (l .plan) (c .before .before .perform .result)
-          (omega (arith, c .before .before .before .before .before .before .before .before .before .before .before .before .before .before .pre .room)) (l .inv .2) (c .before .before .perform .ensures)),
+      length-set (l .answers) _ _ ∙ l .inv .1,
+      after-more (λ k. callIn (a .octets .now) (itemAt (a .kinds .now) (a .arguments .now) k)) (a .first) (a .answers .now) (l .turn) (l .answers) (l .plan) (c .before .before .obey .result .plan) (c .before .code .result)
+          (omega (arith, c .before .before .before .before .before .before .before .before .before .pre .room)) (l .inv .2) (c .before .code .ensures ∙ ap code (c .before .before .obey .ensures .answer)) (c .before .before .obey .ensures .whole),
     )
 
 same-length : tie.Need-same-length Inv-loop μ-loop
@@ -120,20 +80,7 @@ in-turn-spec =
     Inv-loop
     μ-loop
     loop-holds
-    mul-at
-    mul-a
-    shared-slice-read-a
-    add-b
-    mul-b
-    shared-slice-read-b
-    add-c
-    mul-c
-    shared-slice-read-c
-    add-d
-    mul-d
-    shared-slice-read-d
-    shared-slice-read-perform
-    perform-requires
+    obey-requires
     code-requires
     mul-answers
     slice-write-answers

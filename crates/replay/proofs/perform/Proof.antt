@@ -1,5 +1,6 @@
 -- `replay::perform` meets its contract: kind by kind, each call's own promise is the step's. A kind past 2 that was let in is a read, and its part lies within the octets (`a-read`).
 -- Assumes nothing.
+use native.Mathlib.Omega.{arith}
 use borrow.Author.Needs.{needs}
 use lib.ListN.{length}
 use Rattle.replay.proofs.ReadCalls.{a-read}
@@ -22,13 +23,22 @@ unjoin-requires : tie.Need-unjoin-requires
 unjoin-requires c κs = search needs
 
 sub-read : tie.Need-sub-read
-sub-read c = let a = c .before .before .args in a-read (a .kind) (a .a) (a .b) (length (a .octets .now)) (c .before .before .pre) (c .match .rest .0 .0 .1) (c .match .rest .0 .1) (c .match .rest .1) .start
+sub-read c =
+    let a = c .before .before .args in
+    let p = a-read (a .kind) (a .a) (a .b) (length (a .octets .now)) (c .before .before .pre) (c .match .rest .0 .0 .1) (c .match .rest .0 .1) (c .match .rest .1) in
+    omega (arith, p .start, p .end)
 
 part-read-start : tie.Need-part-read-start
-part-read-start c = let a = c .before .before .args in a-read (a .kind) (a .a) (a .b) (length (a .octets .now)) (c .before .before .pre) (c .match .rest .0 .0 .1) (c .match .rest .0 .1) (c .match .rest .1) .start
+part-read-start c =
+    let a = c .before .before .args in
+    let p = a-read (a .kind) (a .a) (a .b) (length (a .octets .now)) (c .before .before .pre) (c .match .rest .0 .0 .1) (c .match .rest .0 .1) (c .match .rest .1) in
+    omega (arith, p .start, p .end)
 
 part-read-end : tie.Need-part-read-end
-part-read-end c = let a = c .before .before .args in a-read (a .kind) (a .a) (a .b) (length (a .octets .now)) (c .before .before .pre) (c .match .rest .0 .0 .1) (c .match .rest .0 .1) (c .match .rest .1) .end
+part-read-end c =
+    let a = c .before .before .args in
+    let p = a-read (a .kind) (a .a) (a .b) (length (a .octets .now)) (c .before .before .pre) (c .match .rest .0 .0 .1) (c .match .rest .0 .1) (c .match .rest .1) in
+    omega (arith, p .start, p .end)
 
 read-requires : tie.Need-read-requires
 read-requires c κs = search needs

@@ -1,0 +1,86 @@
+// Puts a line that quote prints into a lent buffer: the line of a quote with its walk, or of a refusal.
+ghost use Prim.Native.Nat.{_+_, _≤_};
+ghost use lib.ListN.{length};
+ghost use Rattle.rules.specs.Quotations.{meant, SmallQuote};
+ghost use Rattle.text.specs.Put.{Put};
+ghost use Rattle.wording.specs.Lines.{nameText, figureText, heading, addedText, lineOf, refusedLine};
+use graph::Which;
+use rules::Figure;
+use rules::Quote;
+
+// Puts a figure's name.
+fn name(buffer: &mut [u8], at: usize, which: Which) -> usize
+    requires { ⌜ at + length (nameText which) ≤ length (now buffer) ⌝ }
+    ensures { λ r. ⌜ Put (now (buffer .entry)) at (nameText which) (now (buffer .exit)) r ⌝ }
+{
+    match which {
+        Which::LeastDelay => text::word(buffer, at, b"least delay"),
+        Which::GreatestDelay => text::word(buffer, at, b"greatest delay"),
+        Which::LeastCount => text::word(buffer, at, b"least count"),
+        Which::GreatestCount => text::word(buffer, at, b"greatest count"),
+    }
+}
+
+// Puts a figure's number or kind.
+fn figure(buffer: &mut [u8], at: usize, figure: Figure) -> usize
+    requires { ⌜ at + length (figureText (meant figure)) ≤ length (now buffer) ⌝ }
+    ensures { λ r. ⌜ Put (now (buffer .entry)) at (figureText (meant figure)) (now (buffer .exit)) r ⌝ }
+{
+    match figure {
+        Figure::Number(x) => text::number(buffer, at, x),
+        Figure::None => text::word(buffer, at, b"NONE"),
+        Figure::Stranded => text::word(buffer, at, b"STRANDED"),
+        Figure::Endless => text::word(buffer, at, b"ENDLESS"),
+    }
+}
+
+// Puts a figure's name, a space, its number or kind, and a colon.
+fn heading(buffer: &mut [u8], at: usize, which: Which, shown: Figure) -> usize
+    requires { ⌜ at + length (heading which (meant shown)) ≤ length (now buffer) ⌝ }
+    ensures { λ r. ⌜ Put (now (buffer .entry)) at (heading which (meant shown)) (now (buffer .exit)) r ⌝ }
+{
+    let named = name(buffer, at, which);
+    let spaced = text::word(buffer, named, b" ");
+    let figured = figure(buffer, spaced, shown);
+    text::word(buffer, figured, b":")
+}
+
+// Puts ` @` and j, for ENDLESS alone.
+fn added(buffer: &mut [u8], at: usize, figure: Figure, j: u32) -> usize
+    requires { ⌜ at + length (addedText (meant figure) j) ≤ length (now buffer) ⌝ }
+    ensures { λ r. ⌜ Put (now (buffer .entry)) at (addedText (meant figure) j) (now (buffer .exit)) r ⌝ }
+{
+    match figure {
+        Figure::Number(_) => at,
+        Figure::None => at,
+        Figure::Stranded => at,
+        Figure::Endless => {
+            let place = text::word(buffer, at, b" @");
+            text::number(buffer, place, j)
+        }
+    }
+}
+
+// Puts the line of a quote, with its walk at the front of the places.
+pub fn line(buffer: &mut [u8], at: usize, which: Which, quote: Quote, walk: &[u16]) -> usize
+    requires { ⌜ SmallQuote quote × (quote .k ≤ length (now walk)) × (at + length (lineOf which quote (now walk)) ≤ length (now buffer)) ⌝ }
+    ensures { λ r. ⌜ Put (now (buffer .entry)) at (lineOf which quote (now (walk .entry))) (now (buffer .exit)) r ⌝ }
+{
+    let figure = quote.figure;
+    let k = quote.k;
+    let j = quote.j;
+    let headed = heading(buffer, at, which, figure);
+    let walked = text::list(buffer, headed, walk, k);
+    let ended = added(buffer, walked, figure, j as u32);
+    text::word(buffer, ended, b"\n")
+}
+
+// Puts the line of a refusal.
+pub fn refused(buffer: &mut [u8], at: usize, number: u32) -> usize
+    requires { ⌜ at + length (refusedLine number) ≤ length (now buffer) ⌝ }
+    ensures { λ r. ⌜ Put (now (buffer .entry)) at (refusedLine number) (now (buffer .exit)) r ⌝ }
+{
+    let said = text::word(buffer, at, b"refused ");
+    let numbered = text::number(buffer, said, number);
+    text::word(buffer, numbered, b"\n")
+}
