@@ -14,19 +14,43 @@
 #ifndef CALLPLAN_H
 #define CALLPLAN_H
 
+#if !defined(__x86_64__) || !defined(__linux__)
+#error "callplan: the archive is for x86-64 Linux"
+#endif
+
 #include <stddef.h>
 #include <stdint.h>
 #include <string.h>
 
+#ifndef NDEBUG
+#include <assert.h>
+#endif
+
 #if SIZE_MAX != UINT64_MAX
 #error "callplan: a size_t is 64 bits in the archive"
+#endif
+
+/* The answer of a call says whether it did anything: compilers warn where it is not looked at. */
+#if defined(__cplusplus) && __cplusplus >= 201703L
+#define CALLPLAN_ANSWERS [[nodiscard]] static inline callplan_answer
+#elif defined(__GNUC__)
+#define CALLPLAN_ANSWERS __attribute__((warn_unused_result)) static inline callplan_answer
+#else
+#define CALLPLAN_ANSWERS static inline callplan_answer
+#endif
+
+#ifdef __cplusplus
+#define CALLPLAN_CAST(type, value) static_cast<type>(value)
+#else
+#define CALLPLAN_CAST(type, value) ((type)(value))
 #endif
 
 #ifdef __cplusplus
 extern "C" {
 #endif
 
-#define CALLPLAN_VERSION "0.1.0"
+#define CALLPLAN_VERSION "0.2.0"
+#define CALLPLAN_VERSION_NUMBER 200 /* 10,000 times the first number, 100 times the second, and the third */
 
 #define CALLPLAN_MAX_STATES 512
 #define CALLPLAN_MAX_TRANSITIONS 2048
@@ -50,7 +74,8 @@ typedef enum callplan_answer {
     CALLPLAN_REFUSED_BUFFER_LENGTH = 11,     /* less than what is to be put there */
     CALLPLAN_REFUSED_MARKS_VALUE = 12,       /* above 7 */
     CALLPLAN_REFUSED_FIGURE_SIZE = 13,       /* above 1,048,575: no plan within the limits has such a figure */
-    CALLPLAN_SHORT_SLICE = 255,              /* of the callplan_lent_ functions alone: a lent slice has too few places */
+    CALLPLAN_NO_CALLS = 254,                 /* of replay alone: an unknown kind, or a read's octets lie outside those that are lent */
+    CALLPLAN_SHORT_SLICE = 255,              /* of the callplan_lent_ functions alone: the slices are too short to hold a plan */
     CALLPLAN_ACCEPTED = 256
 } callplan_answer;
 
@@ -104,23 +129,36 @@ enum {
     CALLPLAN_GREATEST_COUNT = 3
 };
 
+/* The kinds of calls in a list, and the arguments of each: four, of which the first ones are looked at. */
+enum {
+    CALLPLAN_CALL_MARK = 0,   /* state, value */
+    CALLPLAN_CALL_JOIN = 1,   /* from, to, low, high */
+    CALLPLAN_CALL_UNJOIN = 2, /* number */
+    CALLPLAN_CALL_READ = 3    /* the places where its octets start and end among those that are lent */
+};
+
 /* ---- The functions of the archive, for programs that keep the arrays of a plan apart. The inline functions after them call them.
  *
  * A lent slice is a pointer, aligned and never null, and its number of places:
  *     counts, marks, fields   the arrays of a callplan_plan, with 2, 512 and 8,192 places at least
  *     octets                  the image that is read
  *     buffer                  where write puts the image, and record the record
- *     walk                    where a quotation puts the walk; with fewer places than the plan has states it is refused by
- *                             CALLPLAN_REFUSED_BUFFER_LENGTH
- *     out                     where a quotation puts kind, value, k and j, with 4 places at least
- *     walks, out              of quote: four of either, one after another, with 2,048 and 16 places at least
- * With fewer places in counts, marks, fields, walks or out a function answers CALLPLAN_SHORT_SLICE, before all else, and changes
- * nothing.
+ *     walk, out               where a quotation puts the walk, with as many places as the plan has states, and its kind, value, k and
+ *                             j, with 4 places
+ *     walks, out              of quote and replay: four of either, one after another, with 2,048 and 16 places
+ *     kinds, arguments        of replay: a list of calls, with four arguments for each kind
+ *     answers                 of replay: where the answer of each call is put, with a place for each kind
+ * With fewer places in counts, marks or fields there is no plan to look at: a function answers CALLPLAN_SHORT_SLICE, before all else,
+ * and changes nothing. With fewer in a walk, walks, out or answers a call is refused by CALLPLAN_REFUSED_BUFFER_LENGTH, after the
+ * refusals of the plan, of the image or of n. With fewer arguments there is no list of calls to look at: CALLPLAN_NO_CALLS.
  * Otherwise it answers as the inline function of its name does; write and record answer CALLPLAN_ACCEPTED plus the octets' number.
  * Later places stay. The other arguments are those of the inline functions. */
 
+uint32_t callplan_lent_version(void);
 uint32_t callplan_lent_fresh(size_t n, size_t *counts, size_t counts_len, uint8_t *marks, size_t marks_len,
                              uint16_t *fields, size_t fields_len);
+uint32_t callplan_lent_from_image(const uint8_t *octets, size_t octets_len, size_t *counts, size_t counts_len,
+                                  uint8_t *marks, size_t marks_len, uint16_t *fields, size_t fields_len);
 uint32_t callplan_lent_mark(size_t *counts, size_t counts_len, uint8_t *marks, size_t marks_len, uint16_t *fields,
                             size_t fields_len, size_t state, uint32_t value);
 uint32_t callplan_lent_join(size_t *counts, size_t counts_len, uint8_t *marks, size_t marks_len, uint16_t *fields,
@@ -147,6 +185,35 @@ uint32_t callplan_lent_record(const size_t *counts, size_t counts_len, const uin
                               const uint16_t *fields, size_t fields_len, uint8_t *buffer, size_t buffer_len);
 uint32_t callplan_lent_quote(const uint8_t *octets, size_t octets_len, uint16_t *walks, size_t walks_len, uint32_t *out,
                              size_t out_len);
+uint32_t callplan_lent_replay(size_t n, const uint8_t *kinds, size_t kinds_len, const size_t *arguments, size_t arguments_len,
+                              const uint8_t *octets, size_t octets_len, uint32_t *answers, size_t answers_len, size_t *counts,
+                              size_t counts_len, uint8_t *marks, size_t marks_len, uint16_t *fields, size_t fields_len,
+                              uint16_t *walks, size_t walks_len, uint32_t *out, size_t out_len);
+
+/* What an answer says, in a few words of English. */
+static inline const char *callplan_answer_text(callplan_answer answer)
+{
+    switch (answer) {
+    case CALLPLAN_REFUSED_PLAN_LIMITS: return "the plan breaks a limit of a plan";
+    case CALLPLAN_REFUSED_IMAGE_SHORT: return "the image has fewer than 4 octets, or fewer than its counts give";
+    case CALLPLAN_REFUSED_IMAGE_LONG: return "the image has more octets than its counts give";
+    case CALLPLAN_REFUSED_VERSION: return "the image's version is not 1";
+    case CALLPLAN_REFUSED_STATE_COUNT: return "the state count is 0 or above 512";
+    case CALLPLAN_REFUSED_TRANSITION_COUNT: return "the transition count is above 2,048";
+    case CALLPLAN_REFUSED_SPARE_BITS: return "a pad or spare bit is set";
+    case CALLPLAN_REFUSED_STATE_NUMBER: return "a state number is not below the state count";
+    case CALLPLAN_REFUSED_DURATION: return "low is above high, or high above 2,047";
+    case CALLPLAN_REFUSED_LIST_FULL: return "the plan has 2,048 transitions already";
+    case CALLPLAN_REFUSED_TRANSITION_NUMBER: return "a transition number is not below the transition count";
+    case CALLPLAN_REFUSED_BUFFER_LENGTH: return "a lent buffer is shorter than what is to be put there";
+    case CALLPLAN_REFUSED_MARKS_VALUE: return "the marks value is above 7";
+    case CALLPLAN_REFUSED_FIGURE_SIZE: return "a figure of the record is above 1,048,575";
+    case CALLPLAN_NO_CALLS: return "the slices are no list of calls";
+    case CALLPLAN_SHORT_SLICE: return "the slices are too short to hold a plan";
+    case CALLPLAN_ACCEPTED: return "accepted";
+    }
+    return "an unknown answer";
+}
 
 /* The three slices of a plan, as arguments. */
 #define CALLPLAN_SLICES(plan) \
@@ -155,35 +222,44 @@ uint32_t callplan_lent_quote(const uint8_t *octets, size_t octets_len, uint16_t 
 /* The number that a function of the archive answers, by its name. */
 static inline callplan_answer callplan_private_answer(uint32_t number)
 {
-    return (callplan_answer)number;
+    return CALLPLAN_CAST(callplan_answer, number);
+}
+
+/* In a debug build: the archive is the one that this header came with. */
+static inline void callplan_private_check_version(void)
+{
+#ifndef NDEBUG
+    assert(callplan_lent_version() == CALLPLAN_VERSION_NUMBER);
+#endif
 }
 
 /* ---- Edits. */
 
 /* Makes *plan a plan with n states, all marks 0 and no transitions, whatever it held before.
  * Refused: STATE_COUNT. */
-static inline callplan_answer callplan_fresh(callplan_plan *plan, size_t n)
+CALLPLAN_ANSWERS callplan_fresh(callplan_plan *plan, size_t n)
 {
+    callplan_private_check_version();
     return callplan_private_answer(callplan_lent_fresh(n, CALLPLAN_SLICES(plan)));
 }
 
 /* Makes the marks value of a state the value given.
  * Refused: PLAN_LIMITS, STATE_NUMBER, MARKS_VALUE. */
-static inline callplan_answer callplan_mark(callplan_plan *plan, size_t state, uint32_t value)
+CALLPLAN_ANSWERS callplan_mark(callplan_plan *plan, size_t state, uint32_t value)
 {
     return callplan_private_answer(callplan_lent_mark(CALLPLAN_SLICES(plan), state, value));
 }
 
 /* Puts a transition at the end of the list. It takes from low to high seconds.
  * Refused: PLAN_LIMITS, STATE_NUMBER, DURATION, LIST_FULL. */
-static inline callplan_answer callplan_join(callplan_plan *plan, size_t from, size_t to, uint32_t low, uint32_t high)
+CALLPLAN_ANSWERS callplan_join(callplan_plan *plan, size_t from, size_t to, uint32_t low, uint32_t high)
 {
     return callplan_private_answer(callplan_lent_join(CALLPLAN_SLICES(plan), from, to, low, high));
 }
 
 /* Takes the transition with this number out of the list. The later ones move down by one.
  * Refused: PLAN_LIMITS, TRANSITION_NUMBER. */
-static inline callplan_answer callplan_unjoin(callplan_plan *plan, size_t number)
+CALLPLAN_ANSWERS callplan_unjoin(callplan_plan *plan, size_t number)
 {
     return callplan_private_answer(callplan_lent_unjoin(CALLPLAN_SLICES(plan), number));
 }
@@ -193,10 +269,20 @@ static inline callplan_answer callplan_unjoin(callplan_plan *plan, size_t number
 /* Makes *plan the plan that the octets are the image of, in place of the one that it holds.
  * Refused: PLAN_LIMITS, of the plan that it holds; IMAGE_SHORT, of fewer than 4 octets; VERSION, STATE_COUNT, TRANSITION_COUNT;
  * SPARE_BITS, of the pad; IMAGE_SHORT, IMAGE_LONG; state by state SPARE_BITS; transition by transition STATE_NUMBER, DURATION. */
-static inline callplan_answer callplan_read(callplan_plan *plan, const uint8_t *octets, size_t length)
+CALLPLAN_ANSWERS callplan_read(callplan_plan *plan, const uint8_t *octets, size_t length)
 {
     const uint8_t none = 0;
     return callplan_private_answer(callplan_lent_read(CALLPLAN_SLICES(plan), length != 0 ? octets : &none, length));
+}
+
+/* Makes *plan the plan that the octets are the image of, whatever it held before.
+ * Refused: as callplan_read, but for PLAN_LIMITS. */
+CALLPLAN_ANSWERS callplan_from_image(callplan_plan *plan, const uint8_t *octets, size_t length)
+{
+    const uint8_t none = 0;
+    callplan_private_check_version();
+    return callplan_private_answer(
+        callplan_lent_from_image(length != 0 ? octets : &none, length, CALLPLAN_SLICES(plan)));
 }
 
 /* The answer of a call that fills a buffer. Its length goes to *written, unless the call was refused or written is null. */
@@ -205,7 +291,7 @@ static inline callplan_answer callplan_private_written(uint32_t answer, size_t *
     if (answer < CALLPLAN_ACCEPTED) {
         return callplan_private_answer(answer);
     }
-    if (written != NULL) {
+    if (written) {
         *written = answer - CALLPLAN_ACCEPTED;
     }
     return CALLPLAN_ACCEPTED;
@@ -214,7 +300,7 @@ static inline callplan_answer callplan_private_written(uint32_t answer, size_t *
 /* Puts the image of *plan at the front of buffer; later octets stay. The number of its octets, at most CALLPLAN_MAX_IMAGE_OCTETS,
  * goes to *written unless written is null.
  * Refused: PLAN_LIMITS, BUFFER_LENGTH. */
-static inline callplan_answer callplan_write(const callplan_plan *plan, uint8_t *buffer, size_t length, size_t *written)
+CALLPLAN_ANSWERS callplan_write(const callplan_plan *plan, uint8_t *buffer, size_t length, size_t *written)
 {
     uint8_t none = 0;
     return callplan_private_written(
@@ -230,7 +316,7 @@ static inline callplan_answer callplan_write(const callplan_plan *plan, uint8_t 
 /* Puts the numbers of an accepted quotation into *figure. */
 static inline void callplan_private_fill(callplan_figure *figure, const uint32_t *out)
 {
-    figure->kind = (callplan_kind)out[0];
+    figure->kind = CALLPLAN_CAST(callplan_kind, out[0]);
     figure->value = out[1];
     figure->k = out[2];
     figure->j = out[3];
@@ -252,26 +338,26 @@ static inline callplan_answer callplan_private_quotation(callplan_private_call *
 }
 
 /* The least delay: the smallest sum of lows over all routes, or CALLPLAN_NONE. */
-static inline callplan_answer callplan_least_delay(const callplan_plan *plan, callplan_figure *figure)
+CALLPLAN_ANSWERS callplan_least_delay(const callplan_plan *plan, callplan_figure *figure)
 {
     return callplan_private_quotation(callplan_lent_least_delay, plan, figure);
 }
 
 /* The greatest delay: the first that applies of CALLPLAN_NONE, CALLPLAN_ENDLESS and CALLPLAN_STRANDED, and otherwise the largest
  * sum of highs over all routes. */
-static inline callplan_answer callplan_greatest_delay(const callplan_plan *plan, callplan_figure *figure)
+CALLPLAN_ANSWERS callplan_greatest_delay(const callplan_plan *plan, callplan_figure *figure)
 {
     return callplan_private_quotation(callplan_lent_greatest_delay, plan, figure);
 }
 
 /* The least count: the smallest number of counted states on a route, first and last included, or CALLPLAN_NONE. */
-static inline callplan_answer callplan_least_count(const callplan_plan *plan, callplan_figure *figure)
+CALLPLAN_ANSWERS callplan_least_count(const callplan_plan *plan, callplan_figure *figure)
 {
     return callplan_private_quotation(callplan_lent_least_count, plan, figure);
 }
 
 /* The greatest count: as the greatest delay, with the largest number of counted states on a route. */
-static inline callplan_answer callplan_greatest_count(const callplan_plan *plan, callplan_figure *figure)
+CALLPLAN_ANSWERS callplan_greatest_count(const callplan_plan *plan, callplan_figure *figure)
 {
     return callplan_private_quotation(callplan_lent_greatest_count, plan, figure);
 }
@@ -279,34 +365,66 @@ static inline callplan_answer callplan_greatest_count(const callplan_plan *plan,
 /* Puts the record of the four figures at the front of buffer; later octets stay. The number of its octets, CALLPLAN_RECORD_OCTETS,
  * goes to *written unless written is null.
  * Refused: PLAN_LIMITS, BUFFER_LENGTH, FIGURE_SIZE. */
-static inline callplan_answer callplan_record(const callplan_plan *plan, uint8_t *buffer, size_t length, size_t *written)
+CALLPLAN_ANSWERS callplan_record(const callplan_plan *plan, uint8_t *buffer, size_t length, size_t *written)
 {
     uint8_t none = 0;
     return callplan_private_written(
         callplan_lent_record(CALLPLAN_SLICES(plan), length != 0 ? buffer : &none, length), written);
 }
 
+/* Puts the numbers and the walks of four accepted quotations into *quotations. */
+static inline void callplan_private_fill_all(callplan_quotations *quotations, const uint16_t *walks, const uint32_t *out)
+{
+    for (size_t i = 0; i < 4; i++) {
+        callplan_figure *figure = &quotations->figures[i];
+        callplan_private_fill(figure, out + 4 * i);
+        memcpy(figure->walk, walks + CALLPLAN_MAX_STATES * i, figure->k * sizeof figure->walk[0]);
+    }
+}
+
 /* Reads an image and puts its four figures into *quotations, for programs that keep no plan. Each is what its own quotation says of
  * the plan, and its places of walk from k on stay.
  * Refused: as callplan_read, but for PLAN_LIMITS. */
-static inline callplan_answer callplan_quote(const uint8_t *octets, size_t length, callplan_quotations *quotations)
+CALLPLAN_ANSWERS callplan_quote(const uint8_t *octets, size_t length, callplan_quotations *quotations)
 {
+    callplan_private_check_version();
     const uint8_t none = 0;
     uint16_t walks[4 * CALLPLAN_MAX_STATES] = {0};
     uint32_t out[4 * 4] = {0};
     const uint32_t answer =
         callplan_lent_quote(length != 0 ? octets : &none, length, walks, 4 * CALLPLAN_MAX_STATES, out, 4 * 4);
     if (answer == CALLPLAN_ACCEPTED) {
-        for (size_t i = 0; i < 4; i++) {
-            callplan_figure *figure = &quotations->figures[i];
-            callplan_private_fill(figure, out + 4 * i);
-            memcpy(figure->walk, walks + CALLPLAN_MAX_STATES * i, figure->k * sizeof figure->walk[0]);
-        }
+        callplan_private_fill_all(quotations, walks, out);
     }
     return callplan_private_answer(answer);
 }
 
-/* ---- What a plan holds. Past the limits there are zeros. */
+/* Makes a list of calls in turn from a fresh plan with n states, each on the plan that the one before it left, puts the plan after the
+ * list into *plan, whatever it held before, and its four figures into *quotations. There are count kinds, four times as many arguments
+ * and count places for the answers; the octets of the reads are parts of octets. The answer of each call is put at its place: a call
+ * of the list that is refused leaves the plan as it is, and the list goes on.
+ * CALLPLAN_NO_CALLS where the list has an unknown kind, or a read whose octets lie outside. Refused: STATE_COUNT, of n. */
+CALLPLAN_ANSWERS callplan_replay(callplan_plan *plan, size_t n, const uint8_t *kinds, const size_t *arguments,
+                                              size_t count, const uint8_t *octets, size_t length, uint32_t *answers,
+                                              callplan_quotations *quotations)
+{
+    const uint8_t none = 0;
+    const size_t no_argument = 0;
+    uint32_t no_answer = 0;
+    uint16_t walks[4 * CALLPLAN_MAX_STATES] = {0};
+    uint32_t out[4 * 4] = {0};
+    const uint32_t answer = callplan_lent_replay(
+        n, count != 0 ? kinds : &none, count, count != 0 ? arguments : &no_argument, 4 * count, length != 0 ? octets : &none, length,
+        count != 0 ? answers : &no_answer, count, CALLPLAN_SLICES(plan), walks, 4 * CALLPLAN_MAX_STATES, out, 4 * 4);
+    if (answer == CALLPLAN_ACCEPTED) {
+        callplan_private_fill_all(quotations, walks, out);
+    }
+    return callplan_private_answer(answer);
+}
+
+/* ---- What a plan holds. Of states and transitions that it does not have there are zeros. Places of its arrays past the counts hold what
+ * was left there, by an unjoin or a smaller image: they are no part of the plan, so memcmp does not tell whether two plans are equal, and a
+ * plan that is stored as it lies in memory carries old data. */
 
 static inline size_t callplan_states(const callplan_plan *plan)
 {
@@ -320,13 +438,13 @@ static inline size_t callplan_transitions(const callplan_plan *plan)
 
 static inline uint8_t callplan_marks(const callplan_plan *plan, size_t state)
 {
-    return state < CALLPLAN_MAX_STATES ? plan->marks[state] : 0;
+    return state < CALLPLAN_MAX_STATES && state < plan->counts[0] ? plan->marks[state] : CALLPLAN_CAST(uint8_t, 0);
 }
 
 static inline callplan_transition callplan_transition_at(const callplan_plan *plan, size_t number)
 {
     callplan_transition transition = {0, 0, 0, 0};
-    if (number < CALLPLAN_MAX_TRANSITIONS) {
+    if (number < CALLPLAN_MAX_TRANSITIONS && number < plan->counts[1]) {
         transition.from = plan->fields[number];
         transition.to = plan->fields[CALLPLAN_MAX_TRANSITIONS + number];
         transition.low = plan->fields[2 * CALLPLAN_MAX_TRANSITIONS + number];
@@ -335,7 +453,29 @@ static inline callplan_transition callplan_transition_at(const callplan_plan *pl
     return transition;
 }
 
+/* Whether two plans have the same states and the same transitions in the same order: 1 or 0. */
+static inline int callplan_equal(const callplan_plan *one, const callplan_plan *other)
+{
+    const size_t n = one->counts[0];
+    const size_t m = one->counts[1];
+    if (n != other->counts[0] || m != other->counts[1] || n > CALLPLAN_MAX_STATES || m > CALLPLAN_MAX_TRANSITIONS) {
+        return 0;
+    }
+    if (memcmp(one->marks, other->marks, n) != 0) {
+        return 0;
+    }
+    for (size_t i = 0; i < 4; i++) {
+        const size_t at = i * CALLPLAN_MAX_TRANSITIONS;
+        if (memcmp(one->fields + at, other->fields + at, m * sizeof one->fields[0]) != 0) {
+            return 0;
+        }
+    }
+    return 1;
+}
+
 #undef CALLPLAN_SLICES
+#undef CALLPLAN_ANSWERS
+#undef CALLPLAN_CAST
 
 #ifdef __cplusplus
 }

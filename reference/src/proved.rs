@@ -14,9 +14,11 @@ pub const MARKS: usize = MAX_STATES;
 /// Places of a plan in `fields`: all from states, then all to states, lows and highs.
 pub const FIELDS: usize = 4 * MAX_TRANSITIONS;
 
-/// The answer where a lent plan slice has too few places, or a slice for answers has.
+/// The answer where the slices of a list of calls are none: there is no list to look at.
+pub const NO_CALLS: u32 = 254;
+/// The answer where the three slices of a plan have too few places: there is no plan to look at.
 pub const SHORT_SLICE: u32 = 255;
-/// The answer of an accepted call. Write and record add the length. A refusal is below 255.
+/// The answer of an accepted call. Write and record add the length. A refusal is below 254.
 pub const ACCEPTED: u32 = 256;
 
 /// Places of a quotation in `out`: the kind, the figure, k and j.
@@ -25,8 +27,21 @@ pub const OUT: usize = 4;
 pub const WALKS: usize = 4 * MAX_STATES;
 
 extern "C" {
+    fn callplan_lent_version() -> u32;
+
     fn callplan_lent_fresh(
         n: usize,
+        counts: *mut usize,
+        counts_len: usize,
+        marks: *mut u8,
+        marks_len: usize,
+        fields: *mut u16,
+        fields_len: usize,
+    ) -> u32;
+
+    fn callplan_lent_from_image(
+        octets: *const u8,
+        octets_len: usize,
         counts: *mut usize,
         counts_len: usize,
         marks: *mut u8,
@@ -165,6 +180,28 @@ extern "C" {
         out: *mut u32,
         out_len: usize,
     ) -> u32;
+
+    fn callplan_lent_replay(
+        n: usize,
+        kinds: *const u8,
+        kinds_len: usize,
+        arguments: *const usize,
+        arguments_len: usize,
+        octets: *const u8,
+        octets_len: usize,
+        answers: *mut u32,
+        answers_len: usize,
+        counts: *mut usize,
+        counts_len: usize,
+        marks: *mut u8,
+        marks_len: usize,
+        fields: *mut u16,
+        fields_len: usize,
+        walks: *mut u16,
+        walks_len: usize,
+        out: *mut u32,
+        out_len: usize,
+    ) -> u32;
 }
 
 /// The slices that hold a plan for the library. They may be of any length: the library refuses
@@ -192,6 +229,22 @@ impl LentPlan {
         unsafe {
             callplan_lent_fresh(
                 n,
+                self.counts.as_mut_ptr(),
+                self.counts.len(),
+                self.marks.as_mut_ptr(),
+                self.marks.len(),
+                self.fields.as_mut_ptr(),
+                self.fields.len(),
+            )
+        }
+    }
+
+    /// The plan of an image, whatever the slices hold.
+    pub fn make(&mut self, octets: &[u8]) -> u32 {
+        unsafe {
+            callplan_lent_from_image(
+                octets.as_ptr(),
+                octets.len(),
                 self.counts.as_mut_ptr(),
                 self.counts.len(),
                 self.marks.as_mut_ptr(),
@@ -363,6 +416,51 @@ impl LentPlan {
     }
 }
 
+/// A list of calls, as it is lent: for each call a kind and four arguments, and the octets of the
+/// reads.
+#[derive(Clone, Debug, Default, PartialEq, Eq)]
+pub struct LentCalls {
+    pub kinds: Vec<u8>,
+    pub arguments: Vec<usize>,
+    pub octets: Vec<u8>,
+}
+
+/// Makes a list of calls from a fresh plan of `n` states, stores the plan after it in `lent`, and
+/// quotes its four figures as `quote` does. Each call has a place of `answers`.
+#[cfg(feature = "quotations")]
+pub fn replay(
+    n: usize,
+    calls: &LentCalls,
+    answers: &mut [u32],
+    lent: &mut LentPlan,
+    walks: &mut [u16],
+    out: &mut [u32],
+) -> u32 {
+    unsafe {
+        callplan_lent_replay(
+            n,
+            calls.kinds.as_ptr(),
+            calls.kinds.len(),
+            calls.arguments.as_ptr(),
+            calls.arguments.len(),
+            calls.octets.as_ptr(),
+            calls.octets.len(),
+            answers.as_mut_ptr(),
+            answers.len(),
+            lent.counts.as_mut_ptr(),
+            lent.counts.len(),
+            lent.marks.as_mut_ptr(),
+            lent.marks.len(),
+            lent.fields.as_mut_ptr(),
+            lent.fields.len(),
+            walks.as_mut_ptr(),
+            walks.len(),
+            out.as_mut_ptr(),
+            out.len(),
+        )
+    }
+}
+
 /// Reads an image and quotes its four figures, with walks and answers one after another: 512
 /// places of `walks` and 4 of `out` for each.
 #[cfg(feature = "quotations")]
@@ -377,4 +475,10 @@ pub fn quote(octets: &[u8], walks: &mut [u16], out: &mut [u32]) -> u32 {
             out.len(),
         )
     }
+}
+
+/// The version of the library.
+pub fn version() -> u32 {
+    // SAFETY: it takes nothing and touches nothing.
+    unsafe { callplan_lent_version() }
 }

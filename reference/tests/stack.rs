@@ -11,7 +11,7 @@ use std::slice;
 
 use reference::image::{encode, length};
 #[cfg(feature = "quotations")]
-use reference::proved::{quote, OUT, WALKS};
+use reference::proved::{quote, replay, LentCalls, OUT, WALKS};
 use reference::proved::{LentPlan, ACCEPTED};
 use reference::rng::print;
 #[cfg(feature = "quotations")]
@@ -19,7 +19,7 @@ use reference::{quotation::RECORD_OCTETS, Figure, FIGURES};
 use reference::{Plan, Transition, MAX_STATES, MAX_TRANSITIONS};
 
 const STACK: usize = 1 << 20;
-const LIMIT: usize = 128 << 10;
+const LIMIT: usize = 96 << 10;
 const PAINT: u8 = 0xA5;
 
 /// `pthread_attr_t`, with room to spare: its size is the platform's own.
@@ -126,7 +126,7 @@ fn the_measure_sees_a_large_frame() {
 }
 
 #[test]
-fn every_call_stays_within_128_kib() {
+fn every_call_stays_within_the_limit() {
     let fresh = most(|mut lent, _| lent.fresh(MAX_STATES));
     let mark = most(|mut lent, _| lent.mark(0, 7));
     let unjoin = most(|mut lent, _| lent.unjoin(0));
@@ -142,6 +142,7 @@ fn every_call_stays_within_128_kib() {
         })
     });
     let read = most(|mut lent, plan| lent.read(&encode(plan)));
+    let from_image = most(|mut lent, plan| lent.make(&encode(plan)));
     let write = most(|lent, _| lent.write(&mut vec![0; length(MAX_STATES, MAX_TRANSITIONS)]));
     #[cfg_attr(not(feature = "quotations"), allow(unused_mut))]
     let mut depths = vec![
@@ -150,6 +151,7 @@ fn every_call_stays_within_128_kib() {
         ("join", join),
         ("unjoin", unjoin),
         ("read", read),
+        ("from_image", from_image),
         ("write", write),
     ];
     #[cfg(feature = "quotations")]
@@ -172,6 +174,19 @@ fn quotations() -> Vec<(&'static str, usize)> {
     let mut depths = FIGURES.map(of_figure).to_vec();
     let record = most(|lent, _| lent.record(&mut [0; RECORD_OCTETS]));
     let quote = most(|_, plan| quote(&encode(plan), &mut vec![0; WALKS], &mut [0; 4 * OUT]));
-    depths.extend([("record", record), ("quote", quote)]);
+    let replay = most(|mut lent, plan| {
+        // A call of each kind: the image is read, a transition goes, one comes, and a state is marked.
+        let octets = encode(plan);
+        let mut arguments = vec![0; 16];
+        arguments[1] = octets.len();
+        let calls = LentCalls {
+            kinds: vec![3, 2, 1, 0],
+            arguments,
+            octets,
+        };
+        let (mut walks, mut out) = (vec![0; WALKS], [0; 4 * OUT]);
+        replay(1, &calls, &mut [0; 4], &mut lent, &mut walks, &mut out)
+    });
+    depths.extend([("record", record), ("quote", quote), ("replay", replay)]);
     depths
 }

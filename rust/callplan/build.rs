@@ -9,6 +9,10 @@ fn main() {
     println!("cargo:rerun-if-env-changed=CALLPLAN_DIR");
     let here = PathBuf::from(env::var_os("CARGO_MANIFEST_DIR").expect("cargo sets it"));
     let folder = match env::var_os("CALLPLAN_DIR") {
+        Some(folder) if PathBuf::from(&folder).is_relative() => {
+            eprintln!("CALLPLAN_DIR is relative, {folder:?}: name the folder from the root on.");
+            exit(1);
+        }
         Some(folder) => PathBuf::from(folder),
         None => here.join("../../dist"),
     };

@@ -344,3 +344,9 @@ fn unjoin_at_every_place() {
         }
     }
 }
+
+/// The version of the archive, 0.2.0.
+#[test]
+fn the_library_says_its_version() {
+    assert_eq!(reference::proved::version(), 200);
+}

@@ -30,11 +30,14 @@ fn random_images() {
     tally.print(&format!(
         "images: {IMAGES}, and some again over an altered plan"
     ));
-    tally.assert_covers(&["read"]);
+    tally.assert_covers(&["read", "from_image"]);
 }
 
-/// Reads the image on both. An accepted one must be written back as it was.
+/// Reads the image on both, and makes a plan of it alone. An accepted one must be written back as it
+/// was.
 fn read(pair: &mut Pair, octets: &[u8], tally: &mut Tally) {
+    let made = pair.clone().run(&Call::FromImage(octets.to_vec()));
+    tally.add("from_image", made);
     let answer = pair.run(&Call::Read(octets.to_vec()));
     tally.add("read", answer);
     if answer == ACCEPTED {

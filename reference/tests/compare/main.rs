@@ -7,6 +7,8 @@ mod images;
 #[cfg(feature = "quotations")]
 #[path = "../figures/library.rs"]
 mod library;
+#[cfg(feature = "quotations")]
+mod lists;
 mod pair;
 #[cfg(feature = "quotations")]
 mod quotations;

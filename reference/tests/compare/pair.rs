@@ -1,5 +1,6 @@
 //! The two calculators side by side: each call is made on both, and what they did is compared.
 
+use reference::image::decode;
 use reference::proved::{LentPlan, ACCEPTED, COUNTS, FIELDS, MARKS};
 use reference::{Plan, Refusal, Transition, MAX_TRANSITIONS};
 
@@ -9,6 +10,8 @@ use reference::rng::Rng;
 #[derive(Clone, Debug)]
 pub enum Call {
     Fresh(usize),
+    /// A plan made from an image alone.
+    FromImage(Vec<u8>),
     Mark(usize, u32),
     Join(Transition),
     Unjoin(usize),
@@ -21,6 +24,7 @@ impl Call {
     pub fn name(&self) -> &'static str {
         match self {
             Call::Fresh(_) => "fresh",
+            Call::FromImage(_) => "from_image",
             Call::Mark(..) => "mark",
             Call::Join(_) => "join",
             Call::Unjoin(_) => "unjoin",
@@ -101,6 +105,10 @@ impl Pair {
                 let fresh = Plan::fresh(*n).map(|plan| self.plan = plan);
                 (number(fresh), self.lent.fresh(*n))
             }
+            Call::FromImage(octets) => {
+                let made = decode(octets).map(|plan| self.plan = plan);
+                (number(made), self.lent.make(octets))
+            }
             Call::Mark(state, value) => (
                 number(self.plan.mark(*state, *value)),
                 self.lent.mark(*state, *value),
@@ -136,7 +144,7 @@ impl Pair {
         } else {
             assert!(self.lent.plan() == self.plan, "plans after {call:?}");
             let mut expected = before;
-            if let Call::Fresh(_) = call {
+            if let Call::Fresh(_) | Call::FromImage(_) = call {
                 expected.marks[..MARKS].fill(0);
                 expected.fields[..FIELDS].fill(0);
             }

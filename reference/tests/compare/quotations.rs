@@ -1,5 +1,7 @@
 //! Quotations after lists of calls, of images of all sorts, and of plans and slices that are wrong.
 
+use std::collections::BTreeSet;
+
 use reference::image::decode;
 use reference::kinds::Kinds;
 use reference::proved::{self, LentPlan, ACCEPTED, COUNTS, FIELDS, MARKS, OUT, SHORT_SLICE, WALKS};
@@ -79,11 +81,15 @@ fn the_chain_by_calls() {
 fn images_quoted_at_once() {
     let mut tally = Tally::default();
     let mut kinds = Kinds::default();
+    let mut short = BTreeSet::new();
     for number in 0..IMAGES {
         let case = Case { seed: SEED, number };
         let mut rng = case.rng();
         let octets = generate::image(&mut rng);
-        match decode(&octets) {
+        let decoded = decode(&octets);
+        let refusal = decoded.as_ref().err().copied();
+        short.insert(library::quote_image_short(&mut rng, &octets, refusal));
+        match decoded {
             Ok(plan) => {
                 let values = values(&plan);
                 library::quote_image(&mut rng, &octets, Ok((&plan, &values)));
@@ -102,6 +108,8 @@ fn images_quoted_at_once() {
     ));
     kinds.assert_covers();
     tally.assert_covers(&["quote"]);
+    let image_refusals_and_11 = (1..=8).chain([Refusal::BufferTooShort.number()]);
+    assert!(short.into_iter().eq(image_refusals_and_11));
 }
 
 #[test]
@@ -154,17 +162,22 @@ fn quotations_of_plans_that_break_a_limit() {
     }
 }
 
-/// A slice with too few places for a plan or for the answers is refused before all else.
+/// Slices with too few places for a plan are no plan, whatever else is lent. Too few places for an
+/// answer are 11, after 0.
 #[test]
 fn short_slices_for_plans_and_answers() {
-    for (counts, marks, fields, out) in [
-        (1, MARKS, FIELDS, OUT),
-        (COUNTS, MARKS - 1, FIELDS, OUT),
-        (COUNTS, MARKS, FIELDS - 1, OUT),
-        (COUNTS, MARKS, FIELDS, OUT - 1),
-        (COUNTS, MARKS, FIELDS, 0),
-        (0, 0, 0, 0),
+    let (broken, few) = (
+        Refusal::BrokenPlan.number(),
+        Refusal::BufferTooShort.number(),
+    );
+    for (counts, marks, fields) in [
+        (1, MARKS, FIELDS),
+        (COUNTS, MARKS - 1, FIELDS),
+        (COUNTS, MARKS, FIELDS - 1),
+        (0, 0, 0),
+        (COUNTS, MARKS, FIELDS),
     ] {
+        let is_plan = (counts, marks, fields) == (COUNTS, MARKS, FIELDS);
         for n in [0, 1] {
             // No plan, or a plan of one state.
             let lent = LentPlan {
@@ -173,31 +186,37 @@ fn short_slices_for_plans_and_answers() {
                 fields: vec![0; fields],
             };
             let before = lent.clone();
-            for places in [0, 5] {
+            for (places, out) in [(0, OUT), (0, 0), (5, 0), (5, OUT - 1)] {
                 let mut walk = vec![7; places];
                 let mut answers = vec![7; out];
+                let expected = match (is_plan, n) {
+                    (false, _) => SHORT_SLICE,
+                    (true, 0) => broken,
+                    (true, _) => few,
+                };
                 for figure in FIGURES {
                     let answer = lent.quote(figure, &mut walk, &mut answers);
-                    assert_eq!(answer, SHORT_SLICE, "{counts} {marks} {fields} {out}");
+                    assert_eq!(answer, expected, "{counts} {marks} {fields} {out}");
                 }
                 assert!(walk.iter().all(|&place| place == 7));
                 assert!(answers.iter().all(|&place| place == 7));
             }
-            if out == OUT {
-                for octets in [0, 20] {
-                    let mut buffer = vec![7; octets];
+            for octets in [0, 20] {
+                let mut buffer = vec![7; octets];
+                if !is_plan {
                     assert_eq!(lent.record(&mut buffer), SHORT_SLICE);
-                    assert!(buffer.iter().all(|&octet| octet == 7));
                 }
+                assert!(buffer.iter().all(|&octet| octet == 7));
             }
             assert!(lent == before);
         }
     }
-    for (walks, out) in [(WALKS - 1, 4 * OUT), (WALKS, 4 * OUT - 1), (0, 0)] {
-        for octets in [&P1[..], &P1[..3], &[]] {
+    let short = Refusal::ImageTooShort.number();
+    for (octets, expected) in [(&P1[..], few), (&P1[..3], short), (&[], short)] {
+        for (walks, out) in [(WALKS - 1, 4 * OUT), (WALKS, 4 * OUT - 1), (0, 0)] {
             let mut walks = vec![7; walks];
             let mut out = vec![7; out];
-            assert_eq!(proved::quote(octets, &mut walks, &mut out), SHORT_SLICE);
+            assert_eq!(proved::quote(octets, &mut walks, &mut out), expected);
             assert!(walks.iter().all(|&place| place == 7));
             assert!(out.iter().all(|&place| place == 7));
         }

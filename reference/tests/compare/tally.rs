@@ -6,15 +6,18 @@ use reference::proved::ACCEPTED;
 
 use reference::rng::print;
 
-/// The numbers by which the table lets each call be refused.
-const TABLE: [(&str, &[u32]); 7] = [
+/// The numbers by which the table lets each call be refused; of replay also those of what is no
+/// list of calls, and no plan.
+const TABLE: [(&str, &[u32]); 9] = [
     ("fresh", &[4]),
+    ("from_image", &[1, 2, 3, 4, 5, 6, 7, 8]),
     ("mark", &[0, 7, 12]),
     ("join", &[0, 7, 8, 9]),
     ("unjoin", &[0, 10]),
     ("read", &[0, 1, 2, 3, 4, 5, 6, 7, 8]),
     ("write", &[0, 11]),
     ("quote", &[1, 2, 3, 4, 5, 6, 7, 8]),
+    ("replay", &[4, 11, 254, 255]),
 ];
 
 /// How often each call gave each answer. Accepted calls are counted together.

@@ -39,6 +39,15 @@ pub fn quote(
     let mut out = vec![rng.next() as u32; OUT + rng.below(3)];
     let (mut expected_walk, mut expected_out) = (walk.clone(), out.clone());
 
+    // Too few places for the answer: the plan's refusal, or 11.
+    let short = match expected {
+        Err(Refusal::BrokenPlan) => Refusal::BrokenPlan,
+        _ => Refusal::BufferTooShort,
+    };
+    let answer = lent.quote(figure, &mut walk, &mut out[..rng.below(OUT)]);
+    assert_eq!(answer, short.number(), "{}: a short answer", figure.name());
+    assert!(walk == expected_walk && out == expected_out, "a refusal");
+
     let answer = lent.quote(figure, &mut walk, &mut out);
     let name = figure.name();
     match expected {
@@ -81,18 +90,56 @@ pub fn quote_image(rng: &mut Rng, octets: &[u8], expected: Result<(&Plan, &[Valu
         Err(refusal) => assert_eq!(answer, refusal.number(), "{octets:02X?}"),
         Ok((plan, values)) => {
             assert_eq!(answer, ACCEPTED, "{octets:02X?}");
-            for (place, figure) in FIGURES.into_iter().enumerate() {
-                let walk = &walks[MAX_STATES * place..][..MAX_STATES];
-                let out = &out[OUT * place..][..OUT];
-                let k = assert_shown(plan, figure, values[place], walk, out);
-                expected_walks[MAX_STATES * place..][..k].copy_from_slice(&walk[..k]);
-                expected_out[OUT * place..][..OUT].copy_from_slice(out);
-            }
+            assert_four(
+                plan,
+                values,
+                &walks,
+                &out,
+                &mut expected_walks,
+                &mut expected_out,
+            );
         }
     }
     assert!(walks == expected_walks, "a place beside the walks changed");
     assert!(out == expected_out, "a place past the answers changed");
     assert!(lent_octets == octets, "the octets changed");
+}
+
+/// Asserts four figures with their walks, one after another. The places before then get what may
+/// stand there afterwards.
+pub fn assert_four(
+    plan: &Plan,
+    values: &[Value; 4],
+    walks: &[u16],
+    out: &[u32],
+    expected_walks: &mut [u16],
+    expected_out: &mut [u32],
+) {
+    for (place, figure) in FIGURES.into_iter().enumerate() {
+        let walk = &walks[MAX_STATES * place..][..MAX_STATES];
+        let out = &out[OUT * place..][..OUT];
+        let k = assert_shown(plan, figure, values[place], walk, out);
+        expected_walks[MAX_STATES * place..][..k].copy_from_slice(&walk[..k]);
+        expected_out[OUT * place..][..OUT].copy_from_slice(out);
+    }
+}
+
+/// All four figures of an image into too few places, for the walks, for the answers or for both:
+/// the image's refusal, or 11. Returns the answer.
+pub fn quote_image_short(rng: &mut Rng, octets: &[u8], refusal: Option<Refusal>) -> u32 {
+    let few_walks = rng.pick(&[0, 1, MAX_STATES, WALKS - 1, WALKS]);
+    let few_out = match few_walks < WALKS {
+        true => rng.pick(&[0, OUT, 4 * OUT - 1, 4 * OUT, 4 * OUT + 1]),
+        false => rng.below(4 * OUT),
+    };
+    let mut walks = vec![rng.next() as u16; few_walks];
+    let mut out = vec![rng.next() as u32; few_out];
+    let (walks_before, out_before) = (walks.clone(), out.clone());
+    let answer = proved::quote(octets, &mut walks, &mut out);
+    let expected = refusal.unwrap_or(Refusal::BufferTooShort).number();
+    assert_eq!(answer, expected, "{few_walks} {few_out} {octets:02X?}");
+    assert!(walks == walks_before && out == out_before, "a refusal");
+    answer
 }
 
 /// Asserts the kind and the figure as numbers, and a walk as document 01 asks. Returns k.

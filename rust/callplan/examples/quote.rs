@@ -1,8 +1,6 @@
 //! Reads the image in a file and prints its four figures with their walks, or the number that it is
 //! refused by: the lines of ./quote.
 
-#![deny(warnings)]
-
 use std::io::{self, stdout, Write};
 use std::{env, fs};
 

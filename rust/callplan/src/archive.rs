@@ -1,8 +1,21 @@
 //! The functions of the archive. `checks/header.py` compares them with the source of the library.
 
 extern "C" {
+    pub fn callplan_lent_version() -> u32;
+
     pub fn callplan_lent_fresh(
         n: usize,
+        counts: *mut usize,
+        counts_len: usize,
+        marks: *mut u8,
+        marks_len: usize,
+        fields: *mut u16,
+        fields_len: usize,
+    ) -> u32;
+
+    pub fn callplan_lent_from_image(
+        octets: *const u8,
+        octets_len: usize,
         counts: *mut usize,
         counts_len: usize,
         marks: *mut u8,
@@ -133,6 +146,30 @@ extern "C" {
     pub fn callplan_lent_quote(
         octets: *const u8,
         octets_len: usize,
+        walks: *mut u16,
+        walks_len: usize,
+        out: *mut u32,
+        out_len: usize,
+    ) -> u32;
+
+    // A `Plan` of this crate makes each call by itself.
+    #[allow(dead_code)]
+    pub fn callplan_lent_replay(
+        n: usize,
+        kinds: *const u8,
+        kinds_len: usize,
+        arguments: *const usize,
+        arguments_len: usize,
+        octets: *const u8,
+        octets_len: usize,
+        answers: *mut u32,
+        answers_len: usize,
+        counts: *mut usize,
+        counts_len: usize,
+        marks: *mut u8,
+        marks_len: usize,
+        fields: *mut u16,
+        fields_len: usize,
         walks: *mut u16,
         walks_len: usize,
         out: *mut u32,

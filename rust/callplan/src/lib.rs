@@ -1,14 +1,33 @@
 //! The call plan calculator: a call plan is edited, read and written as an image, and quoted.
 //!
 //! The calls are those of the proved archive, `libcallplan.a`, and each answers as `callplan.h`
-//! says. No call keeps anything when it has returned, so plans may be used from any thread.
+//! says. No call keeps anything when it has returned, so plans may be used from any thread. The
+//! crate needs neither a heap nor `std`.
+//!
+//! ```
+//! use callplan::{Figure, Plan, Transition, FINAL, START};
+//!
+//! let mut plan = Plan::fresh(2)?;
+//! plan.mark(0, START)?;
+//! plan.mark(1, FINAL)?;
+//! plan.join(Transition { from: 0, to: 1, low: 5, high: 20 })?;
+//! let quotation = plan.greatest_delay();
+//! assert_eq!(quotation.figure(), Figure::Number(20));
+//! assert_eq!(quotation.walk(), [0]);
+//! # Ok::<(), callplan::Refusal>(())
+//! ```
 
-#![deny(warnings, missing_docs)]
+#![no_std]
+#![deny(missing_docs)]
+
+#[cfg(test)]
+extern crate std;
 
 mod archive;
 mod refusal;
 
-use std::fmt;
+use core::fmt;
+use core::hash::{Hash, Hasher};
 
 pub use refusal::Refusal;
 
@@ -29,6 +48,10 @@ pub const START: u32 = 4;
 pub const FINAL: u32 = 2;
 /// The state counts.
 pub const COUNTED: u32 = 1;
+
+/// The version of the archive that this crate is for: 10,000 times the first number, 100 times the
+/// second, and the third.
+pub const VERSION_NUMBER: u32 = 200;
 
 /// What the archive answers for accepted. Write and record add the octets' number.
 const ACCEPTED: u32 = 256;
@@ -67,12 +90,14 @@ pub struct Quotation {
 
 impl Quotation {
     /// The figure.
+    #[must_use]
     pub fn figure(&self) -> Figure {
         self.figure
     }
 
     /// The walk, as transition numbers. Beside a number or [`Figure::Stranded`] an empty one is a
     /// start alone.
+    #[must_use]
     pub fn walk(&self) -> &[u16] {
         &self.places[..self.k]
     }
@@ -90,6 +115,22 @@ impl Quotation {
             k: k as usize,
             places,
         }
+    }
+}
+
+/// Equal where figure and walk are.
+impl PartialEq for Quotation {
+    fn eq(&self, other: &Quotation) -> bool {
+        self.figure == other.figure && self.walk() == other.walk()
+    }
+}
+
+impl Eq for Quotation {}
+
+impl Hash for Quotation {
+    fn hash<H: Hasher>(&self, state: &mut H) {
+        self.figure.hash(state);
+        self.walk().hash(state);
     }
 }
 
@@ -116,7 +157,8 @@ type Quote = unsafe extern "C" fn(
     usize,
 ) -> u32;
 
-/// A plan, always within the limits. It is 16,912 octets large, and is kept where it is put.
+/// A plan, always within the limits. It is 16,912 octets large, and is kept where it is put. Two
+/// plans are equal where their states and transitions are.
 #[derive(Clone)]
 pub struct Plan {
     counts: [usize; 2],
@@ -124,16 +166,24 @@ pub struct Plan {
     fields: [u16; 4 * MAX_TRANSITIONS],
 }
 
+/// No plan yet: 0 states, all else zero.
+const NO_PLAN: Plan = Plan {
+    counts: [0; 2],
+    marks: [0; MAX_STATES],
+    fields: [0; 4 * MAX_TRANSITIONS],
+};
+
 // SAFETY, of each call of the archive: every pointer stands beside its number of places, which live
 // through the call, and those that it may write to are borrowed for it alone.
 impl Plan {
     /// A plan with n states, all marks 0, and no transitions.
+    ///
+    /// # Errors
+    ///
+    /// [`Refusal::StateCount`].
     pub fn fresh(n: usize) -> Result<Plan, Refusal> {
-        let mut plan = Plan {
-            counts: [0; 2],
-            marks: [0; MAX_STATES],
-            fields: [0; 4 * MAX_TRANSITIONS],
-        };
+        check_version();
+        let mut plan = NO_PLAN;
         let answer = unsafe {
             archive::callplan_lent_fresh(
                 n,
@@ -145,17 +195,42 @@ impl Plan {
                 plan.fields.len(),
             )
         };
-        accepted(answer).map(|_| plan)
+        accepted(answer)?;
+        Ok(plan)
     }
 
     /// The plan that the octets are the image of.
+    ///
+    /// # Errors
+    ///
+    /// [`Refusal::ImageShort`] of fewer than 4 octets, [`Refusal::Version`],
+    /// [`Refusal::StateCount`], [`Refusal::TransitionCount`], [`Refusal::SpareBits`] of the pad,
+    /// [`Refusal::ImageShort`], [`Refusal::ImageLong`]; state by state [`Refusal::SpareBits`];
+    /// transition by transition [`Refusal::StateNumber`], [`Refusal::Duration`].
     pub fn from_image(octets: &[u8]) -> Result<Plan, Refusal> {
-        let mut plan = Plan::fresh(1)?;
-        plan.read(octets)?;
+        check_version();
+        let mut plan = NO_PLAN;
+        let answer = unsafe {
+            archive::callplan_lent_from_image(
+                octets.as_ptr(),
+                octets.len(),
+                plan.counts.as_mut_ptr(),
+                plan.counts.len(),
+                plan.marks.as_mut_ptr(),
+                plan.marks.len(),
+                plan.fields.as_mut_ptr(),
+                plan.fields.len(),
+            )
+        };
+        accepted(answer)?;
         Ok(plan)
     }
 
     /// Makes the marks value of a state the value given.
+    ///
+    /// # Errors
+    ///
+    /// [`Refusal::StateNumber`], [`Refusal::MarksValue`].
     pub fn mark(&mut self, state: usize, value: u32) -> Result<(), Refusal> {
         let answer = unsafe {
             archive::callplan_lent_mark(
@@ -173,6 +248,10 @@ impl Plan {
     }
 
     /// Puts a transition at the end of the list.
+    ///
+    /// # Errors
+    ///
+    /// [`Refusal::StateNumber`], [`Refusal::Duration`], [`Refusal::ListFull`].
     pub fn join(&mut self, transition: Transition) -> Result<(), Refusal> {
         let answer = unsafe {
             archive::callplan_lent_join(
@@ -192,6 +271,10 @@ impl Plan {
     }
 
     /// Takes the transition with this number out of the list. The later ones move down by one.
+    ///
+    /// # Errors
+    ///
+    /// [`Refusal::TransitionNumber`].
     pub fn unjoin(&mut self, number: usize) -> Result<(), Refusal> {
         let answer = unsafe {
             archive::callplan_lent_unjoin(
@@ -208,6 +291,10 @@ impl Plan {
     }
 
     /// Becomes the plan that the octets are the image of.
+    ///
+    /// # Errors
+    ///
+    /// Those of [`Plan::from_image`]; the plan then stays as it was.
     pub fn read(&mut self, octets: &[u8]) -> Result<(), Refusal> {
         let answer = unsafe {
             archive::callplan_lent_read(
@@ -225,6 +312,10 @@ impl Plan {
     }
 
     /// Puts the image at the front of the buffer, and gives the number of its octets.
+    ///
+    /// # Errors
+    ///
+    /// [`Refusal::BufferLength`].
     pub fn write(&self, buffer: &mut [u8]) -> Result<usize, Refusal> {
         accepted(unsafe {
             archive::callplan_lent_write(
@@ -241,27 +332,35 @@ impl Plan {
     }
 
     /// The smallest sum of lows over all routes.
+    #[must_use]
     pub fn least_delay(&self) -> Quotation {
         self.quote(archive::callplan_lent_least_delay)
     }
 
     /// The largest sum of highs over all routes, unless calls can go unanswered.
+    #[must_use]
     pub fn greatest_delay(&self) -> Quotation {
         self.quote(archive::callplan_lent_greatest_delay)
     }
 
     /// The smallest number of counted states on a route, first and last included.
+    #[must_use]
     pub fn least_count(&self) -> Quotation {
         self.quote(archive::callplan_lent_least_count)
     }
 
     /// The largest number of counted states on a route, unless calls can go unanswered.
+    #[must_use]
     pub fn greatest_count(&self) -> Quotation {
         self.quote(archive::callplan_lent_greatest_count)
     }
 
     /// Puts the record of the four figures at the front of the buffer, and gives the number of its
     /// octets.
+    ///
+    /// # Errors
+    ///
+    /// [`Refusal::BufferLength`].
     pub fn record(&self, buffer: &mut [u8]) -> Result<usize, Refusal> {
         accepted(unsafe {
             archive::callplan_lent_record(
@@ -278,21 +377,25 @@ impl Plan {
     }
 
     /// The number of states.
+    #[must_use]
     pub fn states(&self) -> usize {
         self.counts[0]
     }
 
     /// The number of transitions.
+    #[must_use]
     pub fn transitions(&self) -> usize {
         self.counts[1]
     }
 
     /// The marks value of a state.
+    #[must_use]
     pub fn marks(&self, state: usize) -> Option<u32> {
         (state < self.states()).then(|| self.marks[state].into())
     }
 
     /// The transition with this number.
+    #[must_use]
     pub fn transition(&self, number: usize) -> Option<Transition> {
         (number < self.transitions()).then(|| Transition {
             from: self.fields[number].into(),
@@ -324,6 +427,29 @@ impl Plan {
     }
 }
 
+impl Plan {
+    /// The four fields of the transitions, as far as their count goes.
+    fn parts(&self) -> [&[u16]; 4] {
+        [0, 1, 2, 3].map(|i| &self.fields[i * MAX_TRANSITIONS..][..self.transitions()])
+    }
+}
+
+impl PartialEq for Plan {
+    fn eq(&self, other: &Plan) -> bool {
+        self.marks[..self.states()] == other.marks[..other.states()]
+            && self.parts() == other.parts()
+    }
+}
+
+impl Eq for Plan {}
+
+impl Hash for Plan {
+    fn hash<H: Hasher>(&self, state: &mut H) {
+        self.marks[..self.states()].hash(state);
+        self.parts().hash(state);
+    }
+}
+
 impl fmt::Debug for Plan {
     fn fmt(&self, f: &mut fmt::Formatter) -> fmt::Result {
         f.debug_struct("Plan")
@@ -334,7 +460,12 @@ impl fmt::Debug for Plan {
 }
 
 /// Reads an image and quotes its least delay, greatest delay, least count and greatest count.
+///
+/// # Errors
+///
+/// Those of [`Plan::from_image`].
 pub fn quote(octets: &[u8]) -> Result<[Quotation; 4], Refusal> {
+    check_version();
     let mut walks = [[0; MAX_STATES]; 4];
     let mut out = [[0; 4]; 4];
     // SAFETY: as of the calls of a plan.
@@ -349,6 +480,16 @@ pub fn quote(octets: &[u8]) -> Result<[Quotation; 4], Refusal> {
         )
     };
     accepted(answer).map(|_| [0, 1, 2, 3].map(|i: usize| Quotation::of(out[i], walks[i])))
+}
+
+/// In a debug build: the archive is the one that this crate is for.
+fn check_version() {
+    // SAFETY: it takes nothing and touches nothing.
+    debug_assert_eq!(
+        unsafe { archive::callplan_lent_version() },
+        VERSION_NUMBER,
+        "libcallplan.a is of another version than the crate"
+    );
 }
 
 /// What an answer of the archive says: accepted, with a length from the calls that have one, or

@@ -1,73 +1,124 @@
 //! The table of refused calls.
 
-use std::error::Error;
-use std::fmt;
+use core::error::Error;
+use core::fmt;
 
-/// Why a call was refused. A refused call changes nothing.
+/// Why a call was refused. A refused call changes nothing. Later versions may have more.
 #[derive(Clone, Copy, Debug, PartialEq, Eq, Hash)]
+#[non_exhaustive]
 pub enum Refusal {
-    /// The plan breaks a limit. No [`Plan`](crate::Plan) does, so this never comes back.
-    PlanLimits = 0,
+    /// The plan breaks a limit of a plan. No [`Plan`](crate::Plan) does, so this never comes back.
+    PlanLimits,
     /// The image has fewer than 4 octets, or fewer than its counts give.
-    ImageShort = 1,
+    ImageShort,
     /// The image has more octets than its counts give.
-    ImageLong = 2,
+    ImageLong,
     /// The image's version is not 1.
-    Version = 3,
+    Version,
     /// The state count is 0 or above 512.
-    StateCount = 4,
+    StateCount,
     /// The transition count is above 2,048.
-    TransitionCount = 5,
+    TransitionCount,
     /// A pad or spare bit is set.
-    SpareBits = 6,
+    SpareBits,
     /// A state number is not below the state count.
-    StateNumber = 7,
+    StateNumber,
     /// Low is above high, or high above 2,047.
-    Duration = 8,
+    Duration,
     /// The plan has 2,048 transitions already.
-    ListFull = 9,
+    ListFull,
     /// A transition number is not below the transition count.
-    TransitionNumber = 10,
-    /// The buffer is shorter than what is to be put there.
-    BufferLength = 11,
+    TransitionNumber,
+    /// A lent buffer is shorter than what is to be put there.
+    BufferLength,
     /// The marks value is above 7.
-    MarksValue = 12,
+    MarksValue,
     /// A figure of the record is above 1,048,575. No plan has one, so this never comes back.
-    FigureSize = 13,
+    FigureSize,
+    /// A number that this version of the crate does not know.
+    Other(u32),
 }
 
-const REFUSALS: [Refusal; 14] = [
-    Refusal::PlanLimits,
-    Refusal::ImageShort,
-    Refusal::ImageLong,
-    Refusal::Version,
-    Refusal::StateCount,
-    Refusal::TransitionCount,
-    Refusal::SpareBits,
-    Refusal::StateNumber,
-    Refusal::Duration,
-    Refusal::ListFull,
-    Refusal::TransitionNumber,
-    Refusal::BufferLength,
-    Refusal::MarksValue,
-    Refusal::FigureSize,
+/// Each refusal with its number, and what it says.
+const REFUSALS: [(Refusal, u32, &str); 14] = [
+    (Refusal::PlanLimits, 0, "the plan breaks a limit of a plan"),
+    (
+        Refusal::ImageShort,
+        1,
+        "the image has fewer than 4 octets, or fewer than its counts give",
+    ),
+    (
+        Refusal::ImageLong,
+        2,
+        "the image has more octets than its counts give",
+    ),
+    (Refusal::Version, 3, "the image's version is not 1"),
+    (Refusal::StateCount, 4, "the state count is 0 or above 512"),
+    (
+        Refusal::TransitionCount,
+        5,
+        "the transition count is above 2,048",
+    ),
+    (Refusal::SpareBits, 6, "a pad or spare bit is set"),
+    (
+        Refusal::StateNumber,
+        7,
+        "a state number is not below the state count",
+    ),
+    (
+        Refusal::Duration,
+        8,
+        "low is above high, or high above 2,047",
+    ),
+    (
+        Refusal::ListFull,
+        9,
+        "the plan has 2,048 transitions already",
+    ),
+    (
+        Refusal::TransitionNumber,
+        10,
+        "a transition number is not below the transition count",
+    ),
+    (
+        Refusal::BufferLength,
+        11,
+        "a lent buffer is shorter than what is to be put there",
+    ),
+    (Refusal::MarksValue, 12, "the marks value is above 7"),
+    (
+        Refusal::FigureSize,
+        13,
+        "a figure of the record is above 1,048,575",
+    ),
 ];
 
 impl Refusal {
     /// The number that the table gives it.
+    #[must_use]
     pub fn number(self) -> u32 {
-        self as u32
+        match (REFUSALS.iter().find(|row| row.0 == self), self) {
+            (Some(row), _) => row.1,
+            (None, Refusal::Other(number)) => number,
+            (None, _) => unreachable!("every refusal but the last has its row"),
+        }
     }
 
-    /// The refusal with a number of the table.
+    /// The refusal with a number.
     pub(crate) fn of(number: u32) -> Refusal {
-        REFUSALS[number as usize]
+        match REFUSALS.iter().find(|row| row.1 == number) {
+            Some(row) => row.0,
+            None => Refusal::Other(number),
+        }
     }
 }
 
 impl fmt::Display for Refusal {
     fn fmt(&self, f: &mut fmt::Formatter) -> fmt::Result {
-        write!(f, "refused {}", self.number())
+        match REFUSALS.iter().find(|row| row.0 == *self) {
+            Some(row) => f.write_str(row.2),
+            None => f.write_str("an unknown answer"),
+        }
     }
 }
 
@@ -76,11 +127,18 @@ impl Error for Refusal {}
 #[cfg(test)]
 mod tests {
     use super::*;
+    use std::string::ToString;
 
     #[test]
     fn every_number_has_its_refusal() {
-        for number in 0..14 {
+        for number in 0..300 {
             assert_eq!(Refusal::of(number).number(), number);
         }
+    }
+
+    #[test]
+    fn a_refusal_says_what_it_is() {
+        assert_eq!(Refusal::SpareBits.to_string(), "a pad or spare bit is set");
+        assert_eq!(Refusal::of(255).to_string(), "an unknown answer");
     }
 }

@@ -1,7 +1,6 @@
 //! Every call of the crate, accepted and refused.
 
-#![deny(warnings)]
-
+use std::hash::{DefaultHasher, Hash, Hasher};
 use std::thread;
 
 use callplan::{Figure, Plan, Refusal, Transition, COUNTED, FINAL, MAX_TRANSITIONS, START};
@@ -32,6 +31,12 @@ fn p1() -> Result<Plan, Refusal> {
     plan.join(transition(1, 3, 2, 30))?;
     plan.join(transition(2, 3, 4, 25))?;
     Ok(plan)
+}
+
+fn hash(value: &impl Hash) -> u64 {
+    let mut hasher = DefaultHasher::new();
+    value.hash(&mut hasher);
+    hasher.finish()
 }
 
 fn image(plan: &Plan) -> Vec<u8> {
@@ -172,6 +177,37 @@ fn the_record_is_that_of_document_01() {
         buffer,
         [0x00, 0x00, 0x1C, 0x00, 0x03, 0xC0, 0x00, 0x00, 0x40, 0x00, 0x02, 0xAA]
     );
+}
+
+#[test]
+fn plans_and_quotations_are_equal_by_what_they_mean() {
+    let (one, mut other) = (p1().unwrap(), p1().unwrap());
+    assert_eq!(one, other);
+    assert_eq!(hash(&one), hash(&other));
+    other.join(transition(0, 3, 1, 2)).unwrap();
+    assert_ne!(one, other);
+    other.unjoin(4).unwrap(); // what was joined still lies past the count
+    assert_eq!(one, other);
+    assert_eq!(hash(&one), hash(&other));
+    other.mark(1, FINAL).unwrap();
+    assert_ne!(one, other);
+    assert_ne!(Plan::fresh(1).unwrap(), Plan::fresh(2).unwrap());
+    assert_eq!(one.least_delay(), p1().unwrap().least_delay());
+    assert_eq!(hash(&one.least_delay()), hash(&p1().unwrap().least_delay()));
+    assert_ne!(one.least_delay(), one.greatest_delay());
+}
+
+#[test]
+fn an_image_makes_a_plan_or_is_refused() {
+    assert_eq!(Plan::from_image(&P1).unwrap(), p1().unwrap());
+    assert_eq!(Plan::from_image(&[]).unwrap_err(), Refusal::ImageShort);
+    assert_eq!(
+        Plan::from_image(&P1[..27]).unwrap_err(),
+        Refusal::ImageShort
+    );
+    let mut octets = P1;
+    octets[3] = 1;
+    assert_eq!(Plan::from_image(&octets).unwrap_err(), Refusal::SpareBits);
 }
 
 #[test]
