@@ -246,18 +246,103 @@ static void short_slices(void)
     uint16_t walks[2048] = {0};
     uint32_t outs[16] = {0};
 
-    CHECK(callplan_lent_quote(p1_image, 28, walks, 2047, outs, 16) == CALLPLAN_SHORT_SLICE);
-    CHECK(callplan_lent_quote(p1_image, 28, walks, 2048, outs, 15) == CALLPLAN_SHORT_SLICE);
+    CHECK(callplan_lent_quote(p1_image, 28, walks, 2047, outs, 16) == CALLPLAN_REFUSED_BUFFER_LENGTH);
+    CHECK(callplan_lent_quote(p1_image, 28, walks, 2048, outs, 15) == CALLPLAN_REFUSED_BUFFER_LENGTH);
+    CHECK(callplan_lent_quote(p1_image, 3, walks, 2047, outs, 15) == CALLPLAN_REFUSED_IMAGE_SHORT);
     CHECK(callplan_lent_quote(p1_image, 28, walks, 2048, outs, 16) == CALLPLAN_ACCEPTED);
     CHECK(outs[1] == 7 && outs[5] == 60 && outs[9] == 1 && outs[13] == 2 && walks[1] == 2 && walks[512 + 2] == 3);
     CHECK(callplan_lent_fresh(1, plan.counts, 1, plan.marks, 512, plan.fields, 8192) == CALLPLAN_SHORT_SLICE);
     CHECK(callplan_lent_fresh(1, plan.counts, 2, plan.marks, 511, plan.fields, 8192) == CALLPLAN_SHORT_SLICE);
     CHECK(callplan_lent_fresh(1, plan.counts, 2, plan.marks, 512, plan.fields, 8191) == CALLPLAN_SHORT_SLICE);
-    CHECK(callplan_lent_least_delay(plan.counts, 2, plan.marks, 512, plan.fields, 8192, walk, 4, out, 3) == CALLPLAN_SHORT_SLICE);
+    CHECK(callplan_lent_least_delay(plan.counts, 2, plan.marks, 512, plan.fields, 8192, walk, 4, out, 3) ==
+          CALLPLAN_REFUSED_BUFFER_LENGTH);
     CHECK(callplan_lent_least_delay(plan.counts, 2, plan.marks, 512, plan.fields, 8192, walk, 3, out, 4) ==
           CALLPLAN_REFUSED_BUFFER_LENGTH);
     CHECK(callplan_lent_least_delay(plan.counts, 2, plan.marks, 512, plan.fields, 8192, walk, 4, out, 4) == CALLPLAN_ACCEPTED);
     CHECK(out[0] == 0 && out[1] == 7 && out[2] == 2 && out[3] == 0 && walk[1] == 2);
+}
+
+/* P1 by a list of calls, a refused one and one that is undone among them; then lists that are none. */
+static void lists(void)
+{
+    enum { M = CALLPLAN_CALL_MARK, J = CALLPLAN_CALL_JOIN, U = CALLPLAN_CALL_UNJOIN, R = CALLPLAN_CALL_READ };
+    const uint8_t kinds[] = {M, J, J, M, U, R};
+    const size_t arguments[] = {0, 4, 0, 0, 0, 9, 1, 1, 0, 1, 1, 9, 1, 2, 0, 0, 0, 0, 0, 0, 0, 28, 0, 0};
+    const uint8_t unknown[] = {4};
+    uint32_t answers[7] = {9, 9, 9, 9, 9, 9, 9};
+    const callplan_plan read = p1();
+    callplan_plan plan, before;
+    callplan_quotations quotations, blank;
+
+    memset(&plan, 7, sizeof plan);
+    memset(&quotations, 7, sizeof quotations);
+    before = plan;
+    blank = quotations;
+    CHECK(callplan_replay(&plan, 513, kinds, arguments, 6, p1_image, 28, answers, &quotations) == CALLPLAN_REFUSED_STATE_COUNT);
+    CHECK(callplan_replay(&plan, 2, unknown, arguments, 1, p1_image, 28, answers, &quotations) == CALLPLAN_NO_CALLS);
+    CHECK(callplan_replay(&plan, 2, kinds, arguments, 6, p1_image, 27, answers, &quotations) == CALLPLAN_NO_CALLS);
+    CHECK(is_same_plan(&plan, &before) && answers[0] == 9 && memcmp(&quotations, &blank, sizeof blank) == 0);
+
+    CHECK(callplan_replay(&plan, 2, kinds, arguments, 5, NULL, 0, answers, &quotations) == CALLPLAN_ACCEPTED);
+    CHECK(answers[0] == CALLPLAN_ACCEPTED && answers[1] == CALLPLAN_REFUSED_STATE_NUMBER && answers[2] == CALLPLAN_ACCEPTED);
+    CHECK(answers[3] == CALLPLAN_ACCEPTED && answers[4] == CALLPLAN_ACCEPTED && answers[5] == 9);
+    CHECK(callplan_states(&plan) == 2 && callplan_transitions(&plan) == 0 && callplan_marks(&plan, 1) == CALLPLAN_FINAL);
+    CHECK(quotations.figures[CALLPLAN_LEAST_DELAY].kind == CALLPLAN_NONE);
+    CHECK(quotations.figures[CALLPLAN_GREATEST_DELAY].kind == CALLPLAN_STRANDED);
+
+    CHECK(callplan_replay(&plan, 2, kinds, arguments, 6, p1_image, 28, answers, &quotations) == CALLPLAN_ACCEPTED);
+    CHECK(answers[5] == CALLPLAN_ACCEPTED && answers[6] == 9);
+    CHECK(callplan_states(&plan) == callplan_states(&read) && callplan_transitions(&plan) == callplan_transitions(&read));
+    CHECK(quotations.figures[CALLPLAN_GREATEST_DELAY].value == 60 && quotations.figures[CALLPLAN_GREATEST_DELAY].walk[2] == 3);
+    CHECK(callplan_replay(&plan, 1, NULL, NULL, 0, NULL, 0, NULL, &quotations) == CALLPLAN_ACCEPTED);
+    CHECK(callplan_states(&plan) == 1 && quotations.figures[CALLPLAN_LEAST_COUNT].kind == CALLPLAN_NONE);
+}
+
+/* What a plan holds, and whether two are equal, whatever lies past the counts. */
+static void what_it_holds(void)
+{
+    callplan_plan plan = p1();
+    callplan_plan other = p1();
+    callplan_transition last;
+
+    CHECK(callplan_marks(&plan, 3) == CALLPLAN_FINAL && callplan_marks(&plan, 4) == 0 && callplan_marks(&plan, SIZE_MAX) == 0);
+    CHECK(callplan_equal(&plan, &other) == 1);
+    CHECK(callplan_join(&other, 0, 3, 1, 2) == CALLPLAN_ACCEPTED);
+    last = callplan_transition_at(&other, 4);
+    CHECK(last.from == 0 && last.to == 3 && last.low == 1 && last.high == 2);
+    CHECK(callplan_equal(&plan, &other) == 0);
+    CHECK(callplan_unjoin(&other, 4) == CALLPLAN_ACCEPTED);
+    last = callplan_transition_at(&other, 4);
+    CHECK(last.from == 0 && last.to == 0 && last.low == 0 && last.high == 0);
+    CHECK(memcmp(&plan, &other, sizeof plan) != 0 && callplan_equal(&plan, &other) == 1);
+    CHECK(callplan_mark(&other, 1, 0) == CALLPLAN_ACCEPTED && callplan_equal(&plan, &other) == 0);
+    other = plan;
+    other.counts[1] = SIZE_MAX;
+    CHECK(callplan_equal(&other, &other) == 0);
+}
+
+/* A plan made of an image, over one that breaks a limit. */
+static void plan_of_an_image(void)
+{
+    callplan_plan plan = p1();
+    callplan_plan before;
+    callplan_plan expected = p1();
+
+    plan.counts[0] = SIZE_MAX;
+    before = plan;
+    CHECK(callplan_from_image(&plan, NULL, 0) == CALLPLAN_REFUSED_IMAGE_SHORT);
+    CHECK(callplan_from_image(&plan, p1_image, 27) == CALLPLAN_REFUSED_IMAGE_SHORT);
+    CHECK(is_same_plan(&plan, &before));
+    CHECK(callplan_from_image(&plan, p1_image, sizeof p1_image) == CALLPLAN_ACCEPTED);
+    CHECK(callplan_equal(&plan, &expected) == 1);
+}
+
+/* The archive's version, and what answers say. */
+static void words(void)
+{
+    CHECK(callplan_lent_version() == CALLPLAN_VERSION_NUMBER);
+    CHECK(strcmp(callplan_answer_text(CALLPLAN_REFUSED_SPARE_BITS), "a pad or spare bit is set") == 0);
+    CHECK(strcmp(callplan_answer_text(CALLPLAN_ACCEPTED), "accepted") == 0);
 }
 
 int main(void)
@@ -272,6 +357,10 @@ int main(void)
     quotations_of_an_image();
     broken_plan();
     short_slices();
+    lists();
+    what_it_holds();
+    plan_of_an_image();
+    words();
     printf("%d passed, %d failed\n", passed, failed);
     return failed == 0 ? 0 : 1;
 }

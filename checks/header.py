@@ -14,7 +14,8 @@ FILES = {
     "room": "crates/slices/specs/Lent.antt",
     "answered": "crates/answers/specs/Answered.antt",
     "lent": "crates/binding/specs/Lent.antt",
-    "quoted": "crates/binding/specs/Quoted.antt",
+    "lists": "crates/binding/specs/Lists.antt",
+    "calls": "crates/replay/specs/Slices.antt",
     "which": "crates/graph/specs/Which.antt",
     "figure": "crates/graph/specs/Figure.antt",
     "graph": "crates/graph/specs/Graph.antt",
@@ -30,6 +31,9 @@ FILES = {
     "archive": "rust/callplan/src/archive.rs",
     "refusals": "rust/callplan/src/refusal.rs",
     "proved": "reference/src/proved.rs",
+    "quote": "quote",
+    "page": "docs/quote.1",
+    "changes": "CHANGELOG.md",
 }
 C_TYPES = {"size_t": "usize", "uint8_t": "u8", "uint16_t": "u16", "uint32_t": "u32", "void": "()"}
 
@@ -55,7 +59,7 @@ def of_c(text):
     text = re.sub(r"/\*.*?\*/", "", text, flags=re.S)
     for result, name, parameters in re.findall(r"^(\w+) (\w+)\(([^)]*)\);", text, flags=re.M):
         out = []
-        for parameter in filter(None, map(str.strip, parameters.split(","))):
+        for parameter in filter(None, map(str.strip, parameters.replace("void", "").split(","))):
             const, kind, star, label = re.fullmatch(r"(const )?(\w+) (\*?)(\w+)", parameter).groups()
             pointer = f"*{'const' if const else 'mut'} " if star else ""
             out.append(f"{label}: {pointer}{C_TYPES[kind]}")
@@ -106,12 +110,20 @@ def comparisons(t):
     short = number(t["lent"], r"short : hasRoom before ≡ false → \(r ≡ (\d+)\)")
     accepted = number(t["refusal"], r"code \(accepted a\) = (\d+)")
     yield "the answer with a length", accepted, number(t["lent"], r"lengthCode \(accepted n\) = (\d+) \+ n")
+    no_calls = number(t["lists"], r"areCalls kinds arguments octets ≡ false → \(r ≡ (\d+)\)")
+    yield "short slices of a replay", short, number(t["lists"], r"short : .* ≡ false → \(r ≡ (\d+)\)")
     expected = [("REFUSED_" + constant(name), value) for name, value in table]
-    yield "include/callplan.h: the answers", expected + [("SHORT_SLICE", short), ("ACCEPTED", accepted)], answers
+    expected += [("NO_CALLS", no_calls), ("SHORT_SLICE", short), ("ACCEPTED", accepted)]
+    yield "include/callplan.h: the answers", expected, answers
+    yield "reference: no calls", no_calls, number(t["proved"], r"const NO_CALLS: u32 = (\d+)")
     declared = between(t["refusals"], "pub enum Refusal {", "}")
-    yield "rust/callplan: the refusals", table, numbers(declared, r"(?m)^ *(\w+) = (\d+),")
-    listed = between(t["refusals"], "const REFUSALS", "];")
-    yield "rust/callplan: the refusals by number", [name for name, _ in table], re.findall(r"Refusal::(\w+)", listed)
+    yield "rust/callplan: the refusals", [name for name, _ in table] + ["Other"], re.findall(r"(?m)^ *(\w+)(?:\(u32\))?,", declared)
+    listed = re.findall(r'\(\s*Refusal::(\w+),\s*(\d+),\s*"([^"]*)"', between(t["refusals"], "const REFUSALS", "];"))
+    yield "rust/callplan: the refusals by number", table, [(name, int(value)) for name, value, _ in listed]
+    said = re.findall(r'case CALLPLAN_REFUSED_(\w+): return "([^"]*)";', t["header"])
+    yield "what the refusals say, in C and in Rust", [(constant(name), text) for name, _, text in listed], said
+    texts = re.findall(r"case CALLPLAN_(\w+): return", t["header"])
+    yield "include/callplan.h: every answer says something", [name for name, _ in answers], texts
     yield "rust/callplan: accepted", accepted, number(t["crate"], r"const ACCEPTED: u32 = (\d+)")
     yield "reference: accepted", accepted, number(t["proved"], r"const ACCEPTED: u32 = (\d+)")
     yield "reference: short slices", short, number(t["proved"], r"const SHORT_SLICE: u32 = (\d+)")
@@ -149,11 +161,18 @@ def comparisons(t):
     slices = between(t["header"], "#define CALLPLAN_SLICES(plan)", "\n\n")
     given = "(plan)->counts, 2, (plan)->marks, CALLPLAN_MAX_STATES, (plan)->fields, 4 * CALLPLAN_MAX_TRANSITIONS"
     yield "include/callplan.h: the slices", given, slices.replace("\\", "").strip()
-    out = number(t["quoted"], r"canAnswer s out = hasRoom s && leb (\d+) \(length out\)")
+    out = number(t["quotations"], r"lentQuoteRows g walk out = .* bufferRow out (\d+) ∷")
     yield "include/callplan.h: the places of an answer", out, number(t["header"], r"figure->walk, CALLPLAN_MAX_STATES, out, (\d+)\)")
-    room = re.findall(r"canQuote walks out = leb (\d+) \(length walks\) && leb (\d+) \(length out\)", t["quoted"])
+    room = re.findall(r"lentHeldRows image walks out = .*bufferRow walks (\d+) ∷ bufferRow out (\d+) ∷", t["quotations"])
     yield "the places of four answers", [(str(4 * states), str(4 * out))], room
-    yield "include/callplan.h: the places of four answers", 1, t["header"].count(", walks, 4 * CALLPLAN_MAX_STATES, out, 4 * 4)")
+    yield "include/callplan.h: the places of four answers", 1, t["header"].count("length, walks, 4 * CALLPLAN_MAX_STATES, out, 4 * 4)")
+    room = re.findall(r"bufferRow \(p \.walks\) (\d+) ∷ bufferRow \(p \.out\) (\d+) ∷", t["lists"])
+    yield "the places of a replay", [(str(4 * states), str(4 * out))], room
+    given = "CALLPLAN_SLICES(plan), walks, 4 * CALLPLAN_MAX_STATES, out, 4 * 4)"
+    yield "include/callplan.h: the places of a replay", 1, t["header"].count(given)
+    calls = re.findall(r"(?m)^callOf octets (\S+|\(.*?\)+) a b c d = (\w+) ", t["calls"])
+    calls = [(name.upper(), pattern.count("suc")) for pattern, name in calls]
+    yield "include/callplan.h: the kinds of calls", calls, numbers(t["header"], r"CALLPLAN_CALL_(\w+) = (\d)")
     order = [(constant(name), place) for name, place in numbers(t["which"], r"(?m)^place (\w+) = (\d)$")]
     yield "the figures in turn", [name for name, _ in order], list(map(constant, re.findall(r"f (\w+)", between(t["which"], "\ninTurn f =", "\n"))))
     yield "the answers in turn", 1, t["answered"].count("fourNumbers q = inTurn (λ which. numbersOf (quoteOf q which))")
@@ -161,6 +180,14 @@ def comparisons(t):
     yield "include/callplan.h: the places of the figures", order, places
 
     version = re.findall(r'#define CALLPLAN_VERSION "([\d.]+)"', t["header"])
+    first, second, third = map(int, version[0].split("."))
+    archive = number(t["binding"], r"fn callplan_lent_version\(\) -> u32\s+ensures \{ λ r\. ⌜ r ≡ (\d+) ⌝ \}")
+    yield "the archive's version", 10000 * first + 100 * second + third, archive
+    yield "include/callplan.h: the version's number", archive, number(t["header"], r"#define CALLPLAN_VERSION_NUMBER (\d+)")
+    yield "rust/callplan: the version's number", archive, number(t["crate"], r"pub const VERSION_NUMBER: u32 = (\d+);")
+    yield "quote: the version", version, re.findall(r"(?m)^version=(.*)$", t["quote"])
+    yield "docs/quote.1: the version", version, re.findall(r'"callplan ([\d.]+)"', t["page"])
+    yield "CHANGELOG.md: the version", version, re.findall(r"(?m)^## ([\d.]+)$", t["changes"])[:1]
     yield "include/callplan.pc: the version", version, re.findall(r"(?m)^Version: (.*)$", t["package"])
     yield "rust/callplan: the version", version, re.findall(r'(?m)^version = "(.*)"$', t["cargo"])
 
@@ -182,7 +209,7 @@ DAMAGES = [
     ("binding", "    n: usize,", "    n: u32,"),
     ("binding", "    octets: &[u8],\n) -> u32", "    octets: &mut [u8],\n) -> u32"),
     ("binding", "least_delay(\n    counts: &[usize],\n    marks: &[u8],\n    fields: &[u16],\n    walk: &mut [u16],", "least_delay(\n    counts: &[usize],\n    marks: &[u8],\n    fields: &[u16],\n    walk: &mut [u32],"),
-    ("binding", "    from: usize,\n    to: usize,", "    to: usize,\n    from: usize,"),
+    ("binding", "    from: usize,\n    to: usize,\n    low: u32,", "    to: usize,\n    from: usize,\n    low: u32,"),
     ("binding", "    value: u32,\n) -> u32", "    value: u32,\n) -> u64"),
     ("binding", "#[no_mangle]\n", "#[no_mangle]\npub extern \"C\" fn callplan_lent_more(n: usize) -> u32\n{ 0 }\n\n#[no_mangle]\n"),
     ("binding", "#[no_mangle]\npub extern", "pub extern"),
@@ -192,10 +219,12 @@ DAMAGES = [
     ("refusal", "code (accepted a) = 256", "code (accepted a) = 512"),
     ("lent", "(r ≡ 255)", "(r ≡ 254)"),
     ("lent", "= 256 + n", "= 255 + n"),
+    ("lists", "(r ≡ 254)", "(r ≡ 253)"),
+    ("lists", "(r ≡ 255)", "(r ≡ 254)"),
+    ("lists", "bufferRow (p .walks) 2048", "bufferRow (p .walks) 2047"),
+    ("lists", "bufferRow (p .out) 16", "bufferRow (p .out) 4"),
+    ("calls", "a b c d = unjoin a", "a b c d = mark a b"),
     ("room", "leb 8192 fields", "leb 8191 fields"),
-    ("quoted", "leb 4 (length out)", "leb 5 (length out)"),
-    ("quoted", "leb 2048 (length walks)", "leb 2047 (length walks)"),
-    ("quoted", "leb 16 (length out)", "leb 15 (length out)"),
     ("answered", "inTurn (λ which.", "inTurn (λ other."),
     ("which", "place GreatestDelay = 1", "place GreatestDelay = 2"),
     ("which", "inTurn f = f LeastDelay", "inTurn f = f LeastCount"),
@@ -203,6 +232,9 @@ DAMAGES = [
     ("limits", "leb m 2048", "leb m 4096"),
     ("limits", "leb (t .high) 2047", "leb (t .high) 2046"),
     ("image", "4 + n + 5 * m", "4 + n + 6 * m"),
+    ("quotations", "bufferRow out 4 ∷", "bufferRow out 5 ∷"),
+    ("quotations", "bufferRow walks 2048 ∷ bufferRow out", "bufferRow walks 2047 ∷ bufferRow out"),
+    ("quotations", "bufferRow out 16 ∷", "bufferRow out 15 ∷"),
     ("quotations", "bufferRow buffer 11", "bufferRow buffer 16"),
     ("quotations", "(recordRows g buffer) 11", "(recordRows g buffer) 16"),
     ("graph", "startBit v = v / 4", "startBit v = v / 8"),
@@ -217,6 +249,10 @@ DAMAGES = [
     ("header", "uint32_t callplan_lent_record(", "uint32_t callplan_lent_records("),
     ("header", "CALLPLAN_REFUSED_DURATION = 8", "CALLPLAN_REFUSED_DURATION = 7"),
     ("header", "CALLPLAN_REFUSED_LIST_FULL = 9", "CALLPLAN_REFUSED_FULL = 9"),
+    ("header", "CALLPLAN_NO_CALLS = 254", "CALLPLAN_NO_CALLS = 253"),
+    ("header", "CALLPLAN_CALL_JOIN = 1", "CALLPLAN_CALL_JOIN = 2"),
+    ("header", "const size_t *arguments, size_t arguments_len,", "const size_t *arguments,"),
+    ("header", "CALLPLAN_SLICES(plan), walks, 4 * CALLPLAN_MAX_STATES, out, 4 * 4)", "CALLPLAN_SLICES(plan), walks, 4, out, 4 * 4)"),
     ("header", "CALLPLAN_SHORT_SLICE = 255", "CALLPLAN_SHORT_SLICE = 254"),
     ("header", "CALLPLAN_ACCEPTED = 256", "CALLPLAN_ACCEPTED = 0"),
     ("header", "CALLPLAN_MAX_STATES 512", "CALLPLAN_MAX_STATES 511"),
@@ -245,10 +281,20 @@ DAMAGES = [
     ("archive", "octets: *const u8", "octets: *mut u8"),
     ("archive", "        number: usize,\n", ""),
     ("archive", "callplan_lent_least_delay(", "callplan_lent_delay("),
-    ("refusals", "StateNumber = 7", "StateNumber = 17"),
-    ("refusals", "Refusal::ImageShort,\n    Refusal::ImageLong", "Refusal::ImageLong,\n    Refusal::ImageShort"),
+    ("refusals", "(Refusal::SpareBits, 6,", "(Refusal::SpareBits, 16,"),
+    ("refusals", "    ListFull,", "    Full,"),
+    ("refusals", '"a pad or spare bit is set"', '"a spare bit is set"'),
+    ("header", 'return "the marks value is above 7"', 'return "the marks value is above 8"'),
+    ("header", '    case CALLPLAN_ACCEPTED: return "accepted";\n', ""),
+    ("header", "CALLPLAN_VERSION_NUMBER 2", "CALLPLAN_VERSION_NUMBER 3"),
+    ("binding", "r ≡ 200 ⌝", "r ≡ 201 ⌝"),
+    ("crate", "VERSION_NUMBER: u32 = 2", "VERSION_NUMBER: u32 = 3"),
+    ("quote", "version=0", "version=1"),
+    ("page", '"callplan 0', '"callplan 1'),
+    ("changes", "## 0.2", "## 0.3"),
     ("proved", "value: u32,\n    ) -> u32", "value: u32,\n    ) -> u16"),
     ("proved", "walk_len: usize", "length: usize"),
+    ("proved", "NO_CALLS: u32 = 254", "NO_CALLS: u32 = 253"),
     ("proved", "SHORT_SLICE: u32 = 255", "SHORT_SLICE: u32 = 254"),
     ("proved", "ACCEPTED: u32 = 256", "ACCEPTED: u32 = 257"),
 ]
