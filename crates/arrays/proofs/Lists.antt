@@ -8,9 +8,10 @@ use lib.ListN.{length, getD, take, drop, set, length-append, length-drop, length
 use lib.Seq.{getD-set-same, getD-set-other, getD-take, getD-drop, getD-append-add, length-take-le, drop-set-lt, paste, paste-suc, length-paste-head}
 use native.Mathlib.Decide.{decLt, ℕ-discrete}
 use native.Mathlib.Numerals.{add-one}
+use Rattle.graph.specs.Graph.{states, count}
 use Rattle.rules.specs.Image.{tabulate}
 use Rattle.rules.proofs.Tabulated.{length-tabulate, getD-tabulate, tabulate-of, tabulate-same}
-use Rattle.arrays.specs.Tables.{transition, transitionOf, Later, over}
+use Rattle.arrays.specs.Tables.{transition, stateOf, transitionOf, graphOf, Later, over}
 
 -- two numbers are the same or not, and one is below the other or not
 pub same-or-not : (a b : ℕ) → (a ≡ b) ⊎ (a ≢ b)
@@ -26,6 +27,14 @@ below-or-not a b = go (decLt a b)
     go : Dec (a < b) → (a < b) ⊎ (b ≤ a)
     go (yes l) = inl l
     go (no d) = inr (omega (arith, d))
+
+-- the counts of the plan that arrays hold
+module _ (n m : ℕ) (marks from to low high : List ℕ) where
+  pub states-of : states (graphOf n m marks from to low high) ≡ n
+  states-of = length-tabulate n (stateOf marks)
+
+  pub count-of : count (graphOf n m marks from to low high) ≡ m
+  count-of = length-tabulate m (transitionOf from to low high)
 
 -- the elements of an array from the front are its first part
 pub tabulate-front : (n : ℕ) (l : List ℕ) → n ≤ length l → tabulate n (λ (i : ℕ). getD l i 0) ≡ take n l

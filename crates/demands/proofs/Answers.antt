@@ -12,7 +12,7 @@ use lib.Seq.{length-take-le, drop-drop, take-at, drop-at}
 use Rattle.graph.specs.declared.Which.{Which}
 use Rattle.graph.specs.declared.Which.the-variants.{LeastDelay, GreatestDelay, LeastCount, GreatestCount}
 use Rattle.graph.specs.Compute.{least, greatest}
-use Rattle.graph.specs.Figure.{Figure, number, NONE, STRANDED, ENDLESS, costFor}
+use Rattle.graph.specs.Figure.{Figure, number, NONE, STRANDED, ENDLESS, Shown, costFor}
 use Rattle.graph.specs.Graph.{Graph, states}
 use Rattle.graph.specs.Route.{Cost}
 use Rattle.graph.specs.Which.{four}
@@ -127,31 +127,30 @@ quotation-of which g before showable = go (quoteRule g before) refl
     )
 
 module _ (g : Graph) (before : List ℕ) (c : Cost) (w : within g ≡ true) (room : states g ≤ length before) where
-  least-of : Showable (LeastQuoted g c) before
-  least-of =
-      let (ts, j, shown, fits) = least-showable g w c in
+  -- the walk that shows a figure, at the front of the places
+  shown-of : (P : Says) (f : Figure) → (ts : List ℕ) × (j : ℕ) × Shown g c f ts j × (length ts ≤ states g)
+      → ((k j : ℕ) (after : List ℕ) → Shown g c f (take k after) j → k ≤ states g → drop k after ≡ drop k before → length after ≡ length before → P f k j before after)
+      → Showable P before
+  shown-of P f (ts, j, shown, fits) quoted =
       let k = length ts in
       let after : List ℕ = ts ++ drop k before in (
-        least g c,
+        f,
         k,
         j,
         after,
-        least-quoted g (within-closed g w) c (least g c) k j before after (rw (take-at ts (drop k before) k refl) shown) fits room
-            (drop-at ts (drop k before) k refl) (omega (arith, length-append ts (drop k before), length-drop k before)) (least-exists g w c),
+        quoted k j after (rw (take-at ts (drop k before) k refl) shown) fits (drop-at ts (drop k before) k refl)
+            (omega (arith, length-append ts (drop k before), length-drop k before)),
       )
+
+  least-of : Showable (LeastQuoted g c) before
+  least-of =
+      shown-of (LeastQuoted g c) (least g c) (least-showable g w c)
+      (λ k j after s f l e. least-quoted g (within-closed g w) c (least g c) k j before after s f room l e (least-exists g w c))
 
   greatest-of : Showable (GreatestQuoted g c) before
   greatest-of =
-      let (ts, j, shown, fits) = greatest-showable g w c in
-      let k = length ts in
-      let after : List ℕ = ts ++ drop k before in (
-        greatest g c,
-        k,
-        j,
-        after,
-        greatest-quoted g (within-closed g w) c (greatest g c) k j before after (rw (take-at ts (drop k before) k refl) shown) fits room
-            (drop-at ts (drop k before) k refl) (omega (arith, length-append ts (drop k before), length-drop k before)) (greatest-exists g w c),
-      )
+      shown-of (GreatestQuoted g c) (greatest g c) (greatest-showable g w c)
+      (λ k j after s f l e. greatest-quoted g (within-closed g w) c (greatest g c) k j before after s f room l e (greatest-exists g w c))
 
 showable-of : (which : Which) (g : Graph) (before : List ℕ) → within g ≡ true → states g ≤ length before → Showable (says which g) before
 showable-of LeastDelay g before = least-of g before (costFor LeastDelay g)

@@ -1,15 +1,17 @@
 -- What reading an image promises, part by part and whole. Document 01, "The image": "with a running bit position, one after another", and the order
 -- of read's refusals. Assumes nothing.
-use mathlib.Core.List.{List}
+use mathlib.Core.Bool.{Bool}
+use mathlib.Core.List.{List, _∷_}
 use mathlib.Core.Path.{_≡_}
 use Prim.Native.Nat.{ℕ, _*_, _≤_}
 use lib.ListN.{length}
 use Rattle.rules.specs.declared.Answer.{Answer}
 use Rattle.rules.specs.declared.Answer.the-variants.{Accepted, Refused}
 use Rattle.rules.specs.Image.{tabulate, stateAt, statePlace, transitionAt, transitionPlace}
-use Rattle.rules.specs.Image.{stateRows, transitionRows, readImage}
+use Rattle.rules.specs.Image.{stateRows, transitionRows, imageRows, graphIn, readImage}
 use Rattle.rules.specs.Refusal.{Result, accepted, refused, said}
-use Rattle.rules.specs.Table.{first, byNumber}
+use Rattle.rules.specs.Rules.{limitsRow}
+use Rattle.rules.specs.Table.{first, byTable, byNumber}
 use Rattle.arrays.specs.Tables.{statesOf, transitionsOf, graphOf, Later}
 use Rattle.image.specs.declared.reading.Filled.{Filled}
 
@@ -59,3 +61,12 @@ pub record Fills (os before after : List ℕ) (fields fields′ : Fields) (r : F
   pub later : LaterFields (r .transitions) fields fields′
   pub all : r .answer ≡ Accepted → r .taken ≡ 8 * length os
   pub most : r .taken ≤ 8 * length os
+
+-- an image read into arrays, where the old plan is within the limits or not: the answer and the plan in the arrays are the rule's, the plan has room in
+-- them, and its counts are a plan's
+pub record Takes (limited : Bool) (image marks : List ℕ) (f : Fields) (r : Filled) : Type 0 where
+  pub rule : came (r .answer) (graphOf (r .states) (r .transitions) marks (f .from) (f .to) (f .low) (f .high))
+      ≡ byTable (limitsRow limited ∷ imageRows image) (graphIn image)
+  pub counts : r .answer ≡ Accepted → (r .states ≤ 512) × (r .transitions ≤ 2048)
+  pub states : r .states ≤ length marks
+  pub transitions : (r .transitions ≤ length (f .from)) × (r .transitions ≤ length (f .to)) × (r .transitions ≤ length (f .low)) × (r .transitions ≤ length (f .high))

@@ -1,7 +1,6 @@
-// A plan's image, over the arrays that hold its marks and transitions: its header, states and transitions read and written as packed fields.
+// A plan's image, read into the arrays that hold its marks and transitions: its header, states and transitions as packed fields.
 
 pub mod reading;
-pub mod writing;
 
 // A transition by its four numbers.
 pub struct Transition {

@@ -3,46 +3,20 @@ ghost use Prim.Native.Nat.{_+_, _≤_};
 ghost use lib.ListN.{length};
 ghost use Rattle.rules.specs.Quotations.{meant, SmallQuote};
 ghost use Rattle.text.specs.Put.{Put};
-ghost use Rattle.wording.specs.Lines.{nameText, figureText, heading, addedText, lineOf, refusedLine};
+ghost use Rattle.wording.specs.Lines.{heading, addedText, lineOf, refusedLine};
 use graph::Which;
 use rules::Figure;
 use rules::Quote;
-
-// Puts a figure's name.
-fn name(buffer: &mut [u8], at: usize, which: Which) -> usize
-    requires { ⌜ at + length (nameText which) ≤ length (now buffer) ⌝ }
-    ensures { λ r. ⌜ Put (now (buffer .entry)) at (nameText which) (now (buffer .exit)) r ⌝ }
-{
-    match which {
-        Which::LeastDelay => text::word(buffer, at, b"least delay"),
-        Which::GreatestDelay => text::word(buffer, at, b"greatest delay"),
-        Which::LeastCount => text::word(buffer, at, b"least count"),
-        Which::GreatestCount => text::word(buffer, at, b"greatest count"),
-    }
-}
-
-// Puts a figure's number or kind.
-fn figure(buffer: &mut [u8], at: usize, figure: Figure) -> usize
-    requires { ⌜ at + length (figureText (meant figure)) ≤ length (now buffer) ⌝ }
-    ensures { λ r. ⌜ Put (now (buffer .entry)) at (figureText (meant figure)) (now (buffer .exit)) r ⌝ }
-{
-    match figure {
-        Figure::Number(x) => text::number(buffer, at, x),
-        Figure::None => text::word(buffer, at, b"NONE"),
-        Figure::Stranded => text::word(buffer, at, b"STRANDED"),
-        Figure::Endless => text::word(buffer, at, b"ENDLESS"),
-    }
-}
 
 // Puts a figure's name, a space, its number or kind, and a colon.
 fn heading(buffer: &mut [u8], at: usize, which: Which, shown: Figure) -> usize
     requires { ⌜ at + length (heading which (meant shown)) ≤ length (now buffer) ⌝ }
     ensures { λ r. ⌜ Put (now (buffer .entry)) at (heading which (meant shown)) (now (buffer .exit)) r ⌝ }
 {
-    let named = name(buffer, at, which);
-    let spaced = text::word(buffer, named, b" ");
-    let figured = figure(buffer, spaced, shown);
-    text::word(buffer, figured, b":")
+    let named = words::name(buffer, at, which);
+    let spaced = put_text::word(buffer, named, b" ");
+    let figured = words::figure(buffer, spaced, shown);
+    put_text::word(buffer, figured, b":")
 }
 
 // Puts ` @` and j, for ENDLESS alone.
@@ -55,8 +29,8 @@ fn added(buffer: &mut [u8], at: usize, figure: Figure, j: u32) -> usize
         Figure::None => at,
         Figure::Stranded => at,
         Figure::Endless => {
-            let place = text::word(buffer, at, b" @");
-            text::number(buffer, place, j)
+            let place = put_text::word(buffer, at, b" @");
+            put_text::number(buffer, place, j)
         }
     }
 }
@@ -70,9 +44,9 @@ pub fn line(buffer: &mut [u8], at: usize, which: Which, quote: Quote, walk: &[u1
     let k = quote.k;
     let j = quote.j;
     let headed = heading(buffer, at, which, figure);
-    let walked = text::list(buffer, headed, walk, k);
+    let walked = put_text::list(buffer, headed, walk, k);
     let ended = added(buffer, walked, figure, j as u32);
-    text::word(buffer, ended, b"\n")
+    put_text::word(buffer, ended, b"\n")
 }
 
 // Puts the line of a refusal.
@@ -80,7 +54,7 @@ pub fn refused(buffer: &mut [u8], at: usize, number: u32) -> usize
     requires { ⌜ at + length (refusedLine number) ≤ length (now buffer) ⌝ }
     ensures { λ r. ⌜ Put (now (buffer .entry)) at (refusedLine number) (now (buffer .exit)) r ⌝ }
 {
-    let said = text::word(buffer, at, b"refused ");
-    let numbered = text::number(buffer, said, number);
-    text::word(buffer, numbered, b"\n")
+    let said = put_text::word(buffer, at, b"refused ");
+    let numbered = put_text::number(buffer, said, number);
+    put_text::word(buffer, numbered, b"\n")
 }

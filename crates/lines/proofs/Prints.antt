@@ -24,7 +24,8 @@ use Rattle.wording.specs.Lines.{linesOf, refusedLine}
 use Rattle.text.specs.Put.{Put}
 use Rattle.text.proofs.Numerals.{digits-length-u32}
 use Rattle.wording.proofs.Lengths.{refused-sum}
-use Rattle.lines.specs.Printed.{Prints, Printed, answerRows, room}
+use Rattle.four_lines.specs.Room.{room}
+use Rattle.lines.specs.Printed.{Prints, Printed, answerRows}
 
 pub refused-room : (n : ℕ) → n < 2 ^ 32 → length (refusedLine n) ≤ 19
 refused-room n h = omega (arith, refused-sum n, digits-length-u32 n h)

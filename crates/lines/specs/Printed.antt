@@ -14,6 +14,7 @@ use Rattle.rules.specs.Rules.{bufferRow}
 use Rattle.rules.specs.Table.{Row, first}
 use Rattle.wording.specs.Lines.{linesOf, refusedLine}
 use Rattle.text.specs.Put.{Put}
+use Rattle.four_lines.specs.Room.{room}
 
 -- the octets are the four lines of quotes of the figures of the plan g, lent some places for their walks: "Which of several such walks is shown is left
 -- free."
@@ -28,10 +29,6 @@ pub record FourLines (g : Graph) (octets : List ℕ) : Type 0 where
 abbrev pub Lines : Result Graph → List ℕ → Type 0
 Lines (accepted g) octets = FourLines g octets
 Lines (refused k) octets = octets ≡ refusedLine (number k)
-
--- the octets that four lines can need
-abbrev pub room : ℕ
-room = 12438
 
 -- the rows of the call, one of ours that 01 does not name: 11 alone, for a buffer that four lines could be too long for. A refused image is printed
 abbrev pub answerRows : List ℕ → List Row

@@ -16,7 +16,7 @@ use Rattle.rules.specs.Rules.{freshGraph, withMark, withTransition, without}
 use Rattle.plan.specs.declared.Plan.{Plan}
 use Rattle.rules.specs.Image.{tabulate}
 use Rattle.arrays.specs.Tables.{stateOf, statesOf, transitionOf, transition, Later}
-use Rattle.plan.specs.View.{view, laid, blankPlan, noPlan}
+use Rattle.plan.specs.View.{planOf, view, laid, blankPlan, noPlan}
 use Rattle.plan.specs.Promise.{Edit}
 use Rattle.plan.proofs.Values.{Sized, states-view, count-view}
 use Rattle.rules.specs.Table.{Row, byTable, first, NoneHolds}
@@ -90,6 +90,11 @@ pub record InArrays (q : Plan) : Type 0 where
   pub to : q .transitions ≤ length (q .to)
   pub low : q .transitions ≤ length (q .low)
   pub high : q .transitions ≤ length (q .high)
+
+-- a plan value by its arrays, one by one
+pub same-arrays : {n m : ℕ} {marks marks′ from from′ to to′ low low′ high high′ : List ℕ} → marks ≡ marks′ → from ≡ from′ → to ≡ to′ → low ≡ low′ → high ≡ high′
+    → planOf n m marks from to low high ≡ planOf n m marks′ from′ to′ low′ high′
+same-arrays {n} {m} em ef et el eh = λ i. record { states = n; transitions = m; marks = em i; from = ef i; to = et i; low = el i; high = eh i }
 
 module _ (p : Plan) where
   -- the plan value with a marks value set

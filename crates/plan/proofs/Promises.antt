@@ -35,7 +35,7 @@ use Rattle.plan.specs.declared.Edited.{Edited}
 use Rattle.plan.specs.declared.Plan.{Plan}
 use Rattle.plan.specs.Promise.{Edit, nextValue, Obeyed, none, more}
 use Rattle.plan.specs.View.{view, laid, noPlan}
-use Rattle.grounds.proofs.Limits.{states-out}
+use Rattle.plan_limits.proofs.Limits.{states-out}
 use Rattle.plan.proofs.Values.{limits-view}
 
 -- ---- one call

@@ -1,24 +1,21 @@
 -- Plan values and what they stand for: the counts are the lists' lengths, and a plan laid over arrays is what they then stand for.
 -- Assumes nothing.
 use mathlib.Core.Bool.{Bool}
-use mathlib.Core.List.{List, _++_, map}
-use mathlib.Core.Path.{_≡_, refl, sym, ap, ap₂, _∙_}
-use Prim.Native.Nat.{ℕ, _+_, _*_, _≤_, _<_}
+use mathlib.Core.List.{List, map}
+use mathlib.Core.Path.{_≡_, refl, sym, ap, _∙_}
+use Prim.Native.Nat.{ℕ, _<_}
 use native.Mathlib.Omega.{arith}
 use lib.ListN.{length, getD, drop, length-map, List·getD-append, List·getD-map}
-use Rattle.field.specs.Field.{Field, Octets, putAll}
 use Rattle.graph.specs.Graph.{Graph, State, Transition, marked, states, count}
-use Rattle.rules.specs.Image.{image, imageLength, headerFields, stateFields, transitionFields, fieldsOfEach}
-use Rattle.rules.proofs.ReadWrite.{put-image}
 use Rattle.rules.specs.Limits.{within}
 use Rattle.rules.specs.Refusal.{Result, accepted, refused}
 use Rattle.rules.specs.Rules.{next}
 use Rattle.plan.specs.declared.Plan.{Plan}
-use Rattle.arrays.specs.Tables.{graphOf, stateOf, statesOf, transitionOf, transitionsOf, over}
+use Rattle.arrays.specs.Tables.{graphOf, stateOf, transitionOf, over}
 use Rattle.plan.specs.Promise.{nextValue}
 use Rattle.plan.specs.View.{view, laid}
-use Rattle.rules.proofs.Tabulated.{length-tabulate, tabulate-of}
-use Rattle.arrays.proofs.Lists.{same-transition}
+use Rattle.rules.proofs.Tabulated.{tabulate-of}
+use Rattle.arrays.proofs.Lists.{states-of, count-of, same-transition}
 
 -- a plan value's arrays have their lengths
 pub record Sized (p : Plan) : Type 0 where
@@ -30,30 +27,16 @@ pub record Sized (p : Plan) : Type 0 where
 
 pub states-view : (p : Plan) → states (view p) ≡ p .states
 unfolding view
-states-view p = length-tabulate (p .states) (stateOf (p .marks))
+states-view p = states-of (p .states) (p .transitions) (p .marks) (p .from) (p .to) (p .low) (p .high)
 
 pub count-view : (p : Plan) → count (view p) ≡ p .transitions
 unfolding view
-count-view p = length-tabulate (p .transitions) (transitionOf (p .from) (p .to) (p .low) (p .high))
+count-view p = count-of (p .states) (p .transitions) (p .marks) (p .from) (p .to) (p .low) (p .high)
 
 -- the limits of the plan that the arrays hold
 pub limits-view : (p : Plan) {r : Bool} → r ≡ within (graphOf (p .states) (p .transitions) (p .marks) (p .from) (p .to) (p .low) (p .high)) → r ≡ within (view p)
 unfolding view
 limits-view p e = e
-
--- the fields of the counts and the arrays, put one after another at the front of a buffer, leave the image there, and the rest
-pub put-view : (p : Plan) (b : List ℕ) → Octets b → imageLength (p .states) (p .transitions) ≤ length b
-    → putAll
-    (putAll (putAll b 0 (headerFields (p .states) (p .transitions))) 32 (fieldsOfEach stateFields (statesOf (p .states) (p .marks))))
-    (32 + 8 * p .states) (fieldsOfEach transitionFields (transitionsOf (p .transitions) (p .from) (p .to) (p .low) (p .high)))
-    ≡ image (view p) ++ drop (imageLength (p .states) (p .transitions)) b
-unfolding view
-put-view p b ho h =
-    let S : List Field = fieldsOfEach stateFields (statesOf (p .states) (p .marks)) in
-    let T : List Field = fieldsOfEach transitionFields (transitionsOf (p .transitions) (p .from) (p .to) (p .low) (p .high)) in
-    ap₂ (λ (n m : ℕ). putAll (putAll (putAll b 0 (headerFields n m)) 32 S) (32 + 8 * n) T) (sym (states-view p)) (sym (count-view p))
-    ∙ put-image (view p) b ho (omega (arith, states-view p, count-view p))
-    ∙ ap₂ (λ (n m : ℕ). image (view p) ++ drop (imageLength n m) b) (states-view p) (count-view p)
 
 -- a plan laid over the arrays of any plan value is what they then hold
 pub view-laid : (p : Plan) (g : Graph) → view (laid p g) ≡ g

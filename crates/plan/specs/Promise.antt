@@ -1,20 +1,13 @@
 -- What the calls promise. Document 01: "every public call has a promise for all inputs, refused ones too, that equates its result, the plan and
 -- each lent place afterwards with a definition". Assumes nothing.
-use mathlib.Core.Bool.{Bool, not}
 use mathlib.Core.List.{List, [], _∷_}
 use mathlib.Core.Path.{_≡_}
-use Prim.Native.Nat.{ℕ, _≤_}
-use lib.ListN.{length}
+use Prim.Native.Nat.{ℕ}
 use Rattle.graph.specs.Graph.{Graph}
 use Rattle.rules.specs.declared.Answer.{Answer}
 use Rattle.rules.specs.declared.Refusal.{Refusal}
 use Rattle.rules.specs.Calls.{Call, step}
-use Rattle.rules.specs.declared.Refusal.the-variants.{PlanLimits}
-use Rattle.rules.specs.Image.{readImage, imageRows, graphIn}
-use Rattle.rules.specs.Table.{byTable}
-use Rattle.arrays.specs.Tables.{graphOf}
-use Rattle.image.specs.declared.reading.Filled.{Filled}
-use Rattle.image.specs.Read.{Fields, came}
+use Rattle.rules.specs.Image.{readImage}
 use Rattle.rules.specs.Refusal.{Result, accepted, refused, answerOf, said}
 use Rattle.rules.specs.Rules.{next}
 use Rattle.plan.specs.declared.Plan.{Plan}
@@ -44,15 +37,6 @@ pub record Edit (p : Plan) (o : Result Graph) (r : Edited) : Type 0 where
 -- any plan value beside the number has 0 states, all else zero, and every call refuses it by 0."
 abbrev pub Held : List ℕ → Edited → Type 0
 Held image r = Edit noPlan (readImage image) r
-
--- an image read into arrays, where the old plan is within the limits or not: the answer and the plan in the arrays are the rule's, the plan has room in
--- them, and its counts are a plan's
-pub record Takes (limited : Bool) (image marks : List ℕ) (f : Fields) (r : Filled) : Type 0 where
-  pub rule : came (r .answer) (graphOf (r .states) (r .transitions) marks (f .from) (f .to) (f .low) (f .high))
-      ≡ byTable ((PlanLimits, not limited) ∷ imageRows image) (graphIn image)
-  pub counts : r .answer ≡ Answer.Accepted → (r .states ≤ 512) × (r .transitions ≤ 2048)
-  pub states : r .states ≤ length marks
-  pub transitions : (r .transitions ≤ length (f .from)) × (r .transitions ≤ length (f .to)) × (r .transitions ≤ length (f .low)) × (r .transitions ≤ length (f .high))
 
 -- a list of calls, each handed the plan value that the one before it returned: what the promises say of its answers and of the last plan value
 pub data Obeyed : Plan → List Call → List Answer → Plan → Type 0 where

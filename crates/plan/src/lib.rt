@@ -1,22 +1,16 @@
 // The call plan: its edits and its image. Every call takes the plan, p as in the definitions, by value, refuses bad input by its row of the table, and
 // returns a plan.
 ghost use mathlib.Core.Path.{_≡_};
-ghost use Prim.Native.Nat.{_≤_};
-ghost use lib.ListN.{length};
 ghost use Rattle.rules.specs.Limits.{within as withinLimits};
 ghost use Rattle.rules.specs.Image.{image};
 ghost use Rattle.rules.specs.Calls.{step, mark, join, unjoin, read};
 ghost use Rattle.rules.specs.Quotations.{Write};
-ghost use Rattle.rules.specs.declared.Refusal.the-variants.{PlanLimits};
 ghost use Rattle.rules.specs.Rules.{freshRule, writeRule};
 ghost use Rattle.arrays.specs.Tables.{transition};
-ghost use Rattle.image.specs.Read.{fields};
 ghost use Rattle.plan.specs.View.{view, blankPlan, noPlan};
-ghost use Rattle.plan.specs.Promise.{Edit, Held, Takes, refusing, accepting};
+ghost use Rattle.plan.specs.Promise.{Edit, Held, refusing, accepting};
 use arrays::limits;
 use image::reading;
-use image::reading::Filled;
-use image::writing;
 use rules::Answer;
 use rules::Refusal;
 use rules::Written;
@@ -45,7 +39,7 @@ pub fn within(p: Plan) -> bool
 {
     let n = p.states;
     let m = p.transitions;
-    grounds::in_limits(n, m, &p.marks, &p.from, &p.to, &p.low, &p.high)
+    plan_limits::in_limits(n, m, &p.marks, &p.from, &p.to, &p.low, &p.high)
 }
 
 // A refusal, with the plan as it was.
@@ -99,7 +93,7 @@ pub fn mark(mut p: Plan, state: usize, value: usize) -> Edited
 {
     let n = p.states;
     let m = p.transitions;
-    let limited = grounds::in_limits(n, m, &p.marks, &p.from, &p.to, &p.low, &p.high);
+    let limited = plan_limits::in_limits(n, m, &p.marks, &p.from, &p.to, &p.low, &p.high);
     let answer = grounds::mark_grounds(limited, n, state, value);
     match answer {
         Answer::Accepted => {
@@ -116,7 +110,7 @@ pub fn join(mut p: Plan, from: usize, to: usize, low: usize, high: usize) -> Edi
 {
     let n = p.states;
     let m = p.transitions;
-    let limited = grounds::in_limits(n, m, &p.marks, &p.from, &p.to, &p.low, &p.high);
+    let limited = plan_limits::in_limits(n, m, &p.marks, &p.from, &p.to, &p.low, &p.high);
     let answer = grounds::join_grounds(limited, n, m, from, to, low, high);
     match answer {
         Answer::Accepted => {
@@ -137,7 +131,7 @@ pub fn unjoin(mut p: Plan, number: usize) -> Edited
 {
     let n = p.states;
     let m = p.transitions;
-    let limited = grounds::in_limits(n, m, &p.marks, &p.from, &p.to, &p.low, &p.high);
+    let limited = plan_limits::in_limits(n, m, &p.marks, &p.from, &p.to, &p.low, &p.high);
     let answer = grounds::unjoin_grounds(limited, m, number);
     match answer {
         Answer::Accepted => {
@@ -152,45 +146,19 @@ pub fn unjoin(mut p: Plan, number: usize) -> Edited
     Edited { plan: p, answer }
 }
 
-// Reads an image into arrays, where the plan that it is to replace is within the limits; places past the counts stay.
-fn take(
-    limited: bool,
-    octets: &[u8],
-    marks: &mut [u8; 512],
-    from: &mut [u16; 2048],
-    to: &mut [u16; 2048],
-    low: &mut [u16; 2048],
-    high: &mut [u16; 2048],
-) -> Filled
-    requires { ⌜ (512 ≤ length (now marks)) × (2048 ≤ length (now from)) × (2048 ≤ length (now to))
-        × (2048 ≤ length (now low)) × (2048 ≤ length (now high)) ⌝ }
-    ensures { λ r. ⌜ Takes limited (now (octets .entry)) (now (marks .exit))
-        (fields (now (from .exit)) (now (to .exit)) (now (low .exit)) (now (high .exit))) r ⌝ }
-{
-    if !limited {
-        return Filled {
-            answer: Answer::Refused(Refusal::PlanLimits),
-            states: 0,
-            transitions: 0,
-            taken: 0,
-        };
-    }
-    reading::fill(octets, marks, from, to, low, high)
-}
-
 // Reads an image. An accepted one replaces the whole plan: it is read into arrays of its own, and laid over the plan's.
 pub fn read(mut p: Plan, octets: &[u8]) -> Edited
     ensures { λ r. ⌜ Edit p (step (view p) (read (now (octets .entry)))) r ⌝ }
 {
     let n = p.states;
     let m = p.transitions;
-    let limited = grounds::in_limits(n, m, &p.marks, &p.from, &p.to, &p.low, &p.high);
+    let limited = plan_limits::in_limits(n, m, &p.marks, &p.from, &p.to, &p.low, &p.high);
     let mut marks = [0u8; 512];
     let mut from = [0u16; 2048];
     let mut to = [0u16; 2048];
     let mut low = [0u16; 2048];
     let mut high = [0u16; 2048];
-    let taken = take(
+    let taken = reading::take(
         limited,
         octets,
         &mut marks,
@@ -253,16 +221,5 @@ pub fn write(p: Plan, buffer: &mut [u8]) -> Written
 {
     let n = p.states;
     let m = p.transitions;
-    let limited = grounds::in_limits(n, m, &p.marks, &p.from, &p.to, &p.low, &p.high);
-    if !limited {
-        return Written::Refused(Refusal::PlanLimits);
-    }
-    let length = header::size(n, m);
-    if buffer.len() < length {
-        return Written::Refused(Refusal::BufferLength);
-    }
-    writing::header(buffer, n, m);
-    writing::states(buffer, &p.marks, n);
-    writing::transitions(buffer, n, m, &p.from, &p.to, &p.low, &p.high);
-    Written::Length(length)
+    written::write(n, m, &p.marks, &p.from, &p.to, &p.low, &p.high, buffer)
 }

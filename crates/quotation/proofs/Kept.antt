@@ -1,6 +1,6 @@
 -- Promises kept, of one quotation and of all four: by a refusal that leaves the places, and by an accepted call of which the figures' sentences hold. And
 -- what the rules say of an accepted one: the plan is within the limits, and there are places for the walk. Assumes nothing.
-use mathlib.Core.Bool.{true, false}
+use mathlib.Core.Bool.{true}
 use mathlib.Core.List.{List, [], _∷_}
 use mathlib.Core.Path.{_≡_, refl, sym, ap, _∙_, subst}
 use Prim.Native.Nat.{ℕ, _≤_, _<_}
@@ -10,7 +10,7 @@ use lib.ListN.{length}
 use Rattle.graph.specs.declared.Which.{Which}
 use Rattle.graph.specs.Graph.{Graph, states}
 use Rattle.rules.specs.declared.Refusal.{Refusal}
-use Rattle.rules.specs.declared.Refusal.the-variants.{PlanLimits, BufferLength}
+use Rattle.rules.specs.declared.Refusal.the-variants.{BufferLength}
 use Rattle.rules.specs.declared.Quote.{Quote}
 use Rattle.rules.specs.declared.FourQuotes.{FourQuotes}
 use Rattle.rules.specs.declared.Quotation.the-variants.{Quoted, Refused}
@@ -19,7 +19,7 @@ use Rattle.rules.specs.declared.Quotations.the-variants.{Quoted as AllQuoted, R
 use Rattle.rules.specs.Limits.{within}
 use Rattle.rules.specs.declared.Answer.{Answer}
 use Rattle.rules.specs.Image.{readImage, imageRows, graphIn}
-use Rattle.rules.specs.Quotations.{says, Stated, Quotes, quoteRows, quoteRule, AllStated, QuotesAll, QuotesHeld, allRule, heldRows, heldRule, saidQuotations}
+use Rattle.rules.specs.Quotations.{says, Stated, Quotes, quoteRows, quoteRule, AllStated, QuotesAll, QuotesHeld, allRows, allRule, heldRows, heldRule, saidQuotations}
 use Rattle.rules.specs.Refusal.{accepted, refused, said}
 use Rattle.rules.specs.Rules.{bufferRow}
 use Rattle.rules.specs.Table.{first}
@@ -61,13 +61,14 @@ module _ (which : Which) (g : Graph) (before : List ℕ) where
 -- ---- all four
 
 module _ (g : Graph) (places : List ℕ) where
-  pub all-limits : within g ≡ false → allRule g places ≡ refused PlanLimits
+  -- where the rule accepts, the plan is within the limits, and there are four parts of 512 places
+  pub all-within : allRule g places ≡ accepted tt → within g ≡ true
   unfolding allRule
-  all-limits w = rw w refl
+  all-within e = not-false (within g) (accepted-only (allRows g places) tt tt e .0 .0)
 
-  pub all-short : within g ≡ true → length places < 2048 → allRule g places ≡ refused BufferLength
+  pub all-room : allRule g places ≡ accepted tt → 2048 ≤ length places
   unfolding allRule
-  all-short w h = rw (w, lt-ltb (length places) 2048 h) refl
+  all-room e = ltb-false (length places) 2048 (accepted-only (allRows g places) tt tt e .0 .1 .0)
 
   pub all-done : within g ≡ true → 2048 ≤ length places → allRule g places ≡ accepted tt
   unfolding allRule

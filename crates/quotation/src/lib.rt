@@ -21,14 +21,9 @@ use rules::Written;
 fn ask(p: Plan, places: usize) -> Answer
     ensures { λ r. ⌜ ((lent : List ℕ) → length lent ≡ places → said r ≡ quoteRule (view p) lent) ⌝ }
 {
-    if !plan::within(p) {
-        return Answer::Refused(Refusal::PlanLimits);
-    }
+    let limited = plan::within(p);
     let n = p.states;
-    if places < n {
-        return Answer::Refused(Refusal::BufferLength);
-    }
-    Answer::Accepted
+    quotation_grounds::ask(limited, n, places)
 }
 
 // A quotation of a figure, with the walk that shows it.
@@ -74,11 +69,10 @@ pub fn greatest_count(plan: Plan, walk: &mut [u16]) -> Quotation
 pub fn all(p: Plan, walks: &mut [u16]) -> Quotations
     ensures { λ r. ⌜ QuotesAll (view p) (now (walks .entry)) (now (walks .exit)) r ⌝ }
 {
-    if !plan::within(p) {
-        return Quotations::Refused(Refusal::PlanLimits);
-    }
-    if walks.len() < 2048 { // four parts of 512
-        return Quotations::Refused(Refusal::BufferLength);
+    let limited = plan::within(p);
+    let asked = quotation_grounds::ask_all(limited, walks.len());
+    if let Answer::Refused(r) = asked {
+        return Quotations::Refused(r);
     }
     let n = p.states;
     let m = p.transitions;

@@ -1,4 +1,4 @@
-// A reader of a lent image. Its functions over the struct are proved by hand, and are two: `take`, over the covered `field::take_four`, and `next`,
+// A reader of a lent image. Its functions over the struct are proved by hand, and are two: `take`, over the covered `window::take_four`, and `next`,
 // which lends a reader to it for a caller that has a slice and a position.
 ghost use mathlib.Core.Path.{_≡_};
 ghost use Prim.Native.Nat.{_+_, _<_, _^_};
@@ -26,7 +26,7 @@ pub fn take<'s, 'a>(reader: &'s mut Reader<'a>, a: usize, b: usize, c: usize, d:
     ensures { λ r. ⌜ (r ≡ fourAt (now (now (reader .entry) .octets)) (now (reader .entry) .at) a b c d)
         × (now (reader .exit) ≡ past (now (reader .entry)) (a + b + c + d)) ⌝ }
 {
-    let fields = field::take_four(reader.octets, reader.at, a, b, c, d);
+    let fields = window::take_four(reader.octets, reader.at, a, b, c, d);
     reader.at = after(reader.at, a, b, c, d);
     fields
 }

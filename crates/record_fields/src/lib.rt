@@ -15,10 +15,10 @@ fn put_figure(buffer: &mut [u8], at: usize, quote: Quote)
     ensures { λ r. ⌜ now (buffer .exit) ≡ putAll (now (buffer .entry)) at (figureFields (meant (quote .figure))) ⌝ }
 {
     let figure = quote.figure;
-    let kind = rules::kind(figure);
-    let number = rules::value(figure);
-    field::put(buffer, at, 2, kind as u32);
-    field::put(buffer, at + 2, 20, number);
+    let kind = numbers::kind(figure);
+    let number = numbers::value(figure);
+    put_field::put(buffer, at, 2, kind as u32);
+    put_field::put(buffer, at + 2, 20, number);
 }
 
 // Puts the record of four quotes at the front of the buffer.

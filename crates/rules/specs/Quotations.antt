@@ -102,16 +102,16 @@ heldRows image walks = imageRows image ++ (bufferRow walks 2048 ∷ [])
 unfoldable pub heldRule : List ℕ → List ℕ → Result (Unit {0})
 heldRule image walks = first (heldRows image walks)
 
--- a quotation for other languages: 0, then 11 for the walk's places, and for fewer than 4 of the answer
+-- a quotation for other languages: its own rows, then 11 for fewer than 4 places of the answer
 abbrev pub lentQuoteRows : Graph → List ℕ → List ℕ → List Row
-lentQuoteRows g walk out = limitRow g ∷ bufferRow walk (states g) ∷ bufferRow out 4 ∷ []
+lentQuoteRows g walk out = quoteRows g walk ++ (bufferRow out 4 ∷ [])
 
 unfoldable pub lentQuoteRule : Graph → List ℕ → List ℕ → Result (Unit {0})
 lentQuoteRule g walk out = first (lentQuoteRows g walk out)
 
--- all four of an image for other languages: its own rows, then 11 for the walks' places, and for fewer than 16 of the answer
+-- all four of an image for other languages: their own rows, then 11 for fewer than 16
 abbrev pub lentHeldRows : List ℕ → List ℕ → List ℕ → List Row
-lentHeldRows image walks out = imageRows image ++ (bufferRow walks 2048 ∷ bufferRow out 16 ∷ [])
+lentHeldRows image walks out = heldRows image walks ++ (bufferRow out 16 ∷ [])
 
 unfoldable pub lentHeldRule : List ℕ → List ℕ → List ℕ → Result (Unit {0})
 lentHeldRule image walks out = first (lentHeldRows image walks out)

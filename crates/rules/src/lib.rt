@@ -1,10 +1,5 @@
 // The grounds on which a call is refused, and the answers of calls that edit a plan or fill a lent buffer. The rules themselves are definitions, in specs/.
 
-ghost use mathlib.Core.Path.{_≡_};
-ghost use Rattle.graph.specs.Figure.{kind as kindOf, value as valueOf};
-ghost use Rattle.rules.specs.Quotations.{meant};
-ghost use Rattle.rules.specs.Refusal.{number as numberOf};
-
 // A row of document 01's table of refused calls. specs/Refusal.antt gives the number of each.
 pub enum Refusal {
     // the plan value breaks a limit of a plan
@@ -82,50 +77,4 @@ pub struct FourQuotes {
 pub enum Quotations {
     Quoted(FourQuotes),
     Refused(Refusal),
-}
-
-// The kind of a figure, as the record has it.
-pub fn kind(figure: Figure) -> u8
-    ensures { λ r. ⌜ r ≡ kindOf (meant figure) ⌝ }
-{
-    match figure {
-        Figure::Number(_) => 0,
-        Figure::None => 1,
-        Figure::Stranded => 2,
-        Figure::Endless => 3,
-    }
-}
-
-// The number of a figure, zero where it is a kind.
-pub fn value(figure: Figure) -> u32
-    ensures { λ r. ⌜ r ≡ valueOf (meant figure) ⌝ }
-{
-    match figure {
-        Figure::Number(x) => x,
-        Figure::None => 0,
-        Figure::Stranded => 0,
-        Figure::Endless => 0,
-    }
-}
-
-// The number of a refusal, as the table has it.
-pub fn number(refusal: Refusal) -> u32
-    ensures { λ r. ⌜ r ≡ numberOf refusal ⌝ }
-{
-    match refusal {
-        Refusal::PlanLimits => 0,
-        Refusal::ImageShort => 1,
-        Refusal::ImageLong => 2,
-        Refusal::Version => 3,
-        Refusal::StateCount => 4,
-        Refusal::TransitionCount => 5,
-        Refusal::SpareBits => 6,
-        Refusal::StateNumber => 7,
-        Refusal::Duration => 8,
-        Refusal::ListFull => 9,
-        Refusal::TransitionNumber => 10,
-        Refusal::BufferLength => 11,
-        Refusal::MarksValue => 12,
-        Refusal::FigureSize => 13,
-    }
 }

@@ -59,7 +59,7 @@ module _ (P : ℕ → Type 0) (one : (x : ℕ) → x < 10 → P x) (last : (x : 
 
 -- ---- the value
 
-value-snoc : (v : ℕ) (ds : List ℕ) (d : ℕ) → valueAfter v (ds ++ (d ∷ [])) ≡ 10 * valueAfter v ds + (d - 48)
+pub value-snoc : (v : ℕ) (ds : List ℕ) (d : ℕ) → valueAfter v (ds ++ (d ∷ [])) ≡ 10 * valueAfter v ds + (d - 48)
 unfolding valueAfter
 value-snoc v [] d = refl
 value-snoc v (e ∷ ds) d = value-snoc (10 * v + (e - 48)) ds d

@@ -17,7 +17,7 @@ use Rattle.header.proofs.header.Tie as tie
 use Rattle.header.proofs.header.Reads as reads
 use Rattle.header.proofs.header.Lts as lts
 use Rattle.reader.proofs.next.Reads as next-reads
-use Rattle.header.proofs.grounds.Reads as grounds-reads
+use Rattle.header_grounds.proofs.grounds.Reads as grounds-reads
 
 returns : tie.Need-returns
 unfolding headerRows

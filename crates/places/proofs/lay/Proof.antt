@@ -1,23 +1,18 @@
--- `places::lay`: the invariant is that the first i places are those of the other array (`copy-more`). Assumes nothing.
-use Prim.Native.Nat.{ℕ, _-_, _≤_}
-use mathlib.Core.List.{List}
-use mathlib.Core.Path.{_≡_, ap, _∙_}
+-- `places::lay`: the invariant is that the first i places are those of the other array (proofs/Laid.antt). Assumes nothing.
+use Prim.Native.Nat.{_-_}
 use native.Mathlib.Omega.{arith}
-use borrow.Author.Needs.{needs}
-use lib.ListN.{length, getD, set, length-set}
-use lib.Seq.{paste, paste-zero}
-use Rattle.arrays.proofs.Copies.{copy-more}
+use Rattle.places.proofs.Laid.{Laid, laid-none, laid-more, laid-all}
 use Rattle.places.proofs.lay.Statement.{statement}
 use Rattle.places.proofs.lay.Tie as tie
 
 abbrev Inv-loop : tie.InvT-loop
-Inv-loop places₀ over k i₀ places i = (i ≤ k) × (length places ≡ length places₀) × (places ≡ paste places₀ 0 over i)
+Inv-loop places₀ over k i₀ places i = Laid places₀ over k places i
 
 abbrev μ-loop : tie.MeasureT-loop
 μ-loop places₀ over k i₀ places i = k - i
 
 loop-holds : tie.Need-loop-holds Inv-loop μ-loop
-loop-holds c = (omega arith, search needs, paste-zero (c .args .places .now) 0 (c .args .over .now))
+loop-holds c = laid-none (c .args .places .now) (c .args .over .now) (c .args .k)
 
 mul-places : tie.Need-mul-places Inv-loop μ-loop
 mul-places c = omega arith
@@ -40,18 +35,13 @@ loop-less c = omega arith
 loop-again : tie.Need-loop-again Inv-loop μ-loop
 loop-again c =
     let l = c .before .before .loop in
-    let a = c .before .before .before .args in (
-      omega arith,
-      length-set (l .places) (l .i) _ ∙ l .inv .1,
-      ap (λ (o : List ℕ). set o (l .i) (getD (a .over .now) (l .i) 0)) (l .inv .2) ∙ copy-more (a .places .now) (a .over .now) (l .i) (omega arith) (omega arith),
-    )
+    let a = c .before .before .before .args in
+    laid-more (a .places .now) (a .over .now) (a .k) (l .places) (l .i) (l .inv) (omega arith) (omega arith) (omega arith)
 
 returns : tie.Need-returns Inv-loop μ-loop
 returns c =
-    let l = c .before .loop in
     let a = c .before .before .args in
-    let e : l .i ≡ a .k = omega arith in
-    l .inv .2 ∙ ap (λ (i : ℕ). paste (a .places .now) 0 (a .over .now) i) e
+    laid-all (a .places .now) (a .over .now) (a .k) (c .before .loop .places) (c .before .loop .i) (c .before .loop .inv) (omega arith)
 
 pub lay-spec : {M : Type 1} → statement M
 lay-spec =

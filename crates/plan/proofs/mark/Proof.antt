@@ -19,7 +19,7 @@ use Rattle.plan.proofs.mark.Tie as tie
 use Rattle.plan.proofs.mark.Reads as reads
 use Rattle.plan.proofs.mark.Lts as lts
 use Rattle.grounds.proofs.mark_grounds.Reads as mark-grounds-reads
-use Rattle.grounds.proofs.in_limits.Reads as in-limits-reads
+use Rattle.plan_limits.proofs.in_limits.Reads as in-limits-reads
 
 in-limits-requires : tie.Need-in-limits-requires
 in-limits-requires c κs = search needs

@@ -10,7 +10,7 @@ use Rattle.rules.specs.Refusal.{Result}
 use Rattle.image.specs.Read.{came}
 use Rattle.plan.specs.declared.Plan.{Plan}
 use Rattle.plan.specs.View.{view, planOf}
-use Rattle.plan.proofs.Edits.{Past, refusal, acceptance, InArrays, overlaid, view-overlaid, past-overlaid}
+use Rattle.plan.proofs.Edits.{Past, refusal, acceptance, InArrays, same-arrays, overlaid, view-overlaid, past-overlaid}
 use Rattle.plan.proofs.Values.{Sized, limits-view}
 use borrow.Author.Needs.{needs}
 use Rattle.plan.proofs.read.Statement.{statement}
@@ -19,8 +19,8 @@ use Rattle.plan.proofs.read.Reads as reads
 use Rattle.plan.proofs.read.Lts as lts
 use Rattle.places.proofs.lay.Reads as lay-reads
 use Rattle.places.proofs.lay_marks.Reads as lay-marks-reads
-use Rattle.plan.proofs.take.Reads as take-reads
-use Rattle.grounds.proofs.in_limits.Reads as in-limits-reads
+use Rattle.image.proofs.reading.take.Reads as take-reads
+use Rattle.plan_limits.proofs.in_limits.Reads as in-limits-reads
 
 in-limits-requires : tie.Need-in-limits-requires
 in-limits-requires c κs = search needs
@@ -87,8 +87,7 @@ returns c =
     let r = room (c .before .before .before .before .before .before .before .before .before .before .before .before .before .before .before .before .before) in
     let n = counts (c .before .before .before .before .before .before .before .before .before .before .before .before .before .before .before) in
     let o : Result Graph = step (view p) (read (c .before .before .before .before .before .before .before .before .before .before .before .before .before .before .before .before .before .before .before .before .before .before .before .before .before .before .before .before .before .before .before .args .octets .now)) in
-    let e : record { states = q .states; transitions = q .transitions; marks = c .before .before .before .before .before .before .before .before .before .before .before .before .lay-marks .last .0; from = c .before .before .before .before .before .before .before .before .before .lay .last .0; to = c .before .before .before .before .before .before .lay2 .last .0; low = c .before .before .before .lay3 .last .0; high = c .lay4 .last .0 } ≡ overlaid p q =
-    λ i. record { states = q .states; transitions = q .transitions; marks = c .before .before .before .before .before .before .before .before .before .before .before .before .lay-marks .ensures i; from = c .before .before .before .before .before .before .before .before .before .lay .ensures i; to = c .before .before .before .before .before .before .lay2 .ensures i; low = c .before .before .before .lay3 .ensures i; high = c .lay4 .ensures i } in
+    let e : _ ≡ overlaid p q = same-arrays (c .before .before .before .before .before .before .before .before .before .before .before .before .lay-marks .ensures) (c .before .before .before .before .before .before .before .before .before .lay .ensures) (c .before .before .before .before .before .before .lay2 .ensures) (c .before .before .before .lay3 .ensures) (c .lay4 .ensures) in
     rw (c .before .before .before .before .before .before .before .before .before .before .before .before .before .before .before .enum-told .given .1)
     (acceptance p _ o (view q) (ruled (c .before .before .before .before .before .before .before .before .before .before .before .before .before .before .before .before .before) ∙ ap (λ (x : Answer). came x (view q)) (c .before .before .before .before .before .before .before .before .before .before .before .before .before .before .before .enum-told .given .1)) (ap view e ∙ view-overlaid p q r)
     (subst (Past p) (sym e) (past-overlaid p (sized (c .before .before .before .before .before .before .before .before .before .before .before .before .before .before .before .before .before .before .before .before .before .before .before .before .before .before .before .before .before .before .before)) q r (n .0) (n .1))))

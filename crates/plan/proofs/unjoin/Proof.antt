@@ -1,8 +1,8 @@
 -- `plan::unjoin`: the grounds are the rule's rows (`answered`); where none holds each array has its later places moved down, and otherwise the plan stays.
 -- Assumes nothing.
-use Prim.Native.Nat.{_-_, _≤_, _<_}
+use Prim.Native.Nat.{_≤_, _<_}
 use mathlib.Core.Bool.{true}
-use mathlib.Core.Path.{_≡_, sym, ap, _∙_, subst}
+use mathlib.Core.Path.{_≡_, refl, sym, ap, _∙_, subst}
 use native.Mathlib.Omega.{arith}
 use borrow.Author.Needs.{needs}
 use borrow.Author.Tests.{leb-false, not-false}
@@ -13,7 +13,7 @@ use Rattle.rules.specs.Rules.{unjoinRows, without}
 use Rattle.rules.specs.Table.{first}
 use Rattle.rules.proofs.ReadWrite.{limited}
 use Rattle.plan.specs.View.{view}
-use Rattle.plan.proofs.Edits.{Past, stays, becomes, none-holds, unjoined, view-unjoined, past-unjoined}
+use Rattle.plan.proofs.Edits.{Past, stays, becomes, none-holds, same-arrays, unjoined, view-unjoined, past-unjoined}
 use Rattle.plan.proofs.Values.{Sized, states-view, count-view, limits-view}
 use Rattle.plan.proofs.unjoin.Statement.{statement}
 use Rattle.plan.proofs.unjoin.Tie as tie
@@ -21,7 +21,7 @@ use Rattle.plan.proofs.unjoin.Reads as reads
 use Rattle.plan.proofs.unjoin.Lts as lts
 use Rattle.places.proofs.remove.Reads as remove-reads
 use Rattle.grounds.proofs.unjoin_grounds.Reads as unjoin-grounds-reads
-use Rattle.grounds.proofs.in_limits.Reads as in-limits-reads
+use Rattle.plan_limits.proofs.in_limits.Reads as in-limits-reads
 
 in-limits-requires : tie.Need-in-limits-requires
 in-limits-requires c κs = search needs
@@ -82,8 +82,7 @@ returns c =
     let k = c .before .before .before .before .before .before .before .before .before .before .before .before .before .before .before .before .before .before .args .number in
     let z = sized (c .before .before .before .before .before .before .before .before .before .before .before .before .before .before .before .before .before .before) in
     let h = known (c .before .before .before .before .before .before .before .before) in
-    let e : record { states = p .states; transitions = p .transitions - 1; marks = p .marks; from = c .before .before .before .before .before .before .remove .last .0; to = c .before .before .before .before .remove2 .last .0; low = c .before .before .remove3 .last .0; high = c .remove4 .last .0 } ≡ unjoined p k =
-    λ i. record { states = p .states; transitions = p .transitions - 1; marks = p .marks; from = c .before .before .before .before .before .before .remove .ensures i; to = c .before .before .before .before .remove2 .ensures i; low = c .before .before .remove3 .ensures i; high = c .remove4 .ensures i } in
+    let e : _ ≡ unjoined p k = same-arrays refl (c .before .before .before .before .before .before .remove .ensures) (c .before .before .before .before .remove2 .ensures) (c .before .before .remove3 .ensures) (c .remove4 .ensures) in
     becomes p _ (unjoinRows (view p) k) (without (view p) k) _ (c .before .before .before .before .before .before .before .before .enum-told .given .1) (answered (c .before .before .before .before .before .before .before .before .before .before))
     (ap view e ∙ view-unjoined p z k (h .below) (h .count)) (subst (Past p) (sym e) (past-unjoined p z k (h .states) (h .below) (h .count)))
 

@@ -1,5 +1,5 @@
 -- `reader::take` meets its contract: a walk of its MIR, by hand. The borrow is opened; the slice that the reader holds and its position go to
--- `field::take_four`; the position that `after` returns is stored beside the slice; and the borrow is closed at the reader that was moved.
+-- `window::take_four`; the position that `after` returns is stored beside the slice; and the borrow is closed at the reader that was moved.
 -- A reader is Copy: what it owns is had twice, and of one copy what the slice owns goes to the callee, beside the lifetime's token, which comes back.
 -- Assumes nothing.
 use mathlib.Core.Path.{_≡_, refl, ap}
@@ -51,10 +51,10 @@ use Rattle.field.specs.Field.{Spans, fourAt}
 use Rattle.field.specs.declared.Four.{Four}
 use Rattle.field.proofs.Four as F
 use Rattle.field.proofs.Four.Laws as F′
-use Rattle.field.proofs.take_four as four
-use Rattle.field.proofs.take_four.Symbol as four-def
-use Rattle.field.proofs.take_four.Symbol.{name as #field·take-four}
-use Rattle.field.proofs.take_four.Met as four-thm
+use Rattle.window.proofs.take_four as four
+use Rattle.window.proofs.take_four.Symbol as four-def
+use Rattle.window.proofs.take_four.Symbol.{name as #window·take-four}
+use Rattle.window.proofs.take_four.Met as four-thm
 use Rattle.reader.specs.declared.Reader.{Reader}
 use Rattle.reader.proofs.Reader as T
 use Rattle.reader.proofs.Reader.Laws as T′
@@ -177,7 +177,7 @@ module _ {M : Type 1} (𝓤 : URA M) (H : Heap 𝓤) (A : Atoms 𝓤) (W : Given
   typed : Is (B κ′) h (T′.lowered h ∷ []) → Holds (hasTy (T′.mir erased) (T′.lowered h)) × WT (T′.lowered h)
   typed was = LL.lawful (T.the-type (record { mir = erased; lft = κ′ })) (T′.the-laws (record { mir = erased; lft = κ′ })) 𝓤 H A W .typed h _ was .0
 
-  module _ (C : Calls 𝓤 H) (Λ : Loops 𝓤 H) (fm : FmC 𝓤 H (W .laws) C) (known-four : Triple 𝓤 (C #field·take-four) (TakeFour 𝓤 H A at-mem run)) (known-after : Triple 𝓤 (C #reader·after) (After 𝓤 H A at-mem run)) where
+  module _ (C : Calls 𝓤 H) (Λ : Loops 𝓤 H) (fm : FmC 𝓤 H (W .laws) C) (known-four : Triple 𝓤 (C #window·take-four) (TakeFour 𝓤 H A at-mem run)) (known-after : Triple 𝓤 (C #reader·after) (After 𝓤 H A at-mem run)) where
     walk : ent 𝓤 (onEntry 𝓤 H A take.signature (κ, (κ′, tt)) (q, (q′, tt)) x at) (WpFn 𝓤 H C Λ code.function (vptr b o ∷ vint w64 w₁ ∷ vint w64 w₂ ∷ vint w64 w₃ ∷ vint w64 w₄ ∷ []) Post)
     walk =
         qed W ((‵ (flft κ q) ⊛ ‵ (flft κ′ q′) ⊛ ‵ ftrue) ∷ ‵ (owns (MutRef (named 0) κ (B κ′) ∷ usize ∷ usize ∷ usize ∷ usize ∷ []) x at) ∷ []) ∵ enter ! C Λ code.function (vptr b o ∷ vint w64 w₁ ∷ vint w64 w₂ ∷ vint w64 w₃ ∷ vint w64 w₄ ∷ []) _ $
@@ -223,7 +223,7 @@ module _ {M : Type 1} (𝓤 : URA M) (H : Heap 𝓤) (A : Atoms 𝓤) (W : Given
         keep ! (0 ∷ 1 ∷ 2 ∷ 4 ∷ 3 ∷ []) $ by ! (exits r t u e e′)))))))))))))))))))))
 
 module _ {M : Type 1} (𝓤 : URA M) (H : Heap 𝓤) (A : Atoms 𝓤) (W : Given 𝓤 H A) (mem : Memory → SProp 𝓤) (run : Routine → Fun 𝓤) where
-  take-walks : (C : Calls 𝓤 H) (Λ : Loops 𝓤 H) → FmC 𝓤 H (W .laws) C → Triple 𝓤 (C #field·take-four) (TakeFour 𝓤 H A mem run) → Triple 𝓤 (C #reader·after) (After 𝓤 H A mem run)
+  take-walks : (C : Calls 𝓤 H) (Λ : Loops 𝓤 H) → FmC 𝓤 H (W .laws) C → Triple 𝓤 (C #window·take-four) (TakeFour 𝓤 H A mem run) → Triple 𝓤 (C #reader·after) (After 𝓤 H A mem run)
       → Walks 𝓤 H A take.ended stayed (WpFn 𝓤 H C Λ code.function) (take.clauses 𝓤 H A mem run)
   take-walks C Λ fm known-four known-after =
       walked 𝓤 H A take.ended stayed (take.clauses 𝓤 H A mem run) (WpFn 𝓤 H C Λ code.function) (λ κs. (ptr-vals, (uint-vals w64, (uint-vals w64, (uint-vals w64, (uint-vals w64, tt))))))
@@ -233,7 +233,7 @@ module _ {M : Type 1} (𝓤 : URA M) (H : Heap 𝓤) (A : Atoms 𝓤) (W : Given
       (are .1 .0 .1) (are .1 .1 .0 .1) (are .1 .1 .1 .0 .1) (are .1 .1 .1 .1 .0 .1) ok C Λ fm known-four known-after))
 
 take-meets : {M : Type 1} (𝓤 : URA M) (H : Heap 𝓤) (A : Atoms 𝓤) → Given 𝓤 H A → (mem : Memory → SProp 𝓤) (run : Routine → Fun 𝓤) (𝓣 : Tables 𝓤 H)
-    → Triple 𝓤 (𝓣 .C #field·take-four) (TakeFour 𝓤 H A mem run) → Triple 𝓤 (𝓣 .C #reader·after) (After 𝓤 H A mem run)
+    → Triple 𝓤 (𝓣 .C #window·take-four) (TakeFour 𝓤 H A mem run) → Triple 𝓤 (𝓣 .C #reader·after) (After 𝓤 H A mem run)
     → Meets 𝓤 H A take.signature (WpFn 𝓤 H (𝓣 .C) (𝓣 .Λ) code.function) (take.spec 𝓤 H A mem run)
 take-meets 𝓤 H A W mem run 𝓣 known-four known-after =
     walk-meets 𝓤 H A take.ended stayed W
@@ -246,5 +246,5 @@ take-spec 𝓤 H 𝓜 𝓖 𝓡 =
     entered 𝓤 H (tripleOf 𝓤 H (𝓖 .A) take.signature (take.spec 𝓤 H (𝓖 .A) (𝓜 .mem) (𝓡 .run)))
     (tables 𝓤 H 𝓜 𝓡 code.env .C) (tables 𝓤 H 𝓜 𝓡 code.env .Λ) #reader·take code.function (code.unfolded 𝓤 H 𝓜 𝓡)
     (take-meets 𝓤 H (𝓖 .A) (givenOf 𝓤 H 𝓜 𝓖) (𝓜 .mem) (𝓡 .run) (tablesOf 𝓤 H 𝓜 (tables 𝓤 H 𝓜 𝓡 code.env))
-    (cited 𝓤 H (TakeFour 𝓤 H (𝓖 .A) (𝓜 .mem) (𝓡 .run)) 𝓜 𝓡 code.env #field·take-four four-def.routine code.calls-field·take-four (four-thm.met 𝓤 H 𝓜 𝓖 𝓡))
+    (cited 𝓤 H (TakeFour 𝓤 H (𝓖 .A) (𝓜 .mem) (𝓡 .run)) 𝓜 𝓡 code.env #window·take-four four-def.routine code.calls-window·take-four (four-thm.met 𝓤 H 𝓜 𝓖 𝓡))
     (cited 𝓤 H (After 𝓤 H (𝓖 .A) (𝓜 .mem) (𝓡 .run)) 𝓜 𝓡 code.env #reader·after after-def.routine code.calls-reader·after (after-thm.met 𝓤 H 𝓜 𝓖 𝓡)))

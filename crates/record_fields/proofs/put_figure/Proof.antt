@@ -11,9 +11,9 @@ use Rattle.record_fields.proofs.put_figure.Statement.{statement}
 use Rattle.record_fields.proofs.put_figure.Tie as tie
 use Rattle.record_fields.proofs.put_figure.Reads as reads
 use Rattle.record_fields.proofs.put_figure.Lts as lts
-use Rattle.field.proofs.put.Reads as put-reads
-use Rattle.rules.proofs.kind.Reads as kind-reads
-use Rattle.rules.proofs.value.Reads as value-reads
+use Rattle.put_field.proofs.put.Reads as put-reads
+use Rattle.numbers.proofs.kind.Reads as kind-reads
+use Rattle.numbers.proofs.value.Reads as value-reads
 
 kind-requires : tie.Need-kind-requires
 kind-requires c κs = search needs

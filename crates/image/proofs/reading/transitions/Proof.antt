@@ -23,7 +23,7 @@ use Rattle.image.proofs.reading.transitions.Statement.{statement}
 use Rattle.image.proofs.reading.transitions.Tie as tie
 use Rattle.image.proofs.reading.transitions.Reads as reads
 use Rattle.image.proofs.reading.transitions.Lts as lts
-use Rattle.arrays.proofs.limits.checked.Reads as checked-reads
+use Rattle.transition_grounds.proofs.checked.Reads as checked-reads
 use Rattle.image.proofs.reading.transition.Reads as transition-reads
 
 abbrev Inv-loop : tie.InvT-loop

@@ -1,0 +1,2 @@
+-- Four lines in a row.
+pub mod InRow
