@@ -19,7 +19,7 @@ use graph::Which;
 use reach::Searched;
 use rules::Figure;
 use rules::Quote;
-use search::chain::Ways;
+use search::chain::Chain;
 
 // A figure with its number divided by the scale: what a search over scaled weights found.
 fn divide(figure: Figure) -> Figure
@@ -66,39 +66,21 @@ fn weigh<'a>(
     }
 }
 
-// A least figure of the plan in the arrays, with a route that attains it. The arrays are lent one by one: a plan by value would be copied for each figure.
-pub fn least<'a>(
-    which: Which,
-    n: usize,
-    m: usize,
-    marks: &'a [u8; 512],
-    from: &'a [u16; 2048],
-    to: &'a [u16; 2048],
-    low: &'a [u16; 2048],
-    high: &'a [u16; 2048],
-    ways: Ways,
-    walk: &mut [u16],
-) -> Quote
-    requires { ⌜ (isLeast which ≡ true) × (within (view (planOf n m (now marks) (now from) (now to) (now low) (now high))) ≡ true)
-        × (n ≤ length (now walk)) × Chains (now to) m (ways .into .head) (ways .into .link) × Chains (now from) m (ways .out .head) (ways .out .link) ⌝ }
-    ensures { λ r. ⌜ Stated
-        (says which (view (planOf n m (now (marks .entry)) (now (from .entry)) (now (to .entry)) (now (low .entry)) (now (high .entry)))))
-        r (now (walk .entry)) (now (walk .exit)) ⌝ }
+// Whether it is a least figure.
+fn is_least(which: Which) -> bool
+    ensures { λ r. ⌜ r ≡ isLeast which ⌝ }
 {
-    let mut weight = [0u32; 2048];
-    let mut close = [0u32; 512];
-    weigh(which, n, m, marks, from, low, high, &mut weight, &mut close);
-    let found = least_search::least(n, m, marks, from, to, ways, &weight, &close, walk);
-    let figure = found.figure;
-    Quote {
-        figure: divide(figure),
-        k: found.k,
-        j: found.j,
+    match which {
+        Which::LeastDelay => true,
+        Which::GreatestDelay => false,
+        Which::LeastCount => true,
+        Which::GreatestCount => false,
     }
 }
 
-// A greatest figure of the plan in the arrays, from what the starts reach, with the walk that shows it. The arrays are lent one by one, as above.
-pub fn greatest<'a>(
+// A figure of the plan in the arrays, from what the starts reach, with the walk that shows it. The arrays are lent one by one: a plan by value would be copied
+// for each figure.
+pub fn figure<'a>(
     which: Which,
     n: usize,
     m: usize,
@@ -107,13 +89,12 @@ pub fn greatest<'a>(
     to: &'a [u16; 2048],
     low: &'a [u16; 2048],
     high: &'a [u16; 2048],
-    ways: Ways,
+    out: Chain,
     reached: Searched,
     walk: &mut [u16],
 ) -> Quote
-    requires { ⌜ (isLeast which ≡ false) × (within (view (planOf n m (now marks) (now from) (now to) (now low) (now high))) ≡ true)
-        × (n ≤ length (now walk)) × Chains (now from) m (ways .out .head) (ways .out .link)
-        × Reached (arrays n m (now marks) (now from) (now to)) (tableOf reached) (reached .found) ⌝ }
+    requires { ⌜ (within (view (planOf n m (now marks) (now from) (now to) (now low) (now high))) ≡ true) × (n ≤ length (now walk)) ⌝ }
+    requires { ⌜ Chains (now from) m (out .head) (out .link) × Reached (arrays n m (now marks) (now from) (now to)) (tableOf reached) (reached .found) ⌝ }
     ensures { λ r. ⌜ Stated
         (says which (view (planOf n m (now (marks .entry)) (now (from .entry)) (now (to .entry)) (now (low .entry)) (now (high .entry)))))
         r (now (walk .entry)) (now (walk .exit)) ⌝ }
@@ -121,6 +102,37 @@ pub fn greatest<'a>(
     let mut weight = [0u32; 2048];
     let mut close = [0u32; 512];
     weigh(which, n, m, marks, from, low, high, &mut weight, &mut close);
-    let out = ways.out;
-    greatest_search::greatest(n, marks, from, to, out, reached, &weight, close, walk)
+    if is_least(which) {
+        let found = least_search::least(
+            n,
+            m,
+            marks,
+            from,
+            to,
+            &out.head,
+            &out.link,
+            reached,
+            &weight,
+            close,
+            walk,
+        );
+        let figure = found.figure;
+        return Quote {
+            figure: divide(figure),
+            k: found.k,
+            j: found.j,
+        };
+    }
+    greatest_search::greatest(
+        n,
+        marks,
+        from,
+        to,
+        &out.head,
+        &out.link,
+        reached,
+        &weight,
+        close,
+        walk,
+    )
 }

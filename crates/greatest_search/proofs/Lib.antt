@@ -1,4 +1,2 @@
--- The greatest values.
-pub mod Filling
 -- From what the search left behind to the graph's greatest figure.
 pub mod GreatestFigure

@@ -7,11 +7,9 @@ ghost use Rattle.search.specs.Arrays.{arrays, at};
 ghost use Rattle.search.specs.Sizes.{far, heaviest};
 ghost use Rattle.keys.specs.Keys.{Keyed, Passing, Ready, Relaxed, Nearest};
 use arrays::limits::wide;
+use search::FAR;
 use search::is_final;
 use search::is_start;
-
-// Above every key that is known.
-pub const FAR: u32 = 4_000_000_000;
 
 // Lowers the key of the state that t leaves, where the way by t is cheaper, and cheaper than the bound. Returns whether it did.
 fn relax(

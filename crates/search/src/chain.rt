@@ -11,12 +11,6 @@ pub struct Chain {
     pub link: [u16; 2048],
 }
 
-// The transitions into each state, and those out of it.
-pub struct Ways {
-    pub into: Chain,
-    pub out: Chain,
-}
-
 // Chains the first m transitions by their keys, the states that they leave or those that they lead to.
 pub fn chains(keys: &[u16; 2048], m: usize) -> Chain
     requires { ⌜ (m ≤ 2048) × ((t : ℕ) → t < m → at (now keys) t < 512) ⌝ }
@@ -32,14 +26,4 @@ pub fn chains(keys: &[u16; 2048], m: usize) -> Chain
         head[s] = i as u16;
     }
     Chain { head, link }
-}
-
-// Chains the first m transitions both ways.
-pub fn both<'a>(from: &'a [u16; 2048], to: &'a [u16; 2048], m: usize) -> Ways
-    requires { ⌜ (m ≤ 2048) × ((t : ℕ) → t < m → at (now from) t < 512) × ((t : ℕ) → t < m → at (now to) t < 512) ⌝ }
-    ensures { λ r. ⌜ Chains (now (to .entry)) m (r .into .head) (r .into .link) × Chains (now (from .entry)) m (r .out .head) (r .out .link) ⌝ }
-{
-    let into = chains(to, m);
-    let out = chains(from, m);
-    Ways { into, out }
 }

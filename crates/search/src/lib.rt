@@ -11,6 +11,9 @@ use arrays::START;
 // No transition: the number after the last that a plan may have.
 pub const NONE: usize = 2048;
 
+// Above every key and value that is known.
+pub const FAR: u32 = 4_000_000_000;
+
 // Whether a marks value has the start mark.
 pub fn is_start(mark: u8) -> bool
     ensures { λ r. ⌜ r ≡ startMark mark ⌝ }

@@ -1,17 +1,23 @@
--- Four parts of 512 places of a list, replaced one after another. A part that was replaced holds what was put there; a part before or after it, and
--- all that lies after it, is as it was; so each of the four calls that were lent the parts says its fact of the parts of the whole. Assumes nothing.
+-- Four parts of 512 places of a list, replaced one after another. A part that was replaced holds what was put there; a part before it, and
+-- all that lies after it, is as it was (`put`). So what each call says of the part that it was lent holds of the parts of the whole, whichever of the four are
+-- done (`Showing`). Assumes nothing.
 use mathlib.Core.List.{List, _++_}
-use mathlib.Core.Path.{_≡_, sym, ap, _∙_, subst}
-use Prim.Native.Nat.{ℕ, _+_, _-_, _≤_}
+use mathlib.Core.Logic.{_⊎_, inl, inr, _≢_}
+use mathlib.Core.Path.{_≡_, refl, sym, ap, _∙_, subst}
+use Prim.Native.Nat.{ℕ, suc, _+_, _-_, _*_, _≤_, _<_}
 use native.Mathlib.Omega.{arith}
 use borrow.Rule.Slice.PartMut.{same-len-mid}
-use lib.ListN.{length, take, drop, take-append-drop, length-drop}
+use lib.ListN.{length, take, drop, getD, set, take-append-drop, length-drop, length-set}
+use lib.Seq.{length-take-le, take-append-le, drop-append-le, drop-drop, take-at, drop-at, getD-set-same, getD-set-other}
+use Rattle.arrays.proofs.Lists.{same-or-not}
 use Rattle.graph.specs.declared.Which.the-variants.{LeastDelay, GreatestDelay, LeastCount, GreatestCount}
 use Rattle.graph.specs.Graph.{Graph}
 use Rattle.graph.proofs.Figures.{each-of}
+use Rattle.rules.specs.declared.Figure.the-variants.{Number}
 use Rattle.rules.specs.declared.FourQuotes.{FourQuotes}
+use Rattle.rules.specs.declared.Quote.{Quote}
 use Rattle.rules.specs.Quotations.{says, Stated, quoteOf, part, AllStated}
-use lib.Seq.{length-take-le, take-append-le, drop-append-le, drop-drop, take-at, drop-at}
+use Rattle.shown.specs.Places.{figureAt}
 
 -- the list with ys in the place of the 512 from the a-th on
 abbrev pub put : ℕ → List ℕ → List ℕ → List ℕ
@@ -52,70 +58,62 @@ module _ (a : ℕ) (ys xs : List ℕ) (h : a + 512 ≤ length xs) (l : length ys
       front (take a xs) (ys ++ drop 512 (drop a xs)) (drop a xs) c (omega (arith, length-take-le a xs (omega arith)))
       ∙ ap (λ (z : List ℕ). cut c z) (take-append-drop a xs)
 
--- a part replaced by as many places as were lent, in a list as long as w: it has 512 places, and the list stays as long
-pub stays : (a : ℕ) (ys xs w : List ℕ) → length xs ≡ length w → a + 512 ≤ length w → length ys ≡ length (cut a xs)
-    → (length ys ≡ 512) × (length (put a ys xs) ≡ length w)
-stays a ys xs w e h l =
-    let long : length ys ≡ 512 = l ∙ cut-length a xs (omega arith) in
-    (long, put-length a ys xs (omega arith) long ∙ e)
-
 -- ---- four parts, one after another
 
-module _ (g : Graph) (q : FourQuotes) (xs a b c d : List ℕ) (room : 2048 ≤ length xs)
-    (la : length a ≡ 512) (lb : length b ≡ 512) (lc : length c ≡ 512) (ld : length d ≡ 512) where
-  X₁ : List ℕ
-  X₁ = put 0 a xs
+-- the quote at a place
+abbrev pub quoteAt : List Quote → ℕ → Quote
+quoteAt qs i = getD qs i (record { figure = Number 0; k = 0; j = 0 })
 
-  X₂ : List ℕ
-  X₂ = put 512 b X₁
+-- the first i figures are shown, each in its part, and all from there on is as it was
+pub record Showing (g : Graph) (i : ℕ) (qs : List Quote) (before after : List ℕ) : Type 0 where
+  pub as-many : length qs ≡ 4
+  pub as-long : length after ≡ length before
+  pub each : (j : ℕ) → j < i → Stated (says (figureAt j) g) (quoteAt qs j) (cut (512 * j) before) (cut (512 * j) after)
+  pub rest : (k : ℕ) → 512 * i ≤ k → drop k after ≡ drop k before
 
-  X₃ : List ℕ
-  X₃ = put 1024 c X₂
+module _ {g : Graph} {before : List ℕ} where
+  pub showing-none : (qs : List Quote) → length qs ≡ 4 → Showing g 0 qs before before
+  showing-none qs e = record { as-many = e; as-long = refl; each = λ j h. absurd (omega arith); rest = λ k h. refl }
 
-  r₀ : 0 + 512 ≤ length xs
-  r₀ = omega arith
+  module _ (room : 2048 ≤ length before) {i : ℕ} (below : i < 4) {qs : List Quote} {after : List ℕ} (s : Showing g i qs before after) where
+    pub there : 512 * i + 512 ≤ length after
+    there = omega (arith, s .as-long)
 
-  r₁ : 512 + 512 ≤ length X₁
-  unfolding X₁
-  r₁ = omega (arith, put-length 0 a xs r₀ la)
+    -- one more
+    showing-more : (q : Quote) (ys : List ℕ) → length ys ≡ length (cut (512 * i) after) → Stated (says (figureAt i) g) q (cut (512 * i) after) ys
+        → Showing g (suc i) (set qs i q) before (put (512 * i) ys after)
+    showing-more q ys l said = record {
+      as-many = length-set qs i q ∙ s .as-many;
+      as-long = put-length (512 * i) ys after there long ∙ s .as-long;
+      each = λ j h. go j h (same-or-not j i);
+      rest = λ k h. after-it (512 * i) ys after there long k (omega arith) ∙ s .rest k (omega arith);
+    }
+      where
+        long : length ys ≡ 512
+        long = l ∙ cut-length (512 * i) after there
 
-  r₂ : 1024 + 512 ≤ length X₂
-  unfolding X₁ X₂
-  r₂ = omega (arith, put-length 512 b X₁ r₁ lb, put-length 0 a xs r₀ la)
+        same : cut (512 * i) after ≡ cut (512 * i) before
+        same = ap (λ (z : List ℕ). take 512 z) (s .rest (512 * i) (omega arith))
 
-  r₃ : 1536 + 512 ≤ length X₃
-  unfolding X₁ X₂ X₃
-  r₃ = omega (arith, put-length 1024 c X₂ r₂ lc, put-length 512 b X₁ r₁ lb, put-length 0 a xs r₀ la)
+        own : Stated (says (figureAt i) g) (quoteAt (set qs i q) i) (cut (512 * i) before) (cut (512 * i) (put (512 * i) ys after))
+        own = rw (part-there (512 * i) ys after there long, getD-set-same qs i q _ (omega (arith, s .as-many)), sym same) said
 
-  -- what each call says of its part, said of the parts of the whole
-  pub all-stated : Stated (says LeastDelay g) (quoteOf q LeastDelay) (cut 0 xs) a
-      → Stated (says GreatestDelay g) (quoteOf q GreatestDelay) (cut 512 (put 0 a xs)) b
-      → Stated (says LeastCount g) (quoteOf q LeastCount) (cut 1024 (put 512 b (put 0 a xs))) c
-      → Stated (says GreatestCount g) (quoteOf q GreatestCount) (cut 1536 (put 1024 c (put 512 b (put 0 a xs)))) d
-      → AllStated g q xs (put 1536 d (put 1024 c (put 512 b (put 0 a xs))))
-  unfolding X₁ X₂ X₃
-  all-stated p q₁ q₂ q₃ =
-      let own : (i : ℕ) → i + 512 ≤ 1536 → cut i (put 1536 d X₃) ≡ cut i X₃ = λ i h. before-it 1536 d X₃ r₃ ld i h in
-      let after : (i : ℕ) → 512 ≤ i → cut i X₁ ≡ cut i xs = λ i h. ap (λ (z : List ℕ). take 512 z) (after-it 0 a xs r₀ la i h) in
-      let ea : cut 0 (put 1536 d X₃) ≡ a =
-      own 0 (omega arith) ∙ before-it 1024 c X₂ r₂ lc 0 (omega arith) ∙ before-it 512 b X₁ r₁ lb 0 (omega arith) ∙ part-there 0 a xs r₀ la in
-      let eb : cut 512 (put 1536 d X₃) ≡ b = own 512 (omega arith) ∙ before-it 1024 c X₂ r₂ lc 512 (omega arith) ∙ part-there 512 b X₁ r₁ lb in
-      let ec : cut 1024 (put 1536 d X₃) ≡ c = own 1024 (omega arith) ∙ part-there 1024 c X₂ r₂ lc in
-      let ed : cut 1536 (put 1536 d X₃) ≡ d = part-there 1536 d X₃ r₃ ld in
-      let fb : cut 512 X₁ ≡ cut 512 xs = after 512 (omega arith) in
-      let fc : cut 1024 X₂ ≡ cut 1024 xs = ap (λ (z : List ℕ). take 512 z) (after-it 512 b X₁ r₁ lb 1024 (omega arith)) ∙ after 1024 (omega arith) in
-      let fd : cut 1536 X₃ ≡ cut 1536 xs =
-      ap (λ (z : List ℕ). take 512 z) (after-it 1024 c X₂ r₂ lc 1536 (omega arith) ∙ after-it 512 b X₁ r₁ lb 1536 (omega arith)) ∙ after 1536 (omega arith) in
-      record {
-        each = each-of (λ which. Stated (says which g) (quoteOf q which) (part which xs) (part which (put 1536 d X₃)))
-            (subst (λ (z : List ℕ). Stated (says LeastDelay g) (quoteOf q LeastDelay) (cut 0 xs) z) (sym ea) p)
-            (subst (λ (z : List ℕ). Stated (says GreatestDelay g) (quoteOf q GreatestDelay) (cut 512 xs) z) (sym eb)
-            (subst (λ (z : List ℕ). Stated (says GreatestDelay g) (quoteOf q GreatestDelay) z b) fb q₁))
-            (subst (λ (z : List ℕ). Stated (says LeastCount g) (quoteOf q LeastCount) (cut 1024 xs) z) (sym ec)
-            (subst (λ (z : List ℕ). Stated (says LeastCount g) (quoteOf q LeastCount) z c) fc q₂))
-            (subst (λ (z : List ℕ). Stated (says GreatestCount g) (quoteOf q GreatestCount) (cut 1536 xs) z) (sym ed)
-            (subst (λ (z : List ℕ). Stated (says GreatestCount g) (quoteOf q GreatestCount) z d) fd q₃));
-        later =
-            after-it 1536 d X₃ r₃ ld 2048 (omega arith) ∙ after-it 1024 c X₂ r₂ lc 2048 (omega arith) ∙ after-it 512 b X₁ r₁ lb 2048 (omega arith)
-            ∙ after-it 0 a xs r₀ la 2048 (omega arith);
-      }
+        go : (j : ℕ) → j < suc i → (j ≡ i) ⊎ (j ≢ i)
+            → Stated (says (figureAt j) g) (quoteAt (set qs i q) j) (cut (512 * j) before) (cut (512 * j) (put (512 * i) ys after))
+        go j h (inl e) = rw e own
+        go j h (inr d) =
+            rw (before-it (512 * i) ys after there long (512 * j) (omega (arith, d)), getD-set-other qs i j q _ d) (s .each j (omega (arith, d)))
+
+    -- the same of a part with so many places
+    pub showing-part : (q : Quote) (ys : List ℕ) (k : ℕ) → k ≡ 512 → length ys ≡ length (take k (drop (512 * i) after)) → Stated (says (figureAt i) g) q (take k (drop (512 * i) after)) ys
+        → Showing g (suc i) (set qs i q) before (take (512 * i) after ++ (ys ++ drop k (drop (512 * i) after)))
+    showing-part q ys k e l said = rw e (showing-more q ys (rw e at l) (rw e at said))
+
+  pub all-shown : (q : FourQuotes) {qs : List Quote} {after : List ℕ} → Showing g 4 qs before after
+      → quoteOf q LeastDelay ≡ quoteAt qs 0 → quoteOf q GreatestDelay ≡ quoteAt qs 1 → quoteOf q LeastCount ≡ quoteAt qs 2 → quoteOf q GreatestCount ≡ quoteAt qs 3
+      → AllStated g q before after
+  all-shown q {qs} {after} s a b c d = record {
+    each = each-of (λ which. Stated (says which g) (quoteOf q which) (part which before) (part which after))
+        (rw a (s .each 0 (omega arith))) (rw b (s .each 1 (omega arith))) (rw c (s .each 2 (omega arith))) (rw d (s .each 3 (omega arith)));
+    later = s .rest 2048 (omega arith);
+  }

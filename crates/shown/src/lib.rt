@@ -1,31 +1,20 @@
-// The figures of a plan within the limits, with the walks that show them: one, by which it is, or all four, by one search for both greatest ones.
+// The figures of a plan within the limits, with the walks that show them: one, by which it is, or all four, by one search for what the starts reach.
 ghost use mathlib.Core.Bool.{true};
 ghost use mathlib.Core.Path.{_≡_};
 ghost use Prim.Native.Nat.{_≤_};
 ghost use lib.ListN.{length};
 ghost use Rattle.figures.specs.Figures.{planOf};
-ghost use Rattle.graph.specs.Which.{isLeast};
 ghost use Rattle.plan.specs.View.{view};
 ghost use Rattle.rules.specs.Limits.{within};
 ghost use Rattle.rules.specs.Quotations.{says, Stated, AllStated};
+ghost use Rattle.shown.specs.Places.{figureAt};
 use graph::Which;
 use plan::Plan;
 use reach::explore;
+use rules::Figure;
 use rules::FourQuotes;
 use rules::Quote;
 use search::chain;
-
-// Whether it is a least figure.
-fn is_least(which: Which) -> bool
-    ensures { λ r. ⌜ r ≡ isLeast which ⌝ }
-{
-    match which {
-        Which::LeastDelay => true,
-        Which::GreatestDelay => false,
-        Which::LeastCount => true,
-        Which::GreatestCount => false,
-    }
-}
 
 // A figure of a plan, with the walk that shows it.
 pub fn show(which: Which, p: Plan, walk: &mut [u16]) -> Quote
@@ -34,23 +23,9 @@ pub fn show(which: Which, p: Plan, walk: &mut [u16]) -> Quote
 {
     let n = p.states;
     let m = p.transitions;
-    let ways = chain::both(&p.from, &p.to, m);
-    if is_least(which) {
-        return figures::least(
-            which,
-            n,
-            m,
-            &p.marks,
-            &p.from,
-            &p.to,
-            &p.low,
-            &p.high,
-            ways,
-            walk,
-        );
-    }
-    let reached = explore::reach(n, &p.marks, &p.to, &ways.out.head, &ways.out.link);
-    figures::greatest(
+    let out = chain::chains(&p.from, m);
+    let reached = explore::reach(n, &p.marks, &p.to, &out.head, &out.link);
+    figures::figure(
         which,
         n,
         m,
@@ -59,13 +34,25 @@ pub fn show(which: Which, p: Plan, walk: &mut [u16]) -> Quote
         &p.to,
         &p.low,
         &p.high,
-        ways,
+        out,
         reached,
         walk,
     )
 }
 
-// The four figures of the plan in the arrays, by one search for both greatest ones; the walks stand in four parts of 512 places.
+// The figure at a place of the record; the last one past them.
+fn figure_at(i: usize) -> Which
+    ensures { λ r. ⌜ r ≡ figureAt i ⌝ }
+{
+    match i {
+        0 => Which::LeastDelay,
+        1 => Which::GreatestDelay,
+        2 => Which::LeastCount,
+        _ => Which::GreatestCount,
+    }
+}
+
+// The four figures of the plan in the arrays, by one search for what the starts reach; the walks stand in four parts of 512 places.
 pub fn show_all<'a>(
     n: usize,
     m: usize,
@@ -81,62 +68,40 @@ pub fn show_all<'a>(
         (view (planOf n m (now (marks .entry)) (now (from .entry)) (now (to .entry)) (now (low .entry)) (now (high .entry))))
         r (now (walks .entry)) (now (walks .exit)) ⌝ }
 {
-    let ways = chain::both(from, to, m);
-    let reached = explore::reach(n, marks, to, &ways.out.head, &ways.out.link);
-    let first = figures::least(
-        Which::LeastDelay,
-        n,
-        m,
-        marks,
-        from,
-        to,
-        low,
-        high,
-        ways,
-        &mut walks[0..512],
-    );
-    let second = figures::greatest(
-        Which::GreatestDelay,
-        n,
-        m,
-        marks,
-        from,
-        to,
-        low,
-        high,
-        ways,
-        reached,
-        &mut walks[512..1024],
-    );
-    let third = figures::least(
-        Which::LeastCount,
-        n,
-        m,
-        marks,
-        from,
-        to,
-        low,
-        high,
-        ways,
-        &mut walks[1024..1536],
-    );
-    let fourth = figures::greatest(
-        Which::GreatestCount,
-        n,
-        m,
-        marks,
-        from,
-        to,
-        low,
-        high,
-        ways,
-        reached,
-        &mut walks[1536..2048],
-    );
+    let out = chain::chains(from, m);
+    let reached = explore::reach(n, marks, to, &out.head, &out.link);
+    let mut quotes = [Quote {
+        figure: Figure::None,
+        k: 0,
+        j: 0,
+    }; 4];
+    let mut i = 0;
+    while i < 4 {
+        let at = 512 * i;
+        let end = at + 512;
+        quotes[i] = figures::figure(
+            figure_at(i),
+            n,
+            m,
+            marks,
+            from,
+            to,
+            low,
+            high,
+            out,
+            reached,
+            &mut walks[at..end],
+        );
+        i += 1;
+    }
+    let least_delay = quotes[0];
+    let greatest_delay = quotes[1];
+    let least_count = quotes[2];
+    let greatest_count = quotes[3];
     FourQuotes {
-        least_delay: first,
-        greatest_delay: second,
-        least_count: third,
-        greatest_count: fourth,
+        least_delay,
+        greatest_delay,
+        least_count,
+        greatest_count,
     }
 }

@@ -14,7 +14,7 @@ abbrev graph : tie.Start → ℕ → Arrays
 graph c m = arrays (c .args .n) m (c .args .marks .now) (c .args .from .now) (c .args .to .now)
 
 abbrev behind : tie.Start → Table
-behind c = tableOf (c .args .t6)
+behind c = tableOf (c .args .t7)
 
 enum-told : tie.Need-enum-told
 enum-told c = search needs
@@ -42,8 +42,8 @@ climb-requires c κs =
 enum-known-found-3 : tie.Need-enum-known-found-3
 enum-known-found-3 c = search needs
 
-number-requires : tie.Need-number-requires
-number-requires c κs =
+best-requires : tie.Need-best-requires
+best-requires c κs =
     let s = c .before .before .before .before .before .before .before in
     let p = s .pre .1 in
     let q = rw (c .before .before .before .before .found3 .given .1) at (p .2) in
@@ -87,7 +87,7 @@ returns-4 c =
     let b = behind s in
     λ m w reached g held.
     let q = rw (c .before .before .before .before .before .before .before .found3 .given .1) at reached in
-    c .before .before .number .ensures m (s .args .from .now) (b .rank) (b .cursor) (b .stack) (b .via) (record { linked = w; ranked = q .0; started = q .1; no-dead-end = q .2 }) g held
+    c .before .before .best .ensures m (s .args .from .now) (b .rank) (b .cursor) (b .stack) (b .via) (record { linked = w; ranked = q .0; started = q .1; no-dead-end = q .2 }) g held
 
 pub greatest-spec : {M : Type 1} → statement M
 greatest-spec =
@@ -99,7 +99,7 @@ greatest-spec =
     enum-known-found-2
     climb-requires
     enum-known-found-3
-    number-requires
+    best-requires
     returns
     same-length
     returns-2

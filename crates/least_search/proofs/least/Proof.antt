@@ -1,69 +1,65 @@
--- `least_search::least` meets its contract: keys that spread and are settled by the nearest start give the figure, and a route is read off them (LeastFigure). Assumes nothing.
-use native.Mathlib.Nat.{le-refl}
-use native.Mathlib.Omega.{arith}
+-- `least_search::least` meets its contract: where the search came to its end, by the values in the order of leaving (values' `best`), and otherwise by keys. Assumes nothing.
+use Prim.Native.Nat.{ℕ}
 use borrow.Author.Needs.{needs}
 use Rattle.search.specs.Arrays.{Arrays, arrays}
-use Rattle.keys.specs.Keys.{Keyed, Ready}
-use Rattle.least_search.proofs.LeastFigure.{readable, least-quoted, none-quoted}
+use Rattle.search.specs.Weights.{weightsOf, Light}
+use Rattle.reach.specs.Explored.{tableOf, Reached}
+use Rattle.reach.specs.declared.Reach.the-variants.{Ends}
+use Rattle.turns.specs.Search.{Table}
+use Rattle.values.specs.Values.{Over}
 use Rattle.least_search.proofs.least.Statement.{statement}
 use Rattle.least_search.proofs.least.Tie as tie
 
 abbrev graph : tie.Start → Arrays
 graph c = arrays (c .args .n) (c .args .m) (c .args .marks .now) (c .args .from .now) (c .args .to .now)
 
--- the keys as they spread
-keyed : (c : tie.After-spread) → Keyed (graph (c .before .before .before .before .before .before)) (c .before .before .before .before .before .before .args .weight .now) (c .before .before .before .before .before .before .args .close .now) (c .spread .last .1 .1 .1 .1 .1 .1 .1 .0)
-keyed c =
-    let p = c .before .before .before .before .before .before .pre in
-    record { bounded = p .0 .0; weighed = p .0 .1; keys = c .spread .ensures _ _ (p .0 .0) (p .0 .1) (p .1 .0) }
+-- what the search left behind, and that it came to its end
+abbrev behind : tie.Start → Table
+behind c = tableOf (c .args .t8)
 
--- .. and as they are settled
-ready : (c : tie.After-settle) → Ready (graph (c .before .before .before .before .before .before .before .before)) (c .before .before .before .before .before .before .before .before .args .weight .now) (c .before .before .before .before .before .before .before .before .args .close .now) (c .settle .result) (c .settle .last .1 .1 .1 .1 .1 .1 .0)
-ready c = c .settle .ensures (c .before .before .before .before .before .before .before .before .args .close .now) (keyed (c .before .before))
+over : (c : tie.Start) (done : ℕ) → Reached (graph c) (behind c) (Ends done) → Over (graph c) (c .args .head .now) (c .args .link .now) (behind c) done
+over c done q = record { linked = c .pre .0 .0; ranked = q .0; started = q .1; no-dead-end = q .2 }
 
-spread-requires : tie.Need-spread-requires
-spread-requires c κs =
-    let s = c .before .before .before .before .before in
-    (le-refl 512, (s .args .m, s .args .to .now, s .pre .0 .0, s .pre .0 .1, s .pre .1 .0))
+light : (c : tie.Start) → Light (weightsOf (c .args .weight .now) (c .args .t10))
+light c = record { weights = c .pre .0 .1 .most; closes = c .pre .0 .1 .close-most }
 
-settle-requires : tie.Need-settle-requires
-settle-requires c κs = (_, keyed (c .before))
+enum-known-found : tie.Need-enum-known-found
+enum-known-found c = search needs
 
-returns : tie.Need-returns
-returns c = λ g held. none-quoted (ready (c .before)) held (omega (arith, c .if1 .taken)) (c .before .before .before .before .before .before .before .before .before .args .walk .now)
+best-requires : tie.Need-best-requires
+best-requires c κs =
+    let s = c .before .before .before .before .before .before .before in
+    let b = behind s in
+    let q = rw (c .before .before .before .before .found .given .1) at (s .pre .1) in
+    ((s .pre .0 .2, light s), (s .args .m, s .args .from .now, b .rank, b .cursor, b .stack, b .via, over s _ q))
 
-trace-requires : tie.Need-trace-requires
-trace-requires c κs =
-    let s = c .before .before .before .before .before .before .before .before .before .before .before .before .before .before in
-    (s .args .n, s .args .m, s .args .from .now, s .args .close .now, s .pre .0 .2, readable (ready (c .before .before .before .before .before .before)) (s .pre .1 .1) (omega arith))
-
-mul-t26 : tie.Need-mul-t26
-mul-t26 c = omega (arith, c .before .before .before .before .before .before .before .before .before .before .before .before .before .before .before .before .before .pre .0 .0 .states, c .before .before .before .before .before .before .before .before .if1 .left)
-
-array-read-t29 : tie.Need-array-read-t29
-array-read-t29 c = omega (arith, c .before .before .before .before .before .before .before .before .before .before .before .before .before .before .before .before .before .pre .0 .0 .states, c .before .before .before .before .before .before .before .before .if1 .left)
+by-keys-requires : tie.Need-by-keys-requires
+by-keys-requires c κs = let p = c .before .before .before .before .pre .0 in ((p .0 .bounded, p .1, p .2), p .0 .chains)
 
 same-length : tie.Need-same-length
 same-length c = search needs
 
+returns : tie.Need-returns
+returns c =
+    let s = c .before .before .before .before .before .before .before .before .before .before in
+    let b = behind s in
+    let q = rw (c .before .before .before .before .before .before .before .found .given .1) at (s .pre .1) in
+    c .before .before .best .ensures (s .args .m) (s .args .from .now) (b .rank) (b .cursor) (b .stack) (b .via) (over s _ q)
+
+same-length-2 : tie.Need-same-length-2
+same-length-2 c = search needs
+
 returns-2 : tie.Need-returns-2
-returns-2 c =
-    let t = c .before .before .trace in
-    let s = c .before .before .before .before .before .before .before .before .before .before .before .before .before .before .before .before .before in
-    let r = ready (c .before .before .before .before .before .before .before .before .before) in
-    λ g held.
-    least-quoted r held (omega (arith, c .before .before .before .before .before .before .before .before .if1 .left)) (t .kept .1 .1 .1 .1 .1 .1 .1 .0) (s .pre .0 .2)
-    (t .ensures (s .args .n) (s .args .m) (s .args .from .now) (s .args .close .now) (readable r (s .pre .1 .1) (omega (arith, c .before .before .before .before .before .before .before .before .if1 .left))))
+returns-2 c = search needs
 
 pub least-spec : {M : Type 1} → statement M
 least-spec =
     tie.close
     (tie.spec
-    spread-requires
-    settle-requires
-    returns
-    trace-requires
-    mul-t26
-    array-read-t29
+    enum-known-found
+    best-requires
+    by-keys-requires
     same-length
+    returns
+    same-length-2
     returns-2)

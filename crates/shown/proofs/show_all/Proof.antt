@@ -1,191 +1,138 @@
--- `shown::show_all`: the limits give what each call asks for; each was lent a part, and says its fact of the part (proofs/Parts.antt). Assumes nothing.
+-- `shown::show_all`: the limits give what the chains, the search and each figure ask for. The invariant: the figures before place i are shown, each in its part (`Showing`). The
+-- measure is how many are left. Assumes nothing.
 use mathlib.Core.Path.{_≡_, refl}
-use Prim.Native.Nat.{_≤_}
+use Prim.Native.Nat.{_+_, _*_, _-_, _≤_}
+use native.Mathlib.Numerals.{add-one}
 use native.Mathlib.Omega.{arith}
+use borrow.Author.Needs.{needs}
 use lib.ListN.{length}
-use Rattle.figures.specs.Figures.{planOf}
-use Rattle.figures.proofs.Held.{bounded-in, from-small, to-small, linked-in}
+use Rattle.search.specs.Chain.{Linked}
+use Rattle.figures.specs.Figures.{planOf, arraysOf}
+use Rattle.figures.proofs.Held.{bounded-in, from-small, linked-in}
 use Rattle.plan.specs.declared.Plan.{Plan}
 use Rattle.plan.specs.View.{view}
-use Rattle.shown.proofs.Parts.{put, cut, cut-length, stays, all-stated}
-use borrow.Author.Needs.{needs}
+use Rattle.shown.proofs.Parts.{Showing, cut-length, showing-none, there, showing-part, all-shown}
 use Rattle.shown.proofs.show_all.Statement.{statement}
 use Rattle.shown.proofs.show_all.Tie as tie
-use Rattle.shown.proofs.show_all.Reads as reads
-use Rattle.shown.proofs.show_all.Lts as lts
-use Rattle.figures.proofs.greatest.Reads as greatest-reads
-use Rattle.figures.proofs.least.Reads as least-reads
-use Rattle.reach.proofs.explore.reach.Reads as reach-reads
-use Rattle.search.proofs.chain.both.Reads as both-reads
 
-both-requires : tie.Need-both-requires
-both-requires c κs =
-    let p : Plan = planOf (c .before .args .n) (c .before .args .m) (c .before .args .marks .now) (c .before .args .from .now) (c .before .args .to .now) (c .before .args .low .now) (c .before .args .high .now) in
-    let v = c .before .pre .0 in
-    (bounded-in p v .count, from-small p v, to-small p v)
+abbrev Inv-loop : tie.InvT-loop
+Inv-loop n m marks from to low high walks₀ out reached quotes₀ i₀ walks quotes i = (i ≤ 4) × Showing (view (planOf n m marks from to low high)) i quotes walks₀ walks
 
-reach-requires : tie.Need-reach-requires
-reach-requires c κs =
-    let p : Plan = planOf (c .before .before .before .before .before .args .n) (c .before .before .before .before .before .args .m) (c .before .before .before .before .before .args .marks .now) (c .before .before .before .before .before .args .from .now) (c .before .before .before .before .before .args .to .now) (c .before .before .before .before .before .args .low .now) (c .before .before .before .before .before .args .high .now) in
-    let v = c .before .before .before .before .before .pre .0 in
-    (p .transitions, p .from, (linked-in p v (c .before .before .before .both .result .out) (c .before .before .before .both .ensures .1)))
+abbrev μ-loop : tie.MeasureT-loop
+μ-loop n m marks from to low high walks₀ out reached quotes₀ i₀ walks quotes i = 4 - i
 
-sub-least : tie.Need-sub-least
-sub-least c = search needs
+-- the plan in the arrays, with the chains of its transitions
+abbrev plan : tie.Start Inv-loop μ-loop → Plan
+plan c = planOf (c .args .n) (c .args .m) (c .args .marks .now) (c .args .from .now) (c .args .to .now) (c .args .low .now) (c .args .high .now)
 
-part-least-start : tie.Need-part-least-start
-part-least-start c = search needs
+linked : (c : tie.After-chains Inv-loop μ-loop) → Linked (arraysOf (plan (c .before .before))) (c .chains .result .head) (c .chains .result .link)
+linked c = linked-in (plan (c .before .before)) (c .before .before .pre .0) (c .chains .result) (c .chains .ensures)
 
-part-least-end : tie.Need-part-least-end
-part-least-end c = search needs
+chains-requires : tie.Need-chains-requires Inv-loop μ-loop
+chains-requires c κs = let p = plan (c .before) in (bounded-in p (c .before .pre .0) .count, from-small p (c .before .pre .0))
 
-least-requires : tie.Need-least-requires
-least-requires c κs =
-    let p : Plan = planOf (c .before .before .before .before .before .before .before .args .n) (c .before .before .before .before .before .before .before .args .m) (c .before .before .before .before .before .before .before .args .marks .now) (c .before .before .before .before .before .before .before .args .from .now) (c .before .before .before .before .before .before .before .args .to .now) (c .before .before .before .before .before .before .before .args .low .now) (c .before .before .before .before .before .before .before .args .high .now) in
-    let v = c .before .before .before .before .before .before .before .pre .0 in
-    let w = c .before .before .before .before .before .before .before .args .walks .now in
-    let q = c .before .before .before .before .before .before .before .pre .1 in
-    let n = bounded-in p v .states in
-    let l : length (cut 0 w) ≡ 512 = cut-length 0 w (omega (arith, q)) in
-    (refl, v, omega (arith, l, n), c .before .before .before .before .before .both .ensures .0, c .before .before .before .before .before .both .ensures .1)
+reach-requires : tie.Need-reach-requires Inv-loop μ-loop
+reach-requires c κs = (c .before .before .before .before .before .args .m, c .before .before .before .before .before .args .from .now, linked (c .before .before .before))
 
-sub-greatest : tie.Need-sub-greatest
-sub-greatest c = search needs
+loop-holds : tie.Need-loop-holds Inv-loop μ-loop
+loop-holds c = (omega arith, showing-none _ refl)
 
-part-greatest-start : tie.Need-part-greatest-start
-part-greatest-start c = search needs
+mul-at : tie.Need-mul-at Inv-loop μ-loop
+mul-at c = search needs
 
-part-greatest-end : tie.Need-part-greatest-end
-part-greatest-end c = search needs
+add-end : tie.Need-add-end Inv-loop μ-loop
+add-end c = search needs
 
-greatest-requires : tie.Need-greatest-requires
-greatest-requires c κs =
-    let p : Plan = planOf (c .before .before .before .before .before .before .before .before .before .before .before .args .n) (c .before .before .before .before .before .before .before .before .before .before .before .args .m) (c .before .before .before .before .before .before .before .before .before .before .before .args .marks .now) (c .before .before .before .before .before .before .before .before .before .before .before .args .from .now) (c .before .before .before .before .before .before .before .before .before .before .before .args .to .now) (c .before .before .before .before .before .before .before .before .before .before .before .args .low .now) (c .before .before .before .before .before .before .before .before .before .before .before .args .high .now) in
-    let v = c .before .before .before .before .before .before .before .before .before .before .before .pre .0 in
-    let w = c .before .before .before .before .before .before .before .before .before .before .before .args .walks .now in
-    let q = c .before .before .before .before .before .before .before .before .before .before .before .pre .1 in
-    let n = bounded-in p v .states in
-    let a = c .before .before .before .least .last .1 .1 .1 .1 .1 .1 .1 .1 .1 .0 in
-    let s1 = stays 0 a w w refl (omega (arith, q)) (c .before .before .before .least .kept .1 .1 .1 .1 .1 .1 .1 .1 .1 .0) in
-    let l : length (cut 512 (put 0 a w)) ≡ 512 = cut-length 512 (put 0 a w) (omega (arith, q, s1 .1)) in
-    (refl, v, omega (arith, l, n), c .before .before .before .before .before .before .before .before .before .both .ensures .1, (c .before .before .before .before .before .reach .ensures (p .transitions) (p .from) (linked-in p v (c .before .before .before .before .before .before .before .before .before .both .result .out) (c .before .before .before .before .before .before .before .before .before .both .ensures .1))))
+figure-at-requires : tie.Need-figure-at-requires Inv-loop μ-loop
+figure-at-requires c κs = search needs
 
-sub-least-2 : tie.Need-sub-least-2
-sub-least-2 c = search needs
+mul-figure : tie.Need-mul-figure Inv-loop μ-loop
+mul-figure c = search needs
 
-part-least-start-2 : tie.Need-part-least-start-2
-part-least-start-2 c = search needs
+sub-figure : tie.Need-sub-figure Inv-loop μ-loop
+sub-figure c = search needs
 
-part-least-end-2 : tie.Need-part-least-end-2
-part-least-end-2 c =
-    let w = c .before .before .before .before .before .before .before .before .before .before .before .before .before .before .args .walks .now in
-    let q = c .before .before .before .before .before .before .before .before .before .before .before .before .before .before .pre .1 in
-    let a = c .before .before .before .before .before .before .least .last .1 .1 .1 .1 .1 .1 .1 .1 .1 .0 in
-    let s1 = stays 0 a w w refl (omega (arith, q)) (c .before .before .before .before .before .before .least .kept .1 .1 .1 .1 .1 .1 .1 .1 .1 .0) in
-    let b = c .before .before .greatest .last .1 .1 .1 .1 .1 .1 .1 .1 .1 .1 .0 in
-    let s2 = stays 512 b (put 0 a w) w (s1 .1) (omega (arith, q)) (c .before .before .greatest .kept .1 .1 .1 .1 .1 .1 .1 .1 .1 .1 .0) in
-    let g : 1536 ≤ length (put 512 b (put 0 a w)) = omega (arith, q, s2 .1) in
+part-figure-start : tie.Need-part-figure-start Inv-loop μ-loop
+part-figure-start c = search needs
+
+part-figure-end : tie.Need-part-figure-end Inv-loop μ-loop
+part-figure-end c =
+    let g : 512 * c .before .before .loop .i + 512 ≤ length (c .before .before .loop .walks) = there (c .before .before .before .before .before .before .before .before .before .pre .1) (c .before .loop-test .taken) (c .before .before .loop .inv .1) in
     g
 
-least-requires-2 : tie.Need-least-requires-2
-least-requires-2 c κs =
-    let p : Plan = planOf (c .before .before .before .before .before .before .before .before .before .before .before .before .before .before .before .args .n) (c .before .before .before .before .before .before .before .before .before .before .before .before .before .before .before .args .m) (c .before .before .before .before .before .before .before .before .before .before .before .before .before .before .before .args .marks .now) (c .before .before .before .before .before .before .before .before .before .before .before .before .before .before .before .args .from .now) (c .before .before .before .before .before .before .before .before .before .before .before .before .before .before .before .args .to .now) (c .before .before .before .before .before .before .before .before .before .before .before .before .before .before .before .args .low .now) (c .before .before .before .before .before .before .before .before .before .before .before .before .before .before .before .args .high .now) in
-    let v = c .before .before .before .before .before .before .before .before .before .before .before .before .before .before .before .pre .0 in
-    let w = c .before .before .before .before .before .before .before .before .before .before .before .before .before .before .before .args .walks .now in
-    let q = c .before .before .before .before .before .before .before .before .before .before .before .before .before .before .before .pre .1 in
-    let n = bounded-in p v .states in
-    let a = c .before .before .before .before .before .before .before .least .last .1 .1 .1 .1 .1 .1 .1 .1 .1 .0 in
-    let s1 = stays 0 a w w refl (omega (arith, q)) (c .before .before .before .before .before .before .before .least .kept .1 .1 .1 .1 .1 .1 .1 .1 .1 .0) in
-    let b = c .before .before .before .greatest .last .1 .1 .1 .1 .1 .1 .1 .1 .1 .1 .0 in
-    let s2 = stays 512 b (put 0 a w) w (s1 .1) (omega (arith, q)) (c .before .before .before .greatest .kept .1 .1 .1 .1 .1 .1 .1 .1 .1 .1 .0) in
-    let l : length (cut 1024 (put 512 b (put 0 a w))) ≡ 512 = cut-length 1024 (put 512 b (put 0 a w)) (omega (arith, q, s2 .1)) in
-    (refl, v, omega (arith, l, n), c .before .before .before .before .before .before .before .before .before .before .before .before .before .both .ensures .0, c .before .before .before .before .before .before .before .before .before .before .before .before .before .both .ensures .1)
+figure-requires : tie.Need-figure-requires Inv-loop μ-loop
+figure-requires c κs =
+    let i = c .before .before .before .loop .i in
+    let k : 512 * i + 512 - 512 * i ≡ 512 = omega arith in
+    let l = cut-length (512 * i) (c .before .before .before .loop .walks) (there (c .before .before .before .before .before .before .before .before .before .before .pre .1) (c .before .before .loop-test .taken) (c .before .before .before .loop .inv .1)) in
+    let n = bounded-in (plan (c .before .before .before .before .before .before .before .before .before .before)) (c .before .before .before .before .before .before .before .before .before .before .pre .0) .states in
+    ((c .before .before .before .before .before .before .before .before .before .before .pre .0, rw k (omega (arith, l, n))), (c .before .before .before .before .before .before .before .before .chains .ensures, c .before .before .before .before .reach .ensures (c .before .before .before .before .before .before .before .before .before .before .args .m) (c .before .before .before .before .before .before .before .before .before .before .args .from .now) (linked (c .before .before .before .before .before .before .before .before))))
 
-sub-greatest-2 : tie.Need-sub-greatest-2
-sub-greatest-2 c = search needs
+mul-quotes : tie.Need-mul-quotes Inv-loop μ-loop
+mul-quotes c = search needs
 
-part-greatest-start-2 : tie.Need-part-greatest-start-2
-part-greatest-start-2 c = search needs
+array-set-from-quotes : tie.Need-array-set-from-quotes Inv-loop μ-loop
+array-set-from-quotes c = search needs
 
-part-greatest-end-2 : tie.Need-part-greatest-end-2
-part-greatest-end-2 c =
-    let w = c .before .before .before .before .before .before .before .before .before .before .before .before .before .before .before .before .before .before .args .walks .now in
-    let q = c .before .before .before .before .before .before .before .before .before .before .before .before .before .before .before .before .before .before .pre .1 in
-    let a = c .before .before .before .before .before .before .before .before .before .before .least .last .1 .1 .1 .1 .1 .1 .1 .1 .1 .0 in
-    let s1 = stays 0 a w w refl (omega (arith, q)) (c .before .before .before .before .before .before .before .before .before .before .least .kept .1 .1 .1 .1 .1 .1 .1 .1 .1 .0) in
-    let b = c .before .before .before .before .before .before .greatest .last .1 .1 .1 .1 .1 .1 .1 .1 .1 .1 .0 in
-    let s2 = stays 512 b (put 0 a w) w (s1 .1) (omega (arith, q)) (c .before .before .before .before .before .before .greatest .kept .1 .1 .1 .1 .1 .1 .1 .1 .1 .1 .0) in
-    let d = c .before .before .least2 .last .1 .1 .1 .1 .1 .1 .1 .1 .1 .0 in
-    let s3 = stays 1024 d (put 512 b (put 0 a w)) w (s2 .1) (omega (arith, q)) (c .before .before .least2 .kept .1 .1 .1 .1 .1 .1 .1 .1 .1 .0) in
-    let g : 2048 ≤ length (put 1024 d (put 512 b (put 0 a w))) = omega (arith, q, s3 .1) in
-    g
+add-i : tie.Need-add-i Inv-loop μ-loop
+add-i c = search needs
 
-greatest-requires-2 : tie.Need-greatest-requires-2
-greatest-requires-2 c κs =
-    let p : Plan = planOf (c .before .before .before .before .before .before .before .before .before .before .before .before .before .before .before .before .before .before .before .args .n) (c .before .before .before .before .before .before .before .before .before .before .before .before .before .before .before .before .before .before .before .args .m) (c .before .before .before .before .before .before .before .before .before .before .before .before .before .before .before .before .before .before .before .args .marks .now) (c .before .before .before .before .before .before .before .before .before .before .before .before .before .before .before .before .before .before .before .args .from .now) (c .before .before .before .before .before .before .before .before .before .before .before .before .before .before .before .before .before .before .before .args .to .now) (c .before .before .before .before .before .before .before .before .before .before .before .before .before .before .before .before .before .before .before .args .low .now) (c .before .before .before .before .before .before .before .before .before .before .before .before .before .before .before .before .before .before .before .args .high .now) in
-    let v = c .before .before .before .before .before .before .before .before .before .before .before .before .before .before .before .before .before .before .before .pre .0 in
-    let w = c .before .before .before .before .before .before .before .before .before .before .before .before .before .before .before .before .before .before .before .args .walks .now in
-    let q = c .before .before .before .before .before .before .before .before .before .before .before .before .before .before .before .before .before .before .before .pre .1 in
-    let n = bounded-in p v .states in
-    let a = c .before .before .before .before .before .before .before .before .before .before .before .least .last .1 .1 .1 .1 .1 .1 .1 .1 .1 .0 in
-    let s1 = stays 0 a w w refl (omega (arith, q)) (c .before .before .before .before .before .before .before .before .before .before .before .least .kept .1 .1 .1 .1 .1 .1 .1 .1 .1 .0) in
-    let b = c .before .before .before .before .before .before .before .greatest .last .1 .1 .1 .1 .1 .1 .1 .1 .1 .1 .0 in
-    let s2 = stays 512 b (put 0 a w) w (s1 .1) (omega (arith, q)) (c .before .before .before .before .before .before .before .greatest .kept .1 .1 .1 .1 .1 .1 .1 .1 .1 .1 .0) in
-    let d = c .before .before .before .least2 .last .1 .1 .1 .1 .1 .1 .1 .1 .1 .0 in
-    let s3 = stays 1024 d (put 512 b (put 0 a w)) w (s2 .1) (omega (arith, q)) (c .before .before .before .least2 .kept .1 .1 .1 .1 .1 .1 .1 .1 .1 .0) in
-    let l : length (cut 1536 (put 1024 d (put 512 b (put 0 a w)))) ≡ 512 = cut-length 1536 (put 1024 d (put 512 b (put 0 a w))) (omega (arith, q, s3 .1)) in
-    (refl, v, omega (arith, l, n), c .before .before .before .before .before .before .before .before .before .before .before .before .before .before .before .before .before .both .ensures .1, (c .before .before .before .before .before .before .before .before .before .before .before .before .before .reach .ensures (p .transitions) (p .from) (linked-in p v (c .before .before .before .before .before .before .before .before .before .before .before .before .before .before .before .before .before .both .result .out) (c .before .before .before .before .before .before .before .before .before .before .before .before .before .before .before .before .before .both .ensures .1))))
+loop-less : tie.Need-loop-less Inv-loop μ-loop
+loop-less c = search needs
 
-same-length : tie.Need-same-length
-same-length c =
-    let w = c .before .before .before .before .before .before .before .before .before .before .before .before .before .before .before .before .before .before .before .before .before .before .args .walks .now in
-    let q = c .before .before .before .before .before .before .before .before .before .before .before .before .before .before .before .before .before .before .before .before .before .before .pre .1 in
-    let a = c .before .before .before .before .before .before .before .before .before .before .before .before .before .before .least .last .1 .1 .1 .1 .1 .1 .1 .1 .1 .0 in
-    let s1 = stays 0 a w w refl (omega (arith, q)) (c .before .before .before .before .before .before .before .before .before .before .before .before .before .before .least .kept .1 .1 .1 .1 .1 .1 .1 .1 .1 .0) in
-    let b = c .before .before .before .before .before .before .before .before .before .before .greatest .last .1 .1 .1 .1 .1 .1 .1 .1 .1 .1 .0 in
-    let s2 = stays 512 b (put 0 a w) w (s1 .1) (omega (arith, q)) (c .before .before .before .before .before .before .before .before .before .before .greatest .kept .1 .1 .1 .1 .1 .1 .1 .1 .1 .1 .0) in
-    let d = c .before .before .before .before .before .before .least2 .last .1 .1 .1 .1 .1 .1 .1 .1 .1 .0 in
-    let s3 = stays 1024 d (put 512 b (put 0 a w)) w (s2 .1) (omega (arith, q)) (c .before .before .before .before .before .before .least2 .kept .1 .1 .1 .1 .1 .1 .1 .1 .1 .0) in
-    let e = c .before .before .greatest2 .last .1 .1 .1 .1 .1 .1 .1 .1 .1 .1 .0 in
-    let s4 = stays 1536 e (put 1024 d (put 512 b (put 0 a w))) w (s3 .1) (omega (arith, q)) (c .before .before .greatest2 .kept .1 .1 .1 .1 .1 .1 .1 .1 .1 .1 .0) in
-    s4 .1
+loop-again : tie.Need-loop-again Inv-loop μ-loop
+loop-again c =
+    let i = c .before .before .before .before .before .before .loop .i in
+    let f = c .before .before .figure in
+    let s = rw (c .before .before .before .before .figure-at .ensures) at (f .ensures) in
+    let k : 512 * i + 512 - 512 * i ≡ 512 = omega arith in
+    (omega arith, rw add-one (showing-part (c .before .before .before .before .before .before .before .before .before .before .before .before .before .pre .1) (c .before .before .before .before .before .loop-test .taken) (c .before .before .before .before .before .before .loop .inv .1) (f .result) (f .last .1 .1 .1 .1 .1 .1 .1 .1 .1 .1 .0) (512 * i + 512 - 512 * i) k (f .kept .1 .1 .1 .1 .1 .1 .1 .1 .1 .1 .0) s))
 
-returns : tie.Need-returns
+array-copy-out-least-delay : tie.Need-array-copy-out-least-delay Inv-loop μ-loop
+array-copy-out-least-delay c = search needs
+
+array-copy-out-greatest-delay : tie.Need-array-copy-out-greatest-delay Inv-loop μ-loop
+array-copy-out-greatest-delay c = search needs
+
+array-copy-out-least-count : tie.Need-array-copy-out-least-count Inv-loop μ-loop
+array-copy-out-least-count c = search needs
+
+array-copy-out-greatest-count : tie.Need-array-copy-out-greatest-count Inv-loop μ-loop
+array-copy-out-greatest-count c = search needs
+
+same-length : tie.Need-same-length Inv-loop μ-loop
+same-length c = c .before .before .before .before .before .loop .inv .1 .as-long
+
+returns : tie.Need-returns Inv-loop μ-loop
 returns c =
-    let p : Plan = planOf (c .before .before .before .before .before .before .before .before .before .before .before .before .before .before .before .before .before .before .before .before .before .before .args .n) (c .before .before .before .before .before .before .before .before .before .before .before .before .before .before .before .before .before .before .before .before .before .before .args .m) (c .before .before .before .before .before .before .before .before .before .before .before .before .before .before .before .before .before .before .before .before .before .before .args .marks .now) (c .before .before .before .before .before .before .before .before .before .before .before .before .before .before .before .before .before .before .before .before .before .before .args .from .now) (c .before .before .before .before .before .before .before .before .before .before .before .before .before .before .before .before .before .before .before .before .before .before .args .to .now) (c .before .before .before .before .before .before .before .before .before .before .before .before .before .before .before .before .before .before .before .before .before .before .args .low .now) (c .before .before .before .before .before .before .before .before .before .before .before .before .before .before .before .before .before .before .before .before .before .before .args .high .now) in
-    let w = c .before .before .before .before .before .before .before .before .before .before .before .before .before .before .before .before .before .before .before .before .before .before .args .walks .now in
-    let q = c .before .before .before .before .before .before .before .before .before .before .before .before .before .before .before .before .before .before .before .before .before .before .pre .1 in
-    let a = c .before .before .before .before .before .before .before .before .before .before .before .before .before .before .least .last .1 .1 .1 .1 .1 .1 .1 .1 .1 .0 in
-    let s1 = stays 0 a w w refl (omega (arith, q)) (c .before .before .before .before .before .before .before .before .before .before .before .before .before .before .least .kept .1 .1 .1 .1 .1 .1 .1 .1 .1 .0) in
-    let b = c .before .before .before .before .before .before .before .before .before .before .greatest .last .1 .1 .1 .1 .1 .1 .1 .1 .1 .1 .0 in
-    let s2 = stays 512 b (put 0 a w) w (s1 .1) (omega (arith, q)) (c .before .before .before .before .before .before .before .before .before .before .greatest .kept .1 .1 .1 .1 .1 .1 .1 .1 .1 .1 .0) in
-    let d = c .before .before .before .before .before .before .least2 .last .1 .1 .1 .1 .1 .1 .1 .1 .1 .0 in
-    let s3 = stays 1024 d (put 512 b (put 0 a w)) w (s2 .1) (omega (arith, q)) (c .before .before .before .before .before .before .least2 .kept .1 .1 .1 .1 .1 .1 .1 .1 .1 .0) in
-    let e = c .before .before .greatest2 .last .1 .1 .1 .1 .1 .1 .1 .1 .1 .1 .0 in
-    let s4 = stays 1536 e (put 1024 d (put 512 b (put 0 a w))) w (s3 .1) (omega (arith, q)) (c .before .before .greatest2 .kept .1 .1 .1 .1 .1 .1 .1 .1 .1 .1 .0) in
-    all-stated (view p) _ w a b d e q (s1 .0) (s2 .0) (s3 .0) (s4 .0) (c .before .before .before .before .before .before .before .before .before .before .before .before .before .before .least .ensures) (c .before .before .before .before .before .before .before .before .before .before .greatest .ensures) (c .before .before .before .before .before .before .least2 .ensures) (c .before .before .greatest2 .ensures)
+    let e : c .before .before .before .before .before .loop .i ≡ 4 = omega (arith, c .before .before .before .before .before .loop .inv .0, c .before .before .before .before .loop-test .left) in
+    all-shown _ (rw e at (c .before .before .before .before .before .loop .inv .1)) refl refl refl refl
 
 pub show-all-spec : {M : Type 1} → statement M
 show-all-spec =
     tie.close
     (tie.spec
-    both-requires
+    Inv-loop
+    μ-loop
+    chains-requires
     reach-requires
-    sub-least
-    part-least-start
-    part-least-end
-    least-requires
-    sub-greatest
-    part-greatest-start
-    part-greatest-end
-    greatest-requires
-    sub-least-2
-    part-least-start-2
-    part-least-end-2
-    least-requires-2
-    sub-greatest-2
-    part-greatest-start-2
-    part-greatest-end-2
-    greatest-requires-2
+    loop-holds
+    mul-at
+    add-end
+    figure-at-requires
+    mul-figure
+    sub-figure
+    part-figure-start
+    part-figure-end
+    figure-requires
+    mul-quotes
+    array-set-from-quotes
+    add-i
+    loop-less
+    loop-again
+    array-copy-out-least-delay
+    array-copy-out-greatest-delay
+    array-copy-out-least-count
+    array-copy-out-greatest-count
     same-length
     returns)
