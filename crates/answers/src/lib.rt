@@ -5,7 +5,8 @@ ghost use lib.ListN.{length};
 ghost use lib.Seq.{paste};
 ghost use Rattle.arrays.specs.Tables.{over};
 ghost use Rattle.rules.specs.Quotations.{SmallQuote};
-ghost use Rattle.answers.specs.Answered.{numbersOf, Small, Fits, Answered, fourNumbers, FourSmall, AllSmall, AllFit, AllAnswered};
+ghost use Rattle.answers.specs.Answered.{numbersOf, fourNumbers, Small, Fits, FourSmall, AllSmall, AllFit, numbersIn, allNumbersIn, Answered};
+ghost use Rattle.answers.specs.Handed.{Handed};
 use rules::FourQuotes;
 use rules::Quotation;
 use rules::Quotations;
@@ -20,8 +21,8 @@ fn put_quote(quote: Quote, out: &mut [u32], at: usize)
     let figure = quote.figure;
     let k = quote.k;
     let j = quote.j;
-    let kind = rules::kind(figure);
-    let value = rules::value(figure);
+    let kind = numbers::kind(figure);
+    let value = numbers::value(figure);
     out[at] = kind as u32;
     out[at + 1] = value;
     out[at + 2] = k as u32;
@@ -31,14 +32,14 @@ fn put_quote(quote: Quote, out: &mut [u32], at: usize)
 // Puts the numbers of an accepted quotation at the front of a slice, and gives the number of its answer.
 pub fn one(quotation: Quotation, out: &mut [u32]) -> u32
     requires { ⌜ Small quotation × Fits quotation (now out) ⌝ }
-    ensures { λ r. ⌜ Answered quotation (now (out .entry)) (now (out .exit)) r ⌝ }
+    ensures { λ r. ⌜ Answered (numbersIn quotation) (now (out .entry)) (now (out .exit)) r ⌝ }
 {
     match quotation {
         Quotation::Quoted(quote) => {
             put_quote(quote, out, 0);
             256
         }
-        Quotation::Refused(r) => rules::number(r),
+        Quotation::Refused(r) => numbers::number(r),
     }
 }
 
@@ -61,13 +62,21 @@ pub fn put_quotes(quotes: FourQuotes, out: &mut [u32])
 // Puts the numbers of four accepted quotations at the front of a slice, and gives the number of their answer.
 pub fn four(quotations: Quotations, out: &mut [u32]) -> u32
     requires { ⌜ AllSmall quotations × AllFit quotations (now out) ⌝ }
-    ensures { λ r. ⌜ AllAnswered quotations (now (out .entry)) (now (out .exit)) r ⌝ }
+    ensures { λ r. ⌜ Answered (allNumbersIn quotations) (now (out .entry)) (now (out .exit)) r ⌝ }
 {
     match quotations {
         Quotations::Quoted(quotes) => {
             put_quotes(quotes, out);
             256
         }
-        Quotations::Refused(r) => rules::number(r),
+        Quotations::Refused(r) => numbers::number(r),
     }
+}
+
+// How many of the places lent for walks a quotation is handed: none where the answer's are fewer than it needs. Then the quotation's own row for the places
+// refuses it, after the plan's or the image's: a plan has a state, so no places are too few.
+pub fn handed(walks: usize, out: usize, needed: usize) -> usize
+    ensures { λ r. ⌜ Handed walks out needed r ⌝ }
+{
+    if out < needed { 0 } else { walks }
 }

@@ -2,58 +2,28 @@
 -- plan keeps it; each call's promise is then one step of the rules, and its number that of the rules' answer. From a fresh plan on this is what
 -- demand 3 says of the list (`lent-fresh-run`), and a quotation of the slices after it is right (`lent-one-claim`).
 -- Assumes nothing.
-use mathlib.Core.Bool.{true, _&&_}
-use mathlib.Core.List.{List, [], _∷_, _++_, map}
+use mathlib.Core.Bool.{true}
+use mathlib.Core.List.{List, _∷_, map}
 use mathlib.Core.Path.{_≡_, refl, ap, ap₂, subst, _∙_}
 use Prim.Native.Nat.{ℕ, _≤_}
-use native.Mathlib.Omega.{arith}
-use borrow.Author.Tests.{le-leb, le-ltb}
-use lib.Dec.{leb}
-use lib.ListN.{length, drop, length-append, length-drop}
+use borrow.Author.Tests.{le-ltb}
+use lib.ListN.{length}
 use Rattle.graph.specs.declared.Which.{Which}
 use Rattle.graph.specs.Graph.{Graph, states}
 use Rattle.rules.specs.Calls.{Call, step, run, runFresh}
 use Rattle.rules.specs.Limits.{stateCountOk, within}
 use Rattle.rules.specs.Quotations.{lentQuoteRule}
-use Rattle.rules.specs.Refusal.{Result, accepted, refused, code}
+use Rattle.rules.specs.Refusal.{Result, accepted, code}
 use Rattle.rules.specs.Rules.{freshGraph, freshRule, next}
 use Rattle.rules.proofs.Basic.{fresh-done}
 use Rattle.rules.proofs.Figures.{listed-within}
-use Rattle.rules.proofs.Results.{both-true, code-answer}
-use Rattle.arrays.specs.Tables.{over}
-use Rattle.plan.specs.declared.Plan.{Plan}
-use Rattle.plan.specs.View.{view, laid, noPlan}
-use Rattle.slices.specs.Lent.{Roomy, Slices, hasRoom, planIn, storing}
-use Rattle.slices.proofs.Stores.{has-room}
-use Rattle.binding.specs.Lent.{nextSlices, LentEdit, LentObeyed, none, more}
-use Rattle.binding.specs.Quoted.{LentQuote, Stands}
-
--- ---- room
-
-over-long : (k : ℕ) (xs ys : List ℕ) → k ≤ length ys → k ≤ length (over xs ys)
-over-long k xs ys h = omega (arith, length-append xs (drop (length xs) ys), length-drop (length xs) ys)
-
-pub room-of : (s : Slices) → Roomy (s .counts) (s .marks) (s .fields) → hasRoom s ≡ true
-room-of s r =
-    both-true (leb 2 (length (s .counts))) (leb 512 (length (s .marks)) && leb 8192 (length (s .fields))) (le-leb 2 (length (s .counts)) (r .two))
-    (both-true (leb 512 (length (s .marks))) (leb 8192 (length (s .fields))) (le-leb 512 (length (s .marks)) (r .states)) (le-leb 8192 (length (s .fields)) (r .transitions)))
-
-next-room : (p : Plan) (s : Slices) (o : Result Graph) → hasRoom s ≡ true → hasRoom (nextSlices p s o) ≡ true
-unfolding storing
-next-room p s (accepted g) h =
-    let r = has-room (s .counts) (s .marks) (s .fields) h in
-    let q = laid p g in
-    room-of (nextSlices p s (accepted g))
-    (record {
-      two = over-long 2 (q .states ∷ q .transitions ∷ []) (s .counts) (r .two);
-      states = over-long 512 (q .marks) (s .marks) (r .states);
-      transitions = over-long 8192 (q .from ++ q .to ++ q .low ++ q .high) (s .fields) (r .transitions);
-    })
-next-room p s (refused k) h = h
-
--- slices that have room for a plan have it after the call
-pub room-kept : (p : Plan) (s t : Slices) (o : Result Graph) (r : ℕ) → hasRoom s ≡ true → LentEdit p s t o r → hasRoom t ≡ true
-room-kept p s t o r h x = ap hasRoom (x .whole h) ∙ next-room p s o h
+use Rattle.rules.proofs.Results.{code-answer}
+use Rattle.plan.specs.View.{view, noPlan}
+use Rattle.slices.specs.Lent.{Slices, hasRoom, planIn}
+use Rattle.edits.specs.Lent.{LentEdit}
+use Rattle.edits.proofs.Rooms.{room-kept}
+use Rattle.lent.specs.Quoted.{LentQuote, Stands}
+use Rattle.binding.specs.Obeyed.{LentObeyed, none, more}
 
 -- ---- a list of calls
 
@@ -63,9 +33,9 @@ unfolding run
 lent-run h none = (refl, refl)
 lent-run h (more {s} {u} {call} {calls} {answers} t r x rest) =
     let o : Result Graph = step (view (planIn s)) call in
-    let l = lent-run (room-kept (planIn s) s t o r h x) rest in (
-      ap₂ {C = List ℕ} (λ (a : ℕ) (as′ : List ℕ). a ∷ as′) (x .answer h ∙ code-answer o) (l .0 ∙ ap (λ (g : Graph). map code (run g calls .answers)) (x .plan h)),
-      l .1 ∙ ap (λ (g : Graph). run g calls .last) (x .plan h),
+    let l = lent-run (room-kept (planIn s) s t o r h (x .edit)) rest in (
+      ap₂ {C = List ℕ} (λ (a : ℕ) (as′ : List ℕ). a ∷ as′) (x .edit .answer h ∙ code-answer o) (l .0 ∙ ap (λ (g : Graph). map code (run g calls .answers)) (x .edit .plan h)),
+      l .1 ∙ ap (λ (g : Graph). run g calls .last) (x .edit .plan h),
     )
 
 -- "They start from the plan of a fresh with any n from 1 to 512": fresh answers 256, and the list is the run from its plan
@@ -85,7 +55,7 @@ lent-fresh-run n {s} {t} {u} {calls} {answers} r h k x o =
 
 room-after : {s u : Slices} {calls : List Call} {answers : List ℕ} → hasRoom s ≡ true → LentObeyed s calls answers u → hasRoom u ≡ true
 room-after h none = h
-room-after h (more {s} {u} {call} {calls} {answers} t r x rest) = room-after (room-kept (planIn s) s t (step (view (planIn s)) call) r h x) rest
+room-after h (more {s} {u} {call} {calls} {answers} t r x rest) = room-after (room-kept (planIn s) s t (step (view (planIn s)) call) r h (x .edit)) rest
 
 -- a quotation of a plan within the limits, lent its states' places and four for the answer, is not refused
 quote-accepted : (g : Graph) (walk out : List ℕ) → within g ≡ true → states g ≤ length walk → 4 ≤ length out → lentQuoteRule g walk out ≡ accepted tt

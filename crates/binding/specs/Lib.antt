@@ -1,4 +1,1 @@
-pub mod Lent
-pub mod Shapes
-pub mod Quoted
-pub mod Lists
+pub mod Obeyed

@@ -1,31 +1,23 @@
--- DEMAND 3, as the driver's promise. A list of calls in lent slices is made in turn from a fresh plan, and the plan after it is quoted. Assumes nothing.
+-- DEMAND 3, as a contract. A list of calls in lent slices is made in turn from a fresh plan that is stored in lent slices, and the plan after it is quoted.
+-- Assumes nothing.
 use mathlib.Core.Bool.{true, false}
-use mathlib.Core.List.{List, [], _∷_, _++_}
+use mathlib.Core.List.{List}
 use mathlib.Core.Path.{_≡_}
 use Prim.Native.Nat.{ℕ}
-use lib.ListN.{length}
+use Rattle.arrays.specs.Tables.{over}
 use Rattle.rules.specs.declared.FourQuotes.{FourQuotes}
 use Rattle.rules.specs.declared.Refusal.{Refusal}
 use Rattle.rules.specs.Calls.{Call, runFresh}
 use Rattle.rules.specs.Quotations.{AllStated}
-use Rattle.rules.specs.Refusal.{Result, accepted, refused}
-use Rattle.rules.specs.Rules.{bufferRow, freshGraph, freshRows}
-use Rattle.rules.specs.Table.{Row, first}
+use Rattle.rules.specs.Refusal.{Result, accepted, refused, code}
+use Rattle.rules.specs.Rules.{freshGraph}
 use Rattle.plan.specs.declared.Plan.{Plan}
 use Rattle.plan.specs.View.{view, laid, noPlan}
-use Rattle.replay.specs.declared.Outcome.{Outcome}
-use Rattle.replay.specs.declared.Outcome.the-variants.{Done, Refused, NoCalls}
-use Rattle.replay.specs.declared.Replayed.{Replayed}
-use Rattle.replay.specs.Slices.{callsIn, areCalls}
-use Rattle.replay.specs.Turns.{answered, runValue}
-
--- the rows of the driver, a call of ours that 01 does not name: 4, as a fresh; then 11 for fewer places than there are calls for the answers, and for
--- fewer than 2,048 for the walks. The calls of the list have rows of their own, and a refusal of one of them is its answer
-abbrev pub replayRows : ℕ → List ℕ → List ℕ → List ℕ → List Row
-replayRows n kinds answers walks = freshRows n ++ (bufferRow answers (length kinds) ∷ bufferRow walks 2048 ∷ [])
-
-unfoldable pub replayRule : ℕ → List ℕ → List ℕ → List ℕ → Result (Unit {0})
-replayRule n kinds answers walks = first (replayRows n kinds answers walks)
+use Rattle.answers.specs.Answered.{fourNumbers}
+use Rattle.calls.specs.Rows.{replayRule}
+use Rattle.calls.specs.Slices.{areCalls, callsIn}
+use Rattle.slices.specs.Lent.{Slices, hasRoom, planIn, storing}
+use Rattle.runs.specs.Turns.{answered, runValue}
 
 -- "one claim about the whole list": the answers in their places, the plan value p, and the quotes with their walks
 pub record OneList (n : ℕ) (calls : List Call) (before after : List ℕ) (p : Plan) (q : FourQuotes) (lent left : List ℕ) : Type 0 where
@@ -36,15 +28,35 @@ pub record OneList (n : ℕ) (calls : List Call) (before after : List ℕ) (p : 
   -- "That plan is then quoted into n or more places": 512 for each figure
   pub quoted : AllStated (runFresh n calls .last) q lent left
 
--- what comes beside a list that was not made: "any plan value beside the number has 0 states, all else zero"
-abbrev pub unmade : Outcome → Replayed
-unmade o = record { outcome = o; plan = noPlan }
+-- the places that are lent to be written to: for the answers of the calls, for the plan, for the walks, and for the figures' numbers
+pub record Places : Type 0 where
+  pub answers : List ℕ
+  pub plan : Slices
+  pub walks : List ℕ
+  pub out : List ℕ
 
--- what is no list of calls is told so; a list that is refused by a row is told its refusal; both leave every lent place. A list that is made gives
--- the one claim
-pub record Replays (n : ℕ) (kinds arguments octets before after lent left : List ℕ) (r : Replayed) : Type 0 where
-  pub no-calls : areCalls kinds arguments octets ≡ false → (r ≡ unmade NoCalls) × (after ≡ before) × (left ≡ lent)
-  pub refusal : areCalls kinds arguments octets ≡ true → (k : Refusal) → replayRule n kinds before lent ≡ refused k
-      → (r ≡ unmade (Refused k)) × (after ≡ before) × (left ≡ lent)
-  pub made : areCalls kinds arguments octets ≡ true → replayRule n kinds before lent ≡ accepted tt
-      → (q : FourQuotes) × (r .outcome ≡ Done q) × OneList n (callsIn kinds arguments octets) before after (r .plan) q lent left
+-- the rule on those places
+abbrev pub replaying : ℕ → List ℕ → Places → Result (Unit {0})
+replaying n kinds p = replayRule n kinds (p .answers) (p .walks) (p .out)
+
+-- a list that was made: the one claim, with its plan stored and the numbers of its quotes put
+pub record LentList (n : ℕ) (calls : List Call) (before after : Places) : Type 0 where
+  pub value : Plan
+  pub quotes : FourQuotes
+  pub claim : OneList n calls (before .answers) (after .answers) value quotes (before .walks) (after .walks)
+  pub stored : (after .plan ≡ storing value (before .plan)) × (planIn (after .plan) ≡ value)
+  pub figures : after .out ≡ over (fourNumbers quotes) (before .out)
+
+-- 255 where the slices are no plan's, 254 where they are no list of calls, and otherwise the rule's number. All but an accepted one leave every place
+pub record LentReplay (n : ℕ) (kinds arguments octets : List ℕ) (before after : Places) (r : ℕ) : Type 0 where
+  pub short : hasRoom (before .plan) ≡ false → (r ≡ 255) × (after ≡ before)
+  pub no-calls : hasRoom (before .plan) ≡ true → areCalls kinds arguments octets ≡ false → (r ≡ 254) × (after ≡ before)
+  pub answer : hasRoom (before .plan) ≡ true → areCalls kinds arguments octets ≡ true → r ≡ code (replaying n kinds before)
+  pub kept : hasRoom (before .plan) ≡ true → areCalls kinds arguments octets ≡ true → (k : Refusal) → replaying n kinds before ≡ refused k
+      → after ≡ before
+  pub made : hasRoom (before .plan) ≡ true → areCalls kinds arguments octets ≡ true → replaying n kinds before ≡ accepted tt
+      → LentList n (callsIn kinds arguments octets) before after
+
+-- the places by what they hold
+abbrev pub places : List ℕ → Slices → List ℕ → List ℕ → Places
+places answers plan walks out = record { answers = answers; plan = plan; walks = walks; out = out }

@@ -1,20 +1,20 @@
 -- What lent slices hold once a plan value is stored in them. A stored plan value is read back whole: each part stands at its own places, and the
 -- copies that follow it go elsewhere. Assumes nothing.
-use mathlib.Core.Bool.{true, _&&_}
+use mathlib.Core.Bool.{Bool, true, false, _&&_}
 use mathlib.Core.List.{List, [], _∷_, _++_, append-assoc}
 use mathlib.Core.Path.{_≡_, refl, ap, _∙_}
 use Prim.Native.Nat.{ℕ, _≤_}
 use native.Mathlib.Omega.{arith}
-use borrow.Author.Tests.{leb-true}
+use borrow.Author.Tests.{leb-true, le-leb}
 use lib.Dec.{leb}
 use lib.ListN.{length, take, drop, set}
 use lib.Seq.{paste, take-at}
-use Rattle.rules.proofs.Results.{and-true}
+use Rattle.rules.proofs.Results.{and-true, both-true}
 use Rattle.arrays.specs.Tables.{over}
 use Rattle.arrays.proofs.Copies.{paste-over, part, two, three, four-copied}
 use Rattle.plan.specs.declared.Plan.{Plan}
 use Rattle.plan.proofs.Values.{Sized}
-use Rattle.slices.specs.Lent.{Roomy, roomy, Slices, slices, planIn, storing}
+use Rattle.slices.specs.Lent.{Roomy, roomy, Slices, slices, hasRoom, planIn, storing}
 
 -- the counts set one after the other
 counts-stored : (c : List ℕ) (n k : ℕ) → 2 ≤ length c → set (set c 0 n) 1 k ≡ over (n ∷ k ∷ []) c
@@ -71,3 +71,12 @@ has-room c m f e =
     let a = and-true (leb 2 (length c)) (leb 512 (length m) && leb 8192 (length f)) e in
     let b = and-true (leb 512 (length m)) (leb 8192 (length f)) (a .1) in
     record { two = leb-true 2 (length c) (a .0); states = leb-true 512 (length m) (b .0); transitions = leb-true 8192 (length f) (b .1) }
+
+pub room-of : (s : Slices) → Roomy (s .counts) (s .marks) (s .fields) → hasRoom s ≡ true
+room-of s r =
+    both-true (leb 2 (length (s .counts))) (leb 512 (length (s .marks)) && leb 8192 (length (s .fields))) (le-leb 2 (length (s .counts)) (r .two))
+    (both-true (leb 512 (length (s .marks))) (leb 8192 (length (s .fields))) (le-leb 512 (length (s .marks)) (r .states)) (le-leb 8192 (length (s .fields)) (r .transitions)))
+
+-- a test does not come out both ways: slices have room, or they have none
+pub true-false : {A : Type 0} (b : Bool) → b ≡ true → b ≡ false → A
+true-false b p q = absurd (let z : _≡_ {A = ℕ} 0 1 = cc in omega arith)

@@ -64,3 +64,17 @@ storing p s =
 abbrev pub Finished : Answer → Plan → Slices → Slices → ℕ → Type 0
 Finished Accepted p before after r = (r ≡ 256) × (after ≡ storing p before) × (planIn after ≡ p)
 Finished (Refused k) p before after r = (r ≡ number k) × (after ≡ before)
+
+-- a plan value within a plan's counts that has, past its own, what stands there in the slices
+pub record SameLater (p : Plan) (s : Slices) : Type 0 where
+  pub states : p .states ≤ 512
+  pub transitions : p .transitions ≤ 2048
+  pub marks : drop (p .states) (p .marks) ≡ drop (p .states) (planIn s .marks)
+  pub from : drop (p .transitions) (p .from) ≡ drop (p .transitions) (planIn s .from)
+  pub to : drop (p .transitions) (p .to) ≡ drop (p .transitions) (planIn s .to)
+  pub low : drop (p .transitions) (p .low) ≡ drop (p .transitions) (planIn s .low)
+  pub high : drop (p .transitions) (p .high) ≡ drop (p .transitions) (planIn s .high)
+
+-- an accepted call's plan value is one, so that its places up to its counts are all that has to be stored
+abbrev pub Updates : Answer → Plan → Slices → Type 0
+Updates a p s = a ≡ Accepted → SameLater p s

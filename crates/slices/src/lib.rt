@@ -1,11 +1,12 @@
 // A plan in three lent slices: the two counts; the marks values, 512 places; and the transitions' fields, 2,048 places each for from, to, low and
 // high. Whether they have the room, a plan value loaded from them, and one stored in them,
-// by itself or as the plan of an accepted call.
+// by itself or as the plan of an accepted call. A call on the plan that they hold leaves the places past the new plan's counts, so only those up to them are
+// stored.
 ghost use mathlib.Core.Path.{_≡_};
 ghost use Prim.Native.Nat.{_+_, _≤_};
 ghost use lib.ListN.{length, take, drop};
 ghost use lib.Seq.{paste};
-ghost use Rattle.slices.specs.Lent.{Roomy, roomy, lentPlan, planIn, slices, storing, Finished};
+ghost use Rattle.slices.specs.Lent.{Roomy, roomy, lentPlan, planIn, slices, storing, Finished, Updates};
 use plan::Edited;
 use plan::Plan;
 use rules::Answer;
@@ -45,25 +46,25 @@ fn field_of(places: &[u16], at: usize) -> [u16; 2048]
     out
 }
 
-// Puts 512 octets at the front of a slice.
-fn put_marks(places: &mut [u8], marks: &[u8; 512])
-    requires { ⌜ (512 ≤ length (now places)) × (length (now marks) ≡ 512) ⌝ }
-    ensures { λ r. ⌜ now (places .exit) ≡ paste (now (places .entry)) 0 (now (marks .entry)) 512 ⌝ }
+// Puts the first n of 512 octets at the front of a slice.
+fn put_marks(places: &mut [u8], marks: &[u8; 512], n: usize)
+    requires { ⌜ (n ≤ 512) × (512 ≤ length (now places)) × (length (now marks) ≡ 512) ⌝ }
+    ensures { λ r. ⌜ now (places .exit) ≡ paste (now (places .entry)) 0 (now (marks .entry)) n ⌝ }
 {
     let mut i = 0;
-    while i < 512 {
+    while i < n {
         places[i] = marks[i];
         i += 1;
     }
 }
 
-// Puts 2,048 numbers into a slice, from a place on.
-fn put_field(places: &mut [u16], at: usize, field: &[u16; 2048])
-    requires { ⌜ (at + 2048 ≤ length (now places)) × (length (now field) ≡ 2048) ⌝ }
-    ensures { λ r. ⌜ now (places .exit) ≡ paste (now (places .entry)) at (now (field .entry)) 2048 ⌝ }
+// Puts the first n of 2,048 numbers into a slice, from a place on.
+fn put_field(places: &mut [u16], at: usize, field: &[u16; 2048], n: usize)
+    requires { ⌜ (n ≤ 2048) × (at + 2048 ≤ length (now places)) × (length (now field) ≡ 2048) ⌝ }
+    ensures { λ r. ⌜ now (places .exit) ≡ paste (now (places .entry)) at (now (field .entry)) n ⌝ }
 {
     let mut i = 0;
-    while i < 2048 {
+    while i < n {
         places[at + i] = field[i];
         i += 1;
     }
@@ -94,11 +95,11 @@ pub fn store(plan: Plan, counts: &mut [usize], marks: &mut [u8], fields: &mut [u
 {
     counts[0] = plan.states;
     counts[1] = plan.transitions;
-    put_marks(marks, &plan.marks);
-    put_field(fields, 0, &plan.from);
-    put_field(fields, 2048, &plan.to);
-    put_field(fields, 4096, &plan.low);
-    put_field(fields, 6144, &plan.high);
+    put_marks(marks, &plan.marks, 512);
+    put_field(fields, 0, &plan.from, 2048);
+    put_field(fields, 2048, &plan.to, 2048);
+    put_field(fields, 4096, &plan.low, 2048);
+    put_field(fields, 6144, &plan.high, 2048);
 }
 
 // Stores the plan of an accepted call, and gives the number of its answer.
@@ -115,6 +116,30 @@ pub fn finish(edited: Edited, counts: &mut [usize], marks: &mut [u8], fields: &m
             store(plan, counts, marks, fields);
             256
         }
-        Answer::Refused(r) => rules::number(r),
+        Answer::Refused(r) => numbers::number(r),
     }
+}
+
+// The same for a call on the plan that the slices hold. Its fields are lent where they lie: a plan value of its own would be one more copy.
+pub fn update(edited: Edited, counts: &mut [usize], marks: &mut [u8], fields: &mut [u16]) -> u32
+    requires { ⌜ Roomy (now counts) (now marks) (now fields)
+        × Updates (edited .answer) (edited .plan) (slices (now counts) (now marks) (now fields)) ⌝ }
+    ensures { λ r. ⌜ Finished (edited .answer) (edited .plan)
+        (slices (now (counts .entry)) (now (marks .entry)) (now (fields .entry)))
+        (slices (now (counts .exit)) (now (marks .exit)) (now (fields .exit))) r ⌝ }
+{
+    let answer = edited.answer;
+    if let Answer::Refused(r) = answer {
+        return numbers::number(r);
+    }
+    let n = edited.plan.states;
+    let m = edited.plan.transitions;
+    counts[0] = n;
+    counts[1] = m;
+    put_marks(marks, &edited.plan.marks, n);
+    put_field(fields, 0, &edited.plan.from, m);
+    put_field(fields, 2048, &edited.plan.to, m);
+    put_field(fields, 4096, &edited.plan.low, m);
+    put_field(fields, 6144, &edited.plan.high, m);
+    256
 }

@@ -12,10 +12,10 @@ use Rattle.slices.proofs.put_field.Statement.{statement}
 use Rattle.slices.proofs.put_field.Tie as tie
 
 abbrev Inv-loop : tie.InvT-loop
-Inv-loop places₀ at field i₀ places i = (i ≤ 2048) × (length places ≡ length places₀) × (places ≡ paste places₀ at field i)
+Inv-loop places₀ at field n i₀ places i = (i ≤ n) × (length places ≡ length places₀) × (places ≡ paste places₀ at field i)
 
 abbrev μ-loop : tie.MeasureT-loop
-μ-loop places₀ at field i₀ places i = 2048 - i
+μ-loop places₀ at field n i₀ places i = n - i
 
 loop-holds : tie.Need-loop-holds Inv-loop μ-loop
 loop-holds c = (omega arith, search needs, paste-zero (c .args .places .now) (c .args .at) (c .args .field .now))
@@ -58,7 +58,7 @@ returns : tie.Need-returns Inv-loop μ-loop
 returns c =
     let l = c .before .loop in
     let a = c .before .before .args in
-    let e : l .i ≡ 2048 = omega arith in
+    let e : l .i ≡ a .n = omega arith in
     l .inv .2 ∙ ap (λ (k : ℕ). paste (a .places .now) (a .at) (a .field .now) k) e
 
 pub put-field-spec : {M : Type 1} → statement M

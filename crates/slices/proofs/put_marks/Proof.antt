@@ -12,10 +12,10 @@ use Rattle.slices.proofs.put_marks.Statement.{statement}
 use Rattle.slices.proofs.put_marks.Tie as tie
 
 abbrev Inv-loop : tie.InvT-loop
-Inv-loop places₀ marks i₀ places i = (i ≤ 512) × (length places ≡ length places₀) × (places ≡ paste places₀ 0 marks i)
+Inv-loop places₀ marks n i₀ places i = (i ≤ n) × (length places ≡ length places₀) × (places ≡ paste places₀ 0 marks i)
 
 abbrev μ-loop : tie.MeasureT-loop
-μ-loop places₀ marks i₀ places i = 512 - i
+μ-loop places₀ marks n i₀ places i = n - i
 
 loop-holds : tie.Need-loop-holds Inv-loop μ-loop
 loop-holds c = (omega arith, search needs, paste-zero (c .args .places .now) 0 (c .args .marks .now))
@@ -48,7 +48,7 @@ same-length c = c .before .loop .inv .1
 returns : tie.Need-returns Inv-loop μ-loop
 returns c =
     let l = c .before .loop in
-    let e : l .i ≡ 512 = omega arith in
+    let e : l .i ≡ c .before .before .args .n = omega arith in
     l .inv .2 ∙ ap (λ (k : ℕ). paste (c .before .before .args .places .now) 0 (c .before .before .args .marks .now) k) e
 
 pub put-marks-spec : {M : Type 1} → statement M

@@ -36,12 +36,12 @@ put-field-requires-2 c κs = search needs
 put-field-requires-3 : tie.Need-put-field-requires-3
 put-field-requires-3 c κs =
     let z = sized (c .before .before .before .before .before .before .before .before .before .before .before .before .before .before .before .before .before .before .before .before .before .before .before .before) in
-    (omega (arith, c .before .before .before .before .before .before .before .before .before .before .before .before .before .before .before .before .before .before .before .before .before .before .before .before .pre .transitions, c .before .before .before .before .before .before .before .before .before .before .before .put-field .kept, c .before .before .before .before .before .put-field2 .kept), omega (arith, z .low, z .high))
+    (omega arith, omega (arith, c .before .before .before .before .before .before .before .before .before .before .before .before .before .before .before .before .before .before .before .before .before .before .before .before .pre .transitions, c .before .before .before .before .before .before .before .before .before .before .before .put-field .kept, c .before .before .before .before .before .put-field2 .kept), omega (arith, z .low, z .high))
 
 put-field-requires-4 : tie.Need-put-field-requires-4
 put-field-requires-4 c κs =
     let z = sized (c .before .before .before .before .before .before .before .before .before .before .before .before .before .before .before .before .before .before .before .before .before .before .before .before .before .before .before .before .before .before) in
-    (omega (arith, c .before .before .before .before .before .before .before .before .before .before .before .before .before .before .before .before .before .before .before .before .before .before .before .before .before .before .before .before .before .before .pre .transitions, c .before .before .before .before .before .before .before .before .before .before .before .before .before .before .before .before .before .put-field .kept, c .before .before .before .before .before .before .before .before .before .before .before .put-field2 .kept, c .before .before .before .before .before .put-field3 .kept), omega (arith, z .low, z .high))
+    (omega arith, omega (arith, c .before .before .before .before .before .before .before .before .before .before .before .before .before .before .before .before .before .before .before .before .before .before .before .before .before .before .before .before .before .before .pre .transitions, c .before .before .before .before .before .before .before .before .before .before .before .before .before .before .before .before .before .put-field .kept, c .before .before .before .before .before .before .before .before .before .before .before .put-field2 .kept, c .before .before .before .before .before .put-field3 .kept), omega (arith, z .low, z .high))
 
 same-length : tie.Need-same-length
 same-length c = search needs

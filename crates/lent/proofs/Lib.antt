@@ -1,0 +1,3 @@
+pub mod Fills
+pub mod Quotes
+pub mod AllFour
