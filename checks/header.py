@@ -13,13 +13,15 @@ FILES = {
     "binding": "crates/binding/src/lib.rt",
     "room": "crates/slices/specs/Lent.antt",
     "answered": "crates/answers/specs/Answered.antt",
-    "lent": "crates/binding/specs/Lent.antt",
-    "lists": "crates/binding/specs/Lists.antt",
-    "calls": "crates/replay/specs/Slices.antt",
+    "edits": "crates/edits/specs/Lent.antt",
+    "lent": "crates/lent/specs/Written.antt",
+    "lists": "crates/replay/specs/Replayed.antt",
+    "rows": "crates/calls/specs/Rows.antt",
+    "calls": "crates/calls/specs/Slices.antt",
     "which": "crates/graph/specs/Which.antt",
     "figure": "crates/graph/specs/Figure.antt",
     "graph": "crates/graph/specs/Graph.antt",
-    "rules": "crates/rules/src/lib.rt",
+    "numbers": "crates/numbers/src/lib.rt",
     "refusal": "crates/rules/specs/Refusal.antt",
     "limits": "crates/rules/specs/Limits.antt",
     "image": "crates/rules/specs/Image.antt",
@@ -105,12 +107,13 @@ def comparisons(t):
 
     answers = between(t["header"], "typedef enum callplan_answer {", "} callplan_answer;")
     answers = numbers(answers, r"(?m)^ *CALLPLAN_(\w+) = (\d+)")
-    table = numbers(between(t["rules"], "match refusal {", "}"), r"Refusal::(\w+) => (\d+),")
-    yield "crates/rules: number and its definition", table, numbers(t["refusal"], r"(?m)^number (\w+) = (\d+)$")
-    short = number(t["lent"], r"short : hasRoom before ≡ false → \(r ≡ (\d+)\)")
+    table = numbers(between(t["numbers"], "match refusal {", "}"), r"Refusal::(\w+) => (\d+),")
+    yield "crates/numbers: number and its definition", table, numbers(t["refusal"], r"(?m)^number (\w+) = (\d+)$")
+    short = number(t["edits"], r"short : hasRoom before ≡ false → \(r ≡ (\d+)\)")
     accepted = number(t["refusal"], r"code \(accepted a\) = (\d+)")
     yield "the answer with a length", accepted, number(t["lent"], r"lengthCode \(accepted n\) = (\d+) \+ n")
     no_calls = number(t["lists"], r"areCalls kinds arguments octets ≡ false → \(r ≡ (\d+)\)")
+    yield "short slices of a filling", short, number(t["lent"], r"short : .* ≡ false → \(r ≡ (\d+)\)")
     yield "short slices of a replay", short, number(t["lists"], r"short : .* ≡ false → \(r ≡ (\d+)\)")
     expected = [("REFUSED_" + constant(name), value) for name, value in table]
     expected += [("NO_CALLS", no_calls), ("SHORT_SLICE", short), ("ACCEPTED", accepted)]
@@ -161,12 +164,12 @@ def comparisons(t):
     slices = between(t["header"], "#define CALLPLAN_SLICES(plan)", "\n\n")
     given = "(plan)->counts, 2, (plan)->marks, CALLPLAN_MAX_STATES, (plan)->fields, 4 * CALLPLAN_MAX_TRANSITIONS"
     yield "include/callplan.h: the slices", given, slices.replace("\\", "").strip()
-    out = number(t["quotations"], r"lentQuoteRows g walk out = .* bufferRow out (\d+) ∷")
+    out = number(t["quotations"], r"lentQuoteRows g walk out = .*bufferRow out (\d+) ∷")
     yield "include/callplan.h: the places of an answer", out, number(t["header"], r"figure->walk, CALLPLAN_MAX_STATES, out, (\d+)\)")
-    room = re.findall(r"lentHeldRows image walks out = .*bufferRow walks (\d+) ∷ bufferRow out (\d+) ∷", t["quotations"])
+    room = re.findall(r"(?s)\nheldRows image walks = [^\n]*bufferRow walks (\d+) ∷.*\nlentHeldRows image walks out = heldRows [^\n]*bufferRow out (\d+) ∷", t["quotations"])
     yield "the places of four answers", [(str(4 * states), str(4 * out))], room
     yield "include/callplan.h: the places of four answers", 1, t["header"].count("length, walks, 4 * CALLPLAN_MAX_STATES, out, 4 * 4)")
-    room = re.findall(r"bufferRow \(p \.walks\) (\d+) ∷ bufferRow \(p \.out\) (\d+) ∷", t["lists"])
+    room = re.findall(r"bufferRow walks (\d+) ∷ bufferRow out (\d+) ∷", t["rows"])
     yield "the places of a replay", [(str(4 * states), str(4 * out))], room
     given = "CALLPLAN_SLICES(plan), walks, 4 * CALLPLAN_MAX_STATES, out, 4 * 4)"
     yield "include/callplan.h: the places of a replay", 1, t["header"].count(given)
@@ -213,16 +216,17 @@ DAMAGES = [
     ("binding", "    value: u32,\n) -> u32", "    value: u32,\n) -> u64"),
     ("binding", "#[no_mangle]\n", "#[no_mangle]\npub extern \"C\" fn callplan_lent_more(n: usize) -> u32\n{ 0 }\n\n#[no_mangle]\n"),
     ("binding", "#[no_mangle]\npub extern", "pub extern"),
-    ("rules", "Refusal::Duration => 8", "Refusal::Duration => 9"),
-    ("rules", "Refusal::SpareBits => 6,", ""),
+    ("numbers", "Refusal::Duration => 8", "Refusal::Duration => 9"),
+    ("numbers", "Refusal::SpareBits => 6,", ""),
     ("refusal", "number ListFull = 9", "number ListFull = 8"),
     ("refusal", "code (accepted a) = 256", "code (accepted a) = 512"),
+    ("edits", "(r ≡ 255)", "(r ≡ 254)"),
     ("lent", "(r ≡ 255)", "(r ≡ 254)"),
     ("lent", "= 256 + n", "= 255 + n"),
     ("lists", "(r ≡ 254)", "(r ≡ 253)"),
     ("lists", "(r ≡ 255)", "(r ≡ 254)"),
-    ("lists", "bufferRow (p .walks) 2048", "bufferRow (p .walks) 2047"),
-    ("lists", "bufferRow (p .out) 16", "bufferRow (p .out) 4"),
+    ("rows", "bufferRow walks 2048", "bufferRow walks 2047"),
+    ("rows", "bufferRow out 16", "bufferRow out 4"),
     ("calls", "a b c d = unjoin a", "a b c d = mark a b"),
     ("room", "leb 8192 fields", "leb 8191 fields"),
     ("answered", "inTurn (λ which.", "inTurn (λ other."),
@@ -233,7 +237,7 @@ DAMAGES = [
     ("limits", "leb (t .high) 2047", "leb (t .high) 2046"),
     ("image", "4 + n + 5 * m", "4 + n + 6 * m"),
     ("quotations", "bufferRow out 4 ∷", "bufferRow out 5 ∷"),
-    ("quotations", "bufferRow walks 2048 ∷ bufferRow out", "bufferRow walks 2047 ∷ bufferRow out"),
+    ("quotations", "imageRows image ++ (bufferRow walks 2048", "imageRows image ++ (bufferRow walks 2047"),
     ("quotations", "bufferRow out 16 ∷", "bufferRow out 15 ∷"),
     ("quotations", "bufferRow buffer 11", "bufferRow buffer 16"),
     ("quotations", "(recordRows g buffer) 11", "(recordRows g buffer) 16"),
