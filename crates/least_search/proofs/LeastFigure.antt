@@ -29,8 +29,8 @@ use Rattle.keys.specs.Keys.{Weighed, Keys, Keyed, Settled, SettledBy, Nearest, 
 use Rattle.search.specs.Sizes.{far, heaviest}
 use Rattle.search.specs.Chain.{Chains}
 use Rattle.search.specs.Quoted.{Quoted}
-use Rattle.search.specs.Route.{Accounts, along, Leading, Traced, Readable}
-use Rattle.search.proofs.Held.{held-final, held-start, begins-in, final-in, departs, leaves, held-closed, leads, held-walk, held-arrival, held-different}
+use Rattle.search.specs.Route.{Accounts, Leading, Traced, Readable}
+use Rattle.search.proofs.Held.{held-final, held-start, begins-in, final-in, departs, leaves, held-closed, leads, traced-route, traced-costs, traced-quoted}
 
 module _ {A : Arrays} {weight close key : List ℕ} (keyed : Keyed A weight close key) where
   bounded : Bounded A
@@ -95,25 +95,12 @@ module _ {A : Arrays} {weight close key : List ℕ} (keyed : Keyed A weight clos
 
       pub least-shown : (k : ℕ) (before after : List ℕ) → k ≤ length after → Traced A weight close key r k before after
           → Quoted (IsLeast g (costOf weight close)) g (costOf weight close) (number (at key r)) k 0 before after
-      least-shown k before after room a = record {
-        right = record { attained = (r, take k after, (b, route), costs); bound = smallest };
-        shown = (r, (b, route), costs, held-different held bounded r after k room (a .steps), refl);
-        fits = omega (arith, a .fits, held .as-many);
-        later = a .later;
-      }
+      least-shown k before after room a =
+          traced-quoted held bounded r k before after room a (IsLeast g (costOf weight close))
+          (record { attained = (r, take k after, (b, traced-route held bounded r k before after room a), traced-costs held bounded r k before after room a); bound = smallest }) b
         where
           b : Begins g r
           b = held-start held r h ∙ near .found h .0
-
-          route : RouteFrom g r (take k after)
-          route =
-              held-walk held bounded r after k room (a .steps) (Final g)
-              (held-final held (along (A .to) r after k) (a .steps .below k (le-refl k)) ∙ a .ends)
-
-          costs : total g (costOf weight close) r (take k after) ≡ at key r
-          costs =
-              total-is g (costOf weight close) r (take k after)
-              ∙ rw (held-arrival held bounded r after k room (a .steps)) (a .costs)
 
           smallest : (s : ℕ) (ts : List ℕ) → Route g s ts → at key r ≤ total g (costOf weight close) s ts
           smallest s ts (d, q) =

@@ -1,9 +1,10 @@
 -- From arrays to the graph that they hold: marks, transitions and walks are those of the graph.
 --
 -- What stands in the arrays at a state or a transition of the graph is what the graph has there; so a walk by places through the arrays
--- (`Steps`) is a walk of the graph, its states are those that the places give, and they differ (`held-walk` and what follows). Assumes nothing.
+-- (`Steps`) is a walk of the graph, its states are those that the places give, and they differ (`held-walk` and what follows). So a route that was read off values is one of
+-- the graph, costs the value that it began with, and may be shown for it (`traced-quoted`). Assumes nothing.
 use mathlib.Core.List.{List}
-use mathlib.Core.Path.{_≡_, sym, ap, _∙_}
+use mathlib.Core.Path.{_≡_, refl, sym, ap, _∙_}
 use Prim.Native.Nat.{ℕ, _≤_, _<_}
 use native.Mathlib.Nat.{le-refl}
 use native.Mathlib.Omega.{arith}
@@ -11,11 +12,15 @@ use lib.ListN.{length, take}
 use lib.Seq.{length-take-le, getD-take}
 use Rattle.graph.specs.Graph.{Graph, start, final, to, Departs, Final, Unfinished, DeadEnd, Closed, startMark, finalMark}
 use Rattle.graph.specs.Walk.{Begins, WalkTo, visits, arrival, Different}
-use Rattle.graph.proofs.Build.{StepAt, walk-by-places, visits-by-places, different-by-places}
+use Rattle.graph.specs.Route.{RouteFrom, total}
+use Rattle.graph.specs.Figure.{Figure, number}
+use Rattle.graph.proofs.Build.{StepAt, walk-by-places, visits-by-places, different-by-places, total-is}
 use Rattle.graph.proofs.Repeat.{nth}
 use Rattle.graph.proofs.Walks.{start-below, final-below, state-last}
+use Rattle.arrays.specs.Tables.{costOf}
 use Rattle.search.specs.Arrays.{Arrays, at, StartIn, FinalIn, UnfinishedIn, Leaves, Bounded, StandsIn}
-use Rattle.search.specs.Route.{along, Steps}
+use Rattle.search.specs.Quoted.{Quoted}
+use Rattle.search.specs.Route.{along, Steps, Traced}
 
 module _ {A : Arrays} {g : Graph} (h : StandsIn A g) where
   -- ---- marks
@@ -86,3 +91,23 @@ module _ {A : Arrays} {g : Graph} (h : StandsIn A g) where
       held-different =
           different-by-places g (Unfinished g) (Unfinished g) (along (A .to) s ts) taken (steps-at (Unfinished g))
           (rw long (λ i j l b e. w .apart i j l (omega arith) e))
+
+-- ---- routes read off values
+
+-- the route that was written costs the value of its first state, and is what 01 asks to be shown for that number
+module _ {A : Arrays} {g : Graph} (h : StandsIn A g) (bounded : Bounded A) {weight close value : List ℕ} (s k : ℕ) (before after : List ℕ)
+    (room : k ≤ length after) (x : Traced A weight close value s k before after) where
+  pub traced-route : RouteFrom g s (take k after)
+  traced-route =
+      held-walk h bounded s after k room (x .steps) (Final g) (held-final h (along (A .to) s after k) (x .steps .below k (le-refl k)) ∙ x .ends)
+
+  pub traced-costs : total g (costOf weight close) s (take k after) ≡ at value s
+  traced-costs = total-is g (costOf weight close) s (take k after) ∙ rw (held-arrival h bounded s after k room (x .steps)) (x .costs)
+
+  pub traced-quoted : (Is : Figure → Type 0) → Is (number (at value s)) → Begins g s → Quoted Is g (costOf weight close) (number (at value s)) k 0 before after
+  traced-quoted Is right b = record {
+    right = right;
+    shown = (s, (b, traced-route), traced-costs, held-different h bounded s after k room (x .steps), refl);
+    fits = omega (arith, x .fits, h .as-many);
+    later = x .later;
+  }

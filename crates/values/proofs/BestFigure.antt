@@ -3,14 +3,13 @@
 -- 1. The rank falls from all starts (`falling`), so no walk goes on forever; and no dead end was entered, so the order of leaving is one in which values can be
 --    filled (`ordered`).
 -- 2. No route from a state is better than its value (`bound`, by graph's `route-bound`), and a route that costs the value can be read off (`leading`).
--- 3. So the value of the best start is the figure (`right`), and the route that was read off is what 01 asks to be shown (`best-shown`).
+-- 3. So the value of the best start is the figure (`right`), and the route that was read off is what 01 asks to be shown (search's `traced-quoted`).
 -- Assumes nothing.
 use mathlib.Core.Bool.{Bool, true, false}
 use mathlib.Core.List.{List}
 use mathlib.Core.Logic.{_⊎_, inl, inr, ⊎-elim}
 use mathlib.Core.Path.{_≡_, refl, sym, ap, _∙_}
 use Prim.Native.Nat.{ℕ, _+_, _≤_, _<_}
-use native.Mathlib.Nat.{le-refl}
 use native.Mathlib.Omega.{arith}
 use borrow.Author.Tests.{lt-ltb, ltb-true}
 use lib.Dec.{ltb}
@@ -19,7 +18,6 @@ use Rattle.graph.specs.Graph.{Graph, to, Departs, Final, Unfinished}
 use Rattle.graph.specs.Walk.{Begins}
 use Rattle.graph.specs.Route.{RouteFrom, total}
 use Rattle.graph.specs.Figure.{number, Extreme}
-use Rattle.graph.proofs.Build.{total-is}
 use Rattle.graph.proofs.Certificate.{FallingRank, route-bound, no-endless, no-stranded}
 use Rattle.search.specs.Arrays.{Arrays, at, StartIn, FinalIn, UnfinishedIn, Leaves, Bounded, StandsIn}
 use Rattle.arrays.specs.Tables.{costOf}
@@ -28,11 +26,11 @@ use Rattle.hunt.specs.Hunted.{NoDeadEnd}
 use Rattle.reach.specs.Explored.{Ranked}
 use Rattle.search.specs.Sizes.{heaviest}
 use Rattle.search.specs.Quoted.{Quoted}
-use Rattle.search.specs.Route.{Accounts, along, Leading, Readable, Traced}
+use Rattle.search.specs.Route.{Accounts, Leading, Readable, Traced}
 use Rattle.values.specs.Values.{Before, Fillable, Over, Ordered, Valued, BestStart, IsBest}
 use Rattle.values.proofs.Filling.{before-refl, before-trans, before-add}
 use Rattle.reach.proofs.Hunting.{onward-lower}
-use Rattle.search.proofs.Held.{held-final, held-start, begins-in, final-in, departs, leaves, leads, held-walk, held-arrival, held-different}
+use Rattle.search.proofs.Held.{held-final, held-start, begins-in, final-in, departs, leaves, leads, traced-route, traced-costs, traced-quoted}
 
 -- ---- 1
 
@@ -122,19 +120,9 @@ module _ (A : Arrays) (bounded : Bounded A) (a : Table) (done : ℕ) (r : Ranked
           begins = held-start held best h ∙ first .found h
 
           module _ (k : ℕ) (before after : List ℕ) (room : k ≤ length after) (x : Traced A weight close value best k before after) where
-            route : RouteFrom g best (take k after)
-            route =
-                held-walk held bounded best after k room (x .steps) (Final g)
-                (held-final held (along (A .to) best after k) (x .steps .below k (le-refl k)) ∙ x .ends)
-
-            costs : total g (costOf weight close) best (take k after) ≡ at value best
-            costs =
-                total-is g (costOf weight close) best (take k after)
-                ∙ rw (held-arrival held bounded best after k room (x .steps)) (x .costs)
-
             extreme : Extreme (Before least) g (costOf weight close) (at value best)
             extreme = record {
-              attained = (best, take k after, (begins, route), costs);
+              attained = (best, take k after, (begins, traced-route held bounded best k before after room x), traced-costs held bounded best k before after room x);
               bound = λ s ts (d, q).
                   let (l, e) = begins-in held s d in
                   before-trans least (at value best) (at value s) (total g (costOf weight close) s ts) (first .best s l e .1)
@@ -151,12 +139,7 @@ module _ (A : Arrays) (bounded : Bounded A) (a : Table) (done : ℕ) (r : Ranked
             )
 
             pub best-shown : Quoted (IsBest least g (costOf weight close)) g (costOf weight close) (number (at value best)) k 0 before after
-            best-shown = record {
-              right = right least extreme;
-              shown = (best, (begins, route), costs, held-different held bounded best after k room (x .steps), refl);
-              fits = omega (arith, x .fits, held .as-many);
-              later = x .later;
-            }
+            best-shown = traced-quoted held bounded best k before after room x (IsBest least g (costOf weight close)) (right least extreme) begins
 
 -- ---- where the search is over
 

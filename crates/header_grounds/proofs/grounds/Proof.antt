@@ -125,25 +125,26 @@ returns-5 c =
     let l : ltb (length os) N ≡ true = ap (λ (x : ℕ). ltb (length os) x) (sym (needed (c .before))) ∙ lt-ltb _ _ (c .if5 .taken) in
     rw (k .there, k .version, k .states, k .transitions, k .pad, l)
 
+-- there are as many octets as the counts give
+long-enough : (c : tie.Else5) → ltb (length (c .before .before .before .before .before .before .before .before .args .octets .now))
+    (imageLength (stateCountOf (c .before .before .before .before .before .before .before .before .args .octets .now)) (transitionCountOf (c .before .before .before .before .before .before .before .before .args .octets .now))) ≡ false
+long-enough c = ap (λ (x : ℕ). ltb (length (c .before .before .before .before .before .before .before .before .args .octets .now)) x) (sym (needed (c .before))) ∙ le-ltb _ _ (c .if5 .left)
+
 returns-6 : tie.Need-returns-6
 unfolding headerRows
 returns-6 c =
     let os = c .before .before .before .before .before .before .before .before .before .args .octets .now in
-    let N = imageLength (stateCountOf os) (transitionCountOf os) in
     let k = tested (c .before .before .before) in
-    let l : ltb (length os) N ≡ false = ap (λ (x : ℕ). ltb (length os) x) (sym (needed (c .before .before))) ∙ le-ltb _ _ (c .before .if5 .left) in
-    let g : ltb N (length os) ≡ true = ap (λ (x : ℕ). ltb x (length os)) (sym (needed (c .before .before))) ∙ lt-ltb _ _ (c .if6 .taken) in
-    rw (k .there, k .version, k .states, k .transitions, k .pad, l, g)
+    let g : ltb (imageLength (stateCountOf os) (transitionCountOf os)) (length os) ≡ true = ap (λ (x : ℕ). ltb x (length os)) (sym (needed (c .before .before))) ∙ lt-ltb _ _ (c .if6 .taken) in
+    rw (k .there, k .version, k .states, k .transitions, k .pad, long-enough (c .before), g)
 
 returns-7 : tie.Need-returns-7
 unfolding headerRows
 returns-7 c =
     let os = c .before .before .before .before .before .before .before .before .before .args .octets .now in
-    let N = imageLength (stateCountOf os) (transitionCountOf os) in
     let k = tested (c .before .before .before) in
-    let l : ltb (length os) N ≡ false = ap (λ (x : ℕ). ltb (length os) x) (sym (needed (c .before .before))) ∙ le-ltb _ _ (c .before .if5 .left) in
-    let g : ltb N (length os) ≡ false = ap (λ (x : ℕ). ltb x (length os)) (sym (needed (c .before .before))) ∙ le-ltb _ _ (c .if6 .left) in
-    rw (k .there, k .version, k .states, k .transitions, k .pad, l, g)
+    let g : ltb (imageLength (stateCountOf os) (transitionCountOf os)) (length os) ≡ false = ap (λ (x : ℕ). ltb x (length os)) (sym (needed (c .before .before))) ∙ le-ltb _ _ (c .if6 .left) in
+    rw (k .there, k .version, k .states, k .transitions, k .pad, long-enough (c .before), g)
 
 pub grounds-spec : {M : Type 1} → statement M
 grounds-spec =
