@@ -23,6 +23,14 @@ static const uint8_t p1_image[28] = {0x10, 0x10, 0x01, 0x00, 0x80, 0x20, 0x20, 0
                                      0x80, 0x80, 0x18, 0x0F, 0x00, 0x80, 0xC0, 0x10, 0x1E, 0x01, 0x00, 0xC0, 0x20, 0x19};
 static const uint8_t p1_record[CALLPLAN_RECORD_OCTETS] = {0x00, 0x00, 0x1C, 0x00, 0x03, 0xC0, 0x00, 0x00, 0x40, 0x00, 0x02};
 
+/* Its text. */
+static const char p1_words[] = "des (0, 4, 4)\n"
+                               "(0, \"5..20\", 1)\n"
+                               "(1, \"3..15\", 2)\n"
+                               "(1, \"2..30\", 3)\n"
+                               "(2, \"4..25\", 3)\n";
+enum { P1_TEXT_OCTETS = sizeof p1_words - 1 };
+
 static callplan_plan p1(void)
 {
     callplan_plan plan;
@@ -131,6 +139,69 @@ static void images(void)
     CHECK(is_same_plan(&other, &plan));
 }
 
+static callplan_answer import_words(callplan_plan *plan, const char *words)
+{
+    uint8_t text[200];
+    memcpy(text, words, strlen(words));
+    return callplan_import(plan, text, strlen(words));
+}
+
+static void texts(void)
+{
+    const callplan_plan plan = p1();
+    callplan_plan other;
+    callplan_plan before;
+    callplan_transition last;
+    uint8_t buffer[CALLPLAN_MAX_TEXT_OCTETS];
+    size_t written = 77;
+
+    memset(buffer, 0xAA, sizeof buffer);
+    CHECK(callplan_export(&plan, NULL, 0, &written) == CALLPLAN_REFUSED_BUFFER_LENGTH);
+    CHECK(callplan_export(&plan, buffer, P1_TEXT_OCTETS - 1, &written) == CALLPLAN_REFUSED_BUFFER_LENGTH);
+    other = plan;
+    CHECK(callplan_mark(&other, 0, CALLPLAN_COUNTED) == CALLPLAN_ACCEPTED);
+    CHECK(callplan_export(&other, buffer, sizeof buffer, &written) == CALLPLAN_REFUSED_START_COUNT);
+    other = plan;
+    CHECK(callplan_mark(&other, 3, CALLPLAN_START + CALLPLAN_FINAL) == CALLPLAN_ACCEPTED);
+    CHECK(callplan_export(&other, NULL, 0, &written) == CALLPLAN_REFUSED_START_COUNT);
+    CHECK(written == 77 && buffer[0] == 0xAA && buffer[P1_TEXT_OCTETS - 2] == 0xAA);
+    CHECK(callplan_export(&plan, buffer, sizeof buffer, &written) == CALLPLAN_ACCEPTED);
+    CHECK(written == P1_TEXT_OCTETS && memcmp(buffer, p1_words, P1_TEXT_OCTETS) == 0 && buffer[P1_TEXT_OCTETS] == 0xAA);
+    CHECK(callplan_export(&plan, buffer, P1_TEXT_OCTETS, NULL) == CALLPLAN_ACCEPTED);
+
+    CHECK(callplan_fresh(&other, 1) == CALLPLAN_ACCEPTED);
+    before = other;
+    CHECK(callplan_import(&other, NULL, 0) == CALLPLAN_REFUSED_TEXT_FORM);
+    CHECK(callplan_import(&other, buffer, P1_TEXT_OCTETS - 1) == CALLPLAN_REFUSED_TEXT_FORM);
+    CHECK(callplan_import(&other, buffer, P1_TEXT_OCTETS + 1) == CALLPLAN_REFUSED_TEXT_FORM);
+    CHECK(import_words(&other, "des (0,0,1)\n") == CALLPLAN_REFUSED_TEXT_FORM);
+    CHECK(import_words(&other, "des (0, 1, 1)\n") == CALLPLAN_REFUSED_TEXT_FORM);
+    CHECK(import_words(&other, "des (0, 0, 513)\n") == CALLPLAN_REFUSED_STATE_COUNT);
+    CHECK(import_words(&other, "des (0, 0, 18446744073709551617)\n") == CALLPLAN_REFUSED_STATE_COUNT);
+    CHECK(import_words(&other, "des (1, 1, 1)\n(0, \"1..0\", 0)\n") == CALLPLAN_REFUSED_STATE_NUMBER);
+    CHECK(import_words(&other, "des (0, 1, 1)\n(0, \"1..0\", 1)\n") == CALLPLAN_REFUSED_STATE_NUMBER);
+    CHECK(import_words(&other, "des (0, 1, 1)\n(0, \"1..0\", 0)\n") == CALLPLAN_REFUSED_DURATION);
+    CHECK(is_same_plan(&other, &before));
+    CHECK(callplan_import(&other, buffer, P1_TEXT_OCTETS) == CALLPLAN_ACCEPTED);
+    CHECK(callplan_states(&other) == 4 && callplan_transitions(&other) == 4);
+    CHECK(callplan_marks(&other, 0) == CALLPLAN_START && callplan_marks(&other, 1) == 0 && callplan_marks(&other, 3) == 0);
+    last = callplan_transition_at(&other, 3);
+    CHECK(last.from == 2 && last.to == 3 && last.low == 4 && last.high == 25);
+
+    /* The longest text. */
+    CHECK(callplan_fresh(&other, CALLPLAN_MAX_STATES) == CALLPLAN_ACCEPTED);
+    CHECK(callplan_mark(&other, 511, CALLPLAN_START) == CALLPLAN_ACCEPTED);
+    for (size_t number = 0; number < CALLPLAN_MAX_TRANSITIONS; number++) {
+        if (callplan_join(&other, 511, 511, 2047, 2047) != CALLPLAN_ACCEPTED) {
+            CHECK(!"joined");
+        }
+    }
+    before = other;
+    CHECK(callplan_export(&other, buffer, sizeof buffer - 1, &written) == CALLPLAN_REFUSED_BUFFER_LENGTH);
+    CHECK(callplan_export(&other, buffer, sizeof buffer, &written) == CALLPLAN_ACCEPTED && written == sizeof buffer);
+    CHECK(callplan_import(&other, buffer, sizeof buffer) == CALLPLAN_ACCEPTED && is_same_plan(&other, &before));
+}
+
 static int is_figure(const callplan_figure *figure, callplan_kind kind, uint32_t value, size_t k, size_t j)
 {
     return figure->kind == kind && figure->value == value && figure->k == k && figure->j == j;
@@ -227,6 +298,9 @@ static void broken_plan(void)
     CHECK(callplan_unjoin(&plan, 0) == CALLPLAN_REFUSED_PLAN_LIMITS);
     CHECK(callplan_read(&plan, p1_image, sizeof p1_image) == CALLPLAN_REFUSED_PLAN_LIMITS);
     CHECK(callplan_write(&plan, buffer, sizeof buffer, &written) == CALLPLAN_REFUSED_PLAN_LIMITS);
+    CHECK(import_words(&plan, p1_words) == CALLPLAN_REFUSED_PLAN_LIMITS);
+    CHECK(callplan_import(&plan, NULL, 0) == CALLPLAN_REFUSED_PLAN_LIMITS);
+    CHECK(callplan_export(&plan, buffer, sizeof buffer, &written) == CALLPLAN_REFUSED_PLAN_LIMITS);
     CHECK(callplan_record(&plan, buffer, sizeof buffer, &written) == CALLPLAN_REFUSED_PLAN_LIMITS);
     CHECK(callplan_least_delay(&plan, &figure) == CALLPLAN_REFUSED_PLAN_LIMITS);
     CHECK(callplan_greatest_delay(&plan, &figure) == CALLPLAN_REFUSED_PLAN_LIMITS);
@@ -245,6 +319,7 @@ static void short_slices(void)
     uint32_t out[4] = {0};
     uint16_t walks[2048] = {0};
     uint32_t outs[16] = {0};
+    uint8_t text[100] = {0};
 
     CHECK(callplan_lent_quote(p1_image, 28, walks, 2047, outs, 16) == CALLPLAN_REFUSED_BUFFER_LENGTH);
     CHECK(callplan_lent_quote(p1_image, 28, walks, 2048, outs, 15) == CALLPLAN_REFUSED_BUFFER_LENGTH);
@@ -254,6 +329,11 @@ static void short_slices(void)
     CHECK(callplan_lent_fresh(1, plan.counts, 1, plan.marks, 512, plan.fields, 8192) == CALLPLAN_SHORT_SLICE);
     CHECK(callplan_lent_fresh(1, plan.counts, 2, plan.marks, 511, plan.fields, 8192) == CALLPLAN_SHORT_SLICE);
     CHECK(callplan_lent_fresh(1, plan.counts, 2, plan.marks, 512, plan.fields, 8191) == CALLPLAN_SHORT_SLICE);
+    CHECK(callplan_lent_import(plan.counts, 1, plan.marks, 512, plan.fields, 8192, p1_image, 28) == CALLPLAN_SHORT_SLICE);
+    CHECK(callplan_lent_import(plan.counts, 2, plan.marks, 512, plan.fields, 8192, p1_image, 28) == CALLPLAN_REFUSED_TEXT_FORM);
+    CHECK(callplan_lent_export(plan.counts, 2, plan.marks, 511, plan.fields, 8192, text, sizeof text) == CALLPLAN_SHORT_SLICE);
+    CHECK(callplan_lent_export(plan.counts, 2, plan.marks, 512, plan.fields, 8192, text, sizeof text) ==
+          CALLPLAN_ACCEPTED + P1_TEXT_OCTETS);
     CHECK(callplan_lent_least_delay(plan.counts, 2, plan.marks, 512, plan.fields, 8192, walk, 4, out, 3) ==
           CALLPLAN_REFUSED_BUFFER_LENGTH);
     CHECK(callplan_lent_least_delay(plan.counts, 2, plan.marks, 512, plan.fields, 8192, walk, 3, out, 4) ==
@@ -265,10 +345,13 @@ static void short_slices(void)
 /* P1 by a list of calls, a refused one and one that is undone among them; then lists that are none. */
 static void lists(void)
 {
-    enum { M = CALLPLAN_CALL_MARK, J = CALLPLAN_CALL_JOIN, U = CALLPLAN_CALL_UNJOIN, R = CALLPLAN_CALL_READ };
+    enum { M = CALLPLAN_CALL_MARK, J = CALLPLAN_CALL_JOIN, U = CALLPLAN_CALL_UNJOIN, R = CALLPLAN_CALL_READ, I = CALLPLAN_CALL_IMPORT };
     const uint8_t kinds[] = {M, J, J, M, U, R};
     const size_t arguments[] = {0, 4, 0, 0, 0, 9, 1, 1, 0, 1, 1, 9, 1, 2, 0, 0, 0, 0, 0, 0, 0, 28, 0, 0};
-    const uint8_t unknown[] = {4};
+    const uint8_t unknown[] = {5};
+    const uint8_t imports[] = {I, M, I};
+    const size_t parts[] = {0, P1_TEXT_OCTETS, 0, 0, 3, CALLPLAN_FINAL, 0, 0, 1, P1_TEXT_OCTETS, 0, 0};
+    uint8_t text[P1_TEXT_OCTETS];
     uint32_t answers[7] = {9, 9, 9, 9, 9, 9, 9};
     const callplan_plan read = p1();
     callplan_plan plan, before;
@@ -294,6 +377,13 @@ static void lists(void)
     CHECK(answers[5] == CALLPLAN_ACCEPTED && answers[6] == 9);
     CHECK(callplan_states(&plan) == callplan_states(&read) && callplan_transitions(&plan) == callplan_transitions(&read));
     CHECK(quotations.figures[CALLPLAN_GREATEST_DELAY].value == 60 && quotations.figures[CALLPLAN_GREATEST_DELAY].walk[2] == 3);
+
+    memcpy(text, p1_words, sizeof text);
+    CHECK(callplan_replay(&plan, 1, imports, parts, 3, text, sizeof text - 1, answers, &quotations) == CALLPLAN_NO_CALLS);
+    CHECK(callplan_replay(&plan, 1, imports, parts, 3, text, sizeof text, answers, &quotations) == CALLPLAN_ACCEPTED);
+    CHECK(answers[0] == CALLPLAN_ACCEPTED && answers[1] == CALLPLAN_ACCEPTED && answers[2] == CALLPLAN_REFUSED_TEXT_FORM);
+    CHECK(callplan_states(&plan) == 4 && callplan_marks(&plan, 1) == 0 && callplan_marks(&plan, 3) == CALLPLAN_FINAL);
+    CHECK(quotations.figures[CALLPLAN_GREATEST_DELAY].value == 60 && quotations.figures[CALLPLAN_GREATEST_COUNT].value == 0);
     CHECK(callplan_replay(&plan, 1, NULL, NULL, 0, NULL, 0, NULL, &quotations) == CALLPLAN_ACCEPTED);
     CHECK(callplan_states(&plan) == 1 && quotations.figures[CALLPLAN_LEAST_COUNT].kind == CALLPLAN_NONE);
 }
@@ -342,6 +432,7 @@ static void words(void)
 {
     CHECK(callplan_lent_version() == CALLPLAN_VERSION_NUMBER);
     CHECK(strcmp(callplan_answer_text(CALLPLAN_REFUSED_SPARE_BITS), "a pad or spare bit is set") == 0);
+    CHECK(strcmp(callplan_answer_text(CALLPLAN_REFUSED_START_COUNT), "not exactly one state is marked start") == 0);
     CHECK(strcmp(callplan_answer_text(CALLPLAN_ACCEPTED), "accepted") == 0);
 }
 
@@ -353,6 +444,7 @@ int main(void)
     CHECK(CALLPLAN_MAX_IMAGE_OCTETS == 4 + CALLPLAN_MAX_STATES + 5 * CALLPLAN_MAX_TRANSITIONS);
     edits();
     images();
+    texts();
     quotations();
     quotations_of_an_image();
     broken_plan();

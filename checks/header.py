@@ -25,6 +25,7 @@ FILES = {
     "refusal": "crates/rules/specs/Refusal.antt",
     "limits": "crates/rules/specs/Limits.antt",
     "image": "crates/rules/specs/Image.antt",
+    "text": "crates/aldebaran/specs/Text.antt",
     "quotations": "crates/rules/specs/Quotations.antt",
     "header": "include/callplan.h",
     "package": "include/callplan.pc",
@@ -33,8 +34,9 @@ FILES = {
     "archive": "rust/callplan/src/archive.rs",
     "refusals": "rust/callplan/src/refusal.rs",
     "proved": "reference/src/proved.rs",
-    "quote": "quote",
+    "launch": "programs/launch",
     "page": "docs/quote.1",
+    "import page": "docs/callplan-import.1",
     "changes": "CHANGELOG.md",
 }
 C_TYPES = {"size_t": "usize", "uint8_t": "u8", "uint16_t": "u16", "uint32_t": "u32", "void": "()"}
@@ -91,6 +93,13 @@ def between(text, first, last):
     return text.split(first, 1)[1].split(last, 1)[0] if first in text else ""
 
 
+def form(text, name):
+    """How many octets the fixed words of a form have together, and how many numbers stand between them."""
+    pieces = between(text, f"\n{name} =", "[]")
+    words = re.findall(r'word \(octets "((?:[^"\\]|\\.)*)"\)', pieces)
+    return sum(len(re.sub(r"\\.", "x", word)) for word in words), pieces.count("number ∷")
+
+
 def constant(name):
     return re.sub(r"(?<!^)(?=[A-Z])", "_", name).upper()
 
@@ -135,11 +144,17 @@ def comparisons(t):
     transitions = number(t["limits"], r"transitionCountOk m = leb m (\d+)")
     length = re.findall(r"imageLength n m = (\d+) \+ n \+ (\d+) \* m", t["image"])
     octets = int(length[0][0]) + states + int(length[0][1]) * transitions if len(length) == 1 else None
+    duration = number(t["limits"], r"leb \(t \.high\) (\d+)")
+    (first, three), (line, four) = form(t["text"], "firstForm"), form(t["text"], "lineForm")
+    yield "the numbers of a text's lines", (3, 4), (three, four)
+    first += len(f"{states - 1}{transitions}{states}")
+    text = first + transitions * (line + len(f"{states - 1}{duration}{duration}{states - 1}"))
     constants = {
         "MAX_STATES": states,
         "MAX_TRANSITIONS": transitions,
-        "MAX_DURATION": number(t["limits"], r"leb \(t \.high\) (\d+)"),
+        "MAX_DURATION": duration,
         "MAX_IMAGE_OCTETS": octets,
+        "MAX_TEXT_OCTETS": text,
         "RECORD_OCTETS": number(t["quotations"], r"recordRows g buffer = limitRow g ∷ bufferRow buffer (\d+)"),
     }
     yield "the record's length", constants["RECORD_OCTETS"], number(t["quotations"], r"byTable \(recordRows g buffer\) (\d+)")
@@ -188,8 +203,9 @@ def comparisons(t):
     yield "the archive's version", 10000 * first + 100 * second + third, archive
     yield "include/callplan.h: the version's number", archive, number(t["header"], r"#define CALLPLAN_VERSION_NUMBER (\d+)")
     yield "rust/callplan: the version's number", archive, number(t["crate"], r"pub const VERSION_NUMBER: u32 = (\d+);")
-    yield "quote: the version", version, re.findall(r"(?m)^version=(.*)$", t["quote"])
-    yield "docs/quote.1: the version", version, re.findall(r'"callplan ([\d.]+)"', t["page"])
+    yield "programs/launch: the version", version, re.findall(r"(?m)^version=(.*)$", t["launch"])
+    for page in "page", "import page":
+        yield f"{FILES[page]}: the version", version, re.findall(r'"callplan ([\d.]+)"', t[page])
     yield "CHANGELOG.md: the version", version, re.findall(r"(?m)^## ([\d.]+)$", t["changes"])[:1]
     yield "include/callplan.pc: the version", version, re.findall(r"(?m)^Version: (.*)$", t["package"])
     yield "rust/callplan: the version", version, re.findall(r'(?m)^version = "(.*)"$', t["cargo"])
@@ -218,6 +234,7 @@ DAMAGES = [
     ("binding", "#[no_mangle]\npub extern", "pub extern"),
     ("numbers", "Refusal::Duration => 8", "Refusal::Duration => 9"),
     ("numbers", "Refusal::SpareBits => 6,", ""),
+    ("numbers", "Refusal::TextForm => 15", "Refusal::TextForm => 14"),
     ("refusal", "number ListFull = 9", "number ListFull = 8"),
     ("refusal", "code (accepted a) = 256", "code (accepted a) = 512"),
     ("edits", "(r ≡ 255)", "(r ≡ 254)"),
@@ -236,6 +253,8 @@ DAMAGES = [
     ("limits", "leb m 2048", "leb m 4096"),
     ("limits", "leb (t .high) 2047", "leb (t .high) 2046"),
     ("image", "4 + n + 5 * m", "4 + n + 6 * m"),
+    ("text", 'octets "des ("', 'octets "des  ("'),
+    ("text", 'word (octets "..") ∷ number ∷ ', 'word (octets "..") ∷ '),
     ("quotations", "bufferRow out 4 ∷", "bufferRow out 5 ∷"),
     ("quotations", "imageRows image ++ (bufferRow walks 2048", "imageRows image ++ (bufferRow walks 2047"),
     ("quotations", "bufferRow out 16 ∷", "bufferRow out 15 ∷"),
@@ -255,6 +274,9 @@ DAMAGES = [
     ("header", "CALLPLAN_REFUSED_LIST_FULL = 9", "CALLPLAN_REFUSED_FULL = 9"),
     ("header", "CALLPLAN_NO_CALLS = 254", "CALLPLAN_NO_CALLS = 253"),
     ("header", "CALLPLAN_CALL_JOIN = 1", "CALLPLAN_CALL_JOIN = 2"),
+    ("header", "CALLPLAN_CALL_IMPORT = 4", "CALLPLAN_CALL_IMPORT = 5"),
+    ("header", "const uint8_t *text, size_t text_len", "uint8_t *text, size_t text_len"),
+    ("header", "CALLPLAN_REFUSED_START_COUNT = 14", "CALLPLAN_REFUSED_START_COUNT = 15"),
     ("header", "const size_t *arguments, size_t arguments_len,", "const size_t *arguments,"),
     ("header", "CALLPLAN_SLICES(plan), walks, 4 * CALLPLAN_MAX_STATES, out, 4 * 4)", "CALLPLAN_SLICES(plan), walks, 4, out, 4 * 4)"),
     ("header", "CALLPLAN_SHORT_SLICE = 255", "CALLPLAN_SHORT_SLICE = 254"),
@@ -263,6 +285,7 @@ DAMAGES = [
     ("header", "CALLPLAN_MAX_TRANSITIONS 2048", "CALLPLAN_MAX_TRANSITIONS 2047"),
     ("header", "CALLPLAN_MAX_DURATION 2047", "CALLPLAN_MAX_DURATION 2048"),
     ("header", "CALLPLAN_MAX_IMAGE_OCTETS 10756", "CALLPLAN_MAX_IMAGE_OCTETS 10755"),
+    ("header", "CALLPLAN_MAX_TEXT_OCTETS 51221", "CALLPLAN_MAX_TEXT_OCTETS 51220"),
     ("header", "CALLPLAN_RECORD_OCTETS 11", "CALLPLAN_RECORD_OCTETS 16"),
     ("header", "CALLPLAN_START = 4", "CALLPLAN_START = 1"),
     ("header", "CALLPLAN_FINAL = 2", "CALLPLAN_FINAL = 3"),
@@ -279,6 +302,7 @@ DAMAGES = [
     ("crate", "MAX_STATES: usize = 512", "MAX_STATES: usize = 1024"),
     ("crate", "MAX_TRANSITIONS: usize = 2048", "MAX_TRANSITIONS: usize = 1024"),
     ("crate", "MAX_IMAGE_OCTETS: usize = 10756", "MAX_IMAGE_OCTETS: usize = 10757"),
+    ("crate", "MAX_TEXT_OCTETS: usize = 51221", "MAX_TEXT_OCTETS: usize = 51222"),
     ("crate", "ACCEPTED: u32 = 256", "ACCEPTED: u32 = 255"),
     ("crate", "FINAL: u32 = 2", "FINAL: u32 = 1"),
     ("archive", "fields: *mut u16", "fields: *mut u32"),
@@ -290,12 +314,13 @@ DAMAGES = [
     ("refusals", '"a pad or spare bit is set"', '"a spare bit is set"'),
     ("header", 'return "the marks value is above 7"', 'return "the marks value is above 8"'),
     ("header", '    case CALLPLAN_ACCEPTED: return "accepted";\n', ""),
-    ("header", "CALLPLAN_VERSION_NUMBER 2", "CALLPLAN_VERSION_NUMBER 3"),
-    ("binding", "r ≡ 200 ⌝", "r ≡ 201 ⌝"),
-    ("crate", "VERSION_NUMBER: u32 = 2", "VERSION_NUMBER: u32 = 3"),
-    ("quote", "version=0", "version=1"),
+    ("header", "CALLPLAN_VERSION_NUMBER 3", "CALLPLAN_VERSION_NUMBER 4"),
+    ("binding", "r ≡ 300 ⌝", "r ≡ 301 ⌝"),
+    ("crate", "VERSION_NUMBER: u32 = 3", "VERSION_NUMBER: u32 = 4"),
+    ("launch", "version=0", "version=1"),
     ("page", '"callplan 0', '"callplan 1'),
-    ("changes", "## 0.2", "## 0.3"),
+    ("import page", '"callplan 0', '"callplan 1'),
+    ("changes", "## 0.3", "## 0.4"),
     ("proved", "value: u32,\n    ) -> u32", "value: u32,\n    ) -> u16"),
     ("proved", "walk_len: usize", "length: usize"),
     ("proved", "NO_CALLS: u32 = 254", "NO_CALLS: u32 = 253"),

@@ -49,13 +49,14 @@
 extern "C" {
 #endif
 
-#define CALLPLAN_VERSION "0.2.0"
-#define CALLPLAN_VERSION_NUMBER 200 /* 10,000 times the first number, 100 times the second, and the third */
+#define CALLPLAN_VERSION "0.3.0"
+#define CALLPLAN_VERSION_NUMBER 300 /* 10,000 times the first number, 100 times the second, and the third */
 
 #define CALLPLAN_MAX_STATES 512
 #define CALLPLAN_MAX_TRANSITIONS 2048
 #define CALLPLAN_MAX_DURATION 2047      /* seconds */
 #define CALLPLAN_MAX_IMAGE_OCTETS 10756 /* 4, 1 for each state and 5 for each transition */
+#define CALLPLAN_MAX_TEXT_OCTETS 51221  /* of a text that is exported or accepted: 21, and 25 for each transition */
 #define CALLPLAN_RECORD_OCTETS 11
 
 /* What a call answers. */
@@ -74,7 +75,9 @@ typedef enum callplan_answer {
     CALLPLAN_REFUSED_BUFFER_LENGTH = 11,     /* less than what is to be put there */
     CALLPLAN_REFUSED_MARKS_VALUE = 12,       /* above 7 */
     CALLPLAN_REFUSED_FIGURE_SIZE = 13,       /* above 1,048,575: no plan within the limits has such a figure */
-    CALLPLAN_NO_CALLS = 254,                 /* of replay alone: an unknown kind, or a read's octets lie outside those that are lent */
+    CALLPLAN_REFUSED_START_COUNT = 14,       /* not exactly one state is marked start */
+    CALLPLAN_REFUSED_TEXT_FORM = 15,         /* the text is off the form of Aldebaran text */
+    CALLPLAN_NO_CALLS = 254,                 /* of replay alone: an unknown kind, or octets of a read or import outside those that are lent */
     CALLPLAN_SHORT_SLICE = 255,              /* of the callplan_lent_ functions alone: the slices are too short to hold a plan */
     CALLPLAN_ACCEPTED = 256
 } callplan_answer;
@@ -134,7 +137,8 @@ enum {
     CALLPLAN_CALL_MARK = 0,   /* state, value */
     CALLPLAN_CALL_JOIN = 1,   /* from, to, low, high */
     CALLPLAN_CALL_UNJOIN = 2, /* number */
-    CALLPLAN_CALL_READ = 3    /* the places where its octets start and end among those that are lent */
+    CALLPLAN_CALL_READ = 3,   /* the places where its octets start and end among those that are lent */
+    CALLPLAN_CALL_IMPORT = 4  /* the same, of its text */
 };
 
 /* ---- The functions of the archive, for programs that keep the arrays of a plan apart. The inline functions after them call them.
@@ -142,7 +146,8 @@ enum {
  * A lent slice is a pointer, aligned and never null, and its number of places:
  *     counts, marks, fields   the arrays of a callplan_plan, with 2, 512 and 8,192 places at least
  *     octets                  the image that is read
- *     buffer                  where write puts the image, and record the record
+ *     text                    the text that is imported
+ *     buffer                  where write puts the image, export the text, and record the record
  *     walk, out               where a quotation puts the walk, with as many places as the plan has states, and its kind, value, k and
  *                             j, with 4 places
  *     walks, out              of quote and replay: four of either, one after another, with 2,048 and 16 places
@@ -151,8 +156,8 @@ enum {
  * With fewer places in counts, marks or fields there is no plan to look at: a function answers CALLPLAN_SHORT_SLICE, before all else,
  * and changes nothing. With fewer in a walk, walks, out or answers a call is refused by CALLPLAN_REFUSED_BUFFER_LENGTH, after the
  * refusals of the plan, of the image or of n. With fewer arguments there is no list of calls to look at: CALLPLAN_NO_CALLS.
- * Otherwise it answers as the inline function of its name does; write and record answer CALLPLAN_ACCEPTED plus the octets' number.
- * Later places stay. The other arguments are those of the inline functions. */
+ * Otherwise it answers as the inline function of its name does; write, export and record answer CALLPLAN_ACCEPTED plus the octets'
+ * number. Later places stay. The other arguments are those of the inline functions. */
 
 uint32_t callplan_lent_version(void);
 uint32_t callplan_lent_fresh(size_t n, size_t *counts, size_t counts_len, uint8_t *marks, size_t marks_len,
@@ -169,6 +174,10 @@ uint32_t callplan_lent_read(size_t *counts, size_t counts_len, uint8_t *marks, s
                             size_t fields_len, const uint8_t *octets, size_t octets_len);
 uint32_t callplan_lent_write(const size_t *counts, size_t counts_len, const uint8_t *marks, size_t marks_len,
                              const uint16_t *fields, size_t fields_len, uint8_t *buffer, size_t buffer_len);
+uint32_t callplan_lent_import(size_t *counts, size_t counts_len, uint8_t *marks, size_t marks_len, uint16_t *fields,
+                              size_t fields_len, const uint8_t *text, size_t text_len);
+uint32_t callplan_lent_export(const size_t *counts, size_t counts_len, const uint8_t *marks, size_t marks_len,
+                              const uint16_t *fields, size_t fields_len, uint8_t *buffer, size_t buffer_len);
 uint32_t callplan_lent_least_delay(const size_t *counts, size_t counts_len, const uint8_t *marks, size_t marks_len,
                                    const uint16_t *fields, size_t fields_len, uint16_t *walk, size_t walk_len,
                                    uint32_t *out, size_t out_len);
@@ -208,6 +217,8 @@ static inline const char *callplan_answer_text(callplan_answer answer)
     case CALLPLAN_REFUSED_BUFFER_LENGTH: return "a lent buffer is shorter than what is to be put there";
     case CALLPLAN_REFUSED_MARKS_VALUE: return "the marks value is above 7";
     case CALLPLAN_REFUSED_FIGURE_SIZE: return "a figure of the record is above 1,048,575";
+    case CALLPLAN_REFUSED_START_COUNT: return "not exactly one state is marked start";
+    case CALLPLAN_REFUSED_TEXT_FORM: return "the text is off the form of Aldebaran text";
     case CALLPLAN_NO_CALLS: return "the slices are no list of calls";
     case CALLPLAN_SHORT_SLICE: return "the slices are too short to hold a plan";
     case CALLPLAN_ACCEPTED: return "accepted";
@@ -307,6 +318,32 @@ CALLPLAN_ANSWERS callplan_write(const callplan_plan *plan, uint8_t *buffer, size
         callplan_lent_write(CALLPLAN_SLICES(plan), length != 0 ? buffer : &none, length), written);
 }
 
+/* ---- The Aldebaran text, for plans from and to other exchanges.
+ *
+ * The first line is `des (INITIAL, TRANSITIONS, STATES)`, with the initial state and the two counts. Then there is a line
+ * `(FROM, "LOW..HIGH", TO)` for each transition, in their order. Every line is ended by a line feed, and every space is as it stands
+ * here. Numbers are decimal, of any length and without leading zeros. */
+
+/* Makes *plan the plan that the text holds, in place of the one that it holds. The initial state is marked start, and nothing else is
+ * marked. Exported, it is the same text again. The text is looked at as octets, and needs no 0 at its end.
+ * Refused: PLAN_LIMITS, of the plan that it holds; TEXT_FORM, of the whole text, the number of its lines included; STATE_COUNT,
+ * TRANSITION_COUNT; STATE_NUMBER, of the initial state; line by line STATE_NUMBER, DURATION. */
+CALLPLAN_ANSWERS callplan_import(callplan_plan *plan, const uint8_t *text, size_t length)
+{
+    const uint8_t none = 0;
+    return callplan_private_answer(callplan_lent_import(CALLPLAN_SLICES(plan), length != 0 ? text : &none, length));
+}
+
+/* Puts the text of *plan at the front of buffer; later octets stay, and no 0 is put after it. The number of its octets, at most
+ * CALLPLAN_MAX_TEXT_OCTETS, goes to *written unless written is null. Imported, it is the plan without its final and counted marks.
+ * Refused: PLAN_LIMITS, START_COUNT, BUFFER_LENGTH. */
+CALLPLAN_ANSWERS callplan_export(const callplan_plan *plan, uint8_t *buffer, size_t length, size_t *written)
+{
+    uint8_t none = 0;
+    return callplan_private_written(
+        callplan_lent_export(CALLPLAN_SLICES(plan), length != 0 ? buffer : &none, length), written);
+}
+
 /* ---- Quotations.
  *
  * Each puts a figure of *plan, with a walk that shows it, into *figure; places of walk from k on stay. Which of several such walks
@@ -401,9 +438,9 @@ CALLPLAN_ANSWERS callplan_quote(const uint8_t *octets, size_t length, callplan_q
 
 /* Makes a list of calls in turn from a fresh plan with n states, each on the plan that the one before it left, puts the plan after the
  * list into *plan, whatever it held before, and its four figures into *quotations. There are count kinds, four times as many arguments
- * and count places for the answers; the octets of the reads are parts of octets. The answer of each call is put at its place: a call
- * of the list that is refused leaves the plan as it is, and the list goes on.
- * CALLPLAN_NO_CALLS where the list has an unknown kind, or a read whose octets lie outside. Refused: STATE_COUNT, of n. */
+ * and count places for the answers; the octets of the reads and imports are parts of octets. The answer of each call is put at its
+ * place: a call of the list that is refused leaves the plan as it is, and the list goes on.
+ * CALLPLAN_NO_CALLS where the list has an unknown kind, or a read or import whose octets lie outside. Refused: STATE_COUNT, of n. */
 CALLPLAN_ANSWERS callplan_replay(callplan_plan *plan, size_t n, const uint8_t *kinds, const size_t *arguments,
                                               size_t count, const uint8_t *octets, size_t length, uint32_t *answers,
                                               callplan_quotations *quotations)
@@ -423,8 +460,8 @@ CALLPLAN_ANSWERS callplan_replay(callplan_plan *plan, size_t n, const uint8_t *k
 }
 
 /* ---- What a plan holds. Of states and transitions that it does not have there are zeros. Places of its arrays past the counts hold what
- * was left there, by an unjoin or a smaller image: they are no part of the plan, so memcmp does not tell whether two plans are equal, and a
- * plan that is stored as it lies in memory carries old data. */
+ * was left there, by an unjoin or a smaller image or text: they are no part of the plan, so memcmp does not tell whether two plans are
+ * equal, and a plan that is stored as it lies in memory carries old data. */
 
 static inline size_t callplan_states(const callplan_plan *plan)
 {

@@ -1,9 +1,10 @@
-//! A second call plan calculator, written from document 01 alone.
+//! A second call plan calculator, written from documents 01 and 02 alone.
 //!
-//! It states the rules once more, in plain Rust: what a plan is, the calls on it, the image both
-//! ways, the four figures with the walks shown, the record, and the refusals. The tests compare it
-//! with the proved library.
+//! It states the rules once more, in plain Rust: what a plan is, the calls on it, the image and the
+//! Aldebaran text both ways, the four figures with the walks shown, the record, and the refusals.
+//! The tests compare it with the proved library.
 
+pub mod aldebaran;
 pub mod bits;
 pub mod check;
 pub mod figure;

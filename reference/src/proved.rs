@@ -18,7 +18,7 @@ pub const FIELDS: usize = 4 * MAX_TRANSITIONS;
 pub const NO_CALLS: u32 = 254;
 /// The answer where the three slices of a plan have too few places: there is no plan to look at.
 pub const SHORT_SLICE: u32 = 255;
-/// The answer of an accepted call. Write and record add the length. A refusal is below 254.
+/// The answer of an accepted call. Write, export and record add the length. A refusal is below 254.
 pub const ACCEPTED: u32 = 256;
 
 /// Places of a quotation in `out`: the kind, the figure, k and j.
@@ -96,6 +96,28 @@ extern "C" {
     ) -> u32;
 
     fn callplan_lent_write(
+        counts: *const usize,
+        counts_len: usize,
+        marks: *const u8,
+        marks_len: usize,
+        fields: *const u16,
+        fields_len: usize,
+        buffer: *mut u8,
+        buffer_len: usize,
+    ) -> u32;
+
+    fn callplan_lent_import(
+        counts: *mut usize,
+        counts_len: usize,
+        marks: *mut u8,
+        marks_len: usize,
+        fields: *mut u16,
+        fields_len: usize,
+        text: *const u8,
+        text_len: usize,
+    ) -> u32;
+
+    fn callplan_lent_export(
         counts: *const usize,
         counts_len: usize,
         marks: *const u8,
@@ -331,6 +353,36 @@ impl LentPlan {
         }
     }
 
+    pub fn import(&mut self, text: &[u8]) -> u32 {
+        unsafe {
+            callplan_lent_import(
+                self.counts.as_mut_ptr(),
+                self.counts.len(),
+                self.marks.as_mut_ptr(),
+                self.marks.len(),
+                self.fields.as_mut_ptr(),
+                self.fields.len(),
+                text.as_ptr(),
+                text.len(),
+            )
+        }
+    }
+
+    pub fn export(&self, buffer: &mut [u8]) -> u32 {
+        unsafe {
+            callplan_lent_export(
+                self.counts.as_ptr(),
+                self.counts.len(),
+                self.marks.as_ptr(),
+                self.marks.len(),
+                self.fields.as_ptr(),
+                self.fields.len(),
+                buffer.as_mut_ptr(),
+                buffer.len(),
+            )
+        }
+    }
+
     /// Puts a plan within the limits into the slices. The places past its counts stay.
     pub fn hold(&mut self, plan: &Plan) {
         self.counts[..COUNTS].copy_from_slice(&[plan.marks.len(), plan.transitions.len()]);
@@ -417,7 +469,7 @@ impl LentPlan {
 }
 
 /// A list of calls, as it is lent: for each call a kind and four arguments, and the octets of the
-/// reads.
+/// reads and imports.
 #[derive(Clone, Debug, Default, PartialEq, Eq)]
 pub struct LentCalls {
     pub kinds: Vec<u8>,

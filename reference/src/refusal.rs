@@ -31,6 +31,10 @@ pub enum Refusal {
     MarksValue = 12,
     /// A figure of the record is above 1,048,575.
     FigureSize = 13,
+    /// The plan has not exactly one start.
+    StartCount = 14,
+    /// The text is off the form of Aldebaran text.
+    TextForm = 15,
 }
 
 impl Refusal {

@@ -1,9 +1,13 @@
-//! The reference calculator by itself, held to the text of document 01. Needs no proved library.
+//! The reference calculator by itself, held to the text of documents 01 and 02. Needs no proved
+//! library.
 
+mod texts;
 mod vectors;
 
+use reference::aldebaran;
 use reference::image::{decode, encode};
 use reference::{Plan, Refusal, Transition};
+use texts::{edges, ACCEPTED, P1_TEXT};
 use vectors::P1;
 
 fn transition(from: usize, to: usize, low: u32, high: u32) -> Transition {
@@ -96,6 +100,8 @@ fn numbers_are_those_of_the_table() {
         Refusal::BufferTooShort,
         Refusal::MarksValue,
         Refusal::FigureSize,
+        Refusal::StartCount,
+        Refusal::TextForm,
     ];
     for (number, refusal) in (0..).zip(table) {
         assert_eq!(refusal.number(), number);
@@ -251,10 +257,14 @@ fn a_plan_past_a_limit_is_refused_first() {
         assert_eq!(plan.unjoin(3000), Err(Refusal::BrokenPlan));
         assert_eq!(plan.read(&[]), Err(Refusal::BrokenPlan));
         assert_eq!(plan.read(&P1), Err(Refusal::BrokenPlan));
-        let mut buffer = [0xAA; 40];
+        assert_eq!(plan.import(&[]), Err(Refusal::BrokenPlan));
+        assert_eq!(plan.import(P1_TEXT.as_bytes()), Err(Refusal::BrokenPlan));
+        let mut buffer = [0xAA; 100];
         assert_eq!(plan.write(&mut buffer[..0]), Err(Refusal::BrokenPlan));
         assert_eq!(plan.write(&mut buffer), Err(Refusal::BrokenPlan));
-        assert_eq!(buffer, [0xAA; 40]);
+        assert_eq!(plan.export(&mut buffer[..0]), Err(Refusal::BrokenPlan));
+        assert_eq!(plan.export(&mut buffer), Err(Refusal::BrokenPlan));
+        assert_eq!(buffer, [0xAA; 100]);
         assert_eq!(plan, was);
     }
 }
@@ -272,4 +282,71 @@ fn the_largest_plan_goes_both_ways() {
     assert_eq!(octets.len(), 4 + 512 + 5 * 2048);
     assert_eq!(octets[..4], [0x18, 0x02, 0x00, 0x00]);
     assert_eq!(read_over_p1(&octets), Ok(plan));
+}
+
+#[test]
+fn p1_is_exported_and_imported_without_its_other_marks() {
+    assert_eq!(aldebaran::encode(&p1()).as_deref(), Ok(P1_TEXT));
+    let imported = aldebaran::decode(P1_TEXT.as_bytes()).unwrap();
+    assert_eq!(imported.marks, [4, 0, 0, 0]);
+    assert_eq!(imported.transitions, p1().transitions);
+    assert_eq!(imported, p1().stripped());
+    assert_eq!(aldebaran::encode(&imported).as_deref(), Ok(P1_TEXT));
+}
+
+#[test]
+fn texts_at_the_edges_are_answered_by_their_number() {
+    for (text, answer) in edges() {
+        let mut plan = p1();
+        let shown = String::from_utf8_lossy(&text[..text.len().min(120)]);
+        let number = match plan.import(&text) {
+            Ok(()) => {
+                let written = aldebaran::encode(&plan).map(String::into_bytes);
+                assert_eq!(written, Ok(text.clone()), "{shown:?}");
+                ACCEPTED
+            }
+            Err(refusal) => {
+                assert_eq!(plan, p1(), "{shown:?}");
+                refusal.number()
+            }
+        };
+        assert_eq!(number, answer, "{shown:?}");
+    }
+}
+
+#[test]
+fn export_needs_one_start_and_then_the_texts_length() {
+    let length = P1_TEXT.len();
+    let mut buffer = vec![0xAA; length + 2];
+    for marks in [0, 1, 2, 3] {
+        let mut plan = p1();
+        plan.mark(0, marks).unwrap();
+        assert_eq!(plan.export(&mut buffer[..0]), Err(Refusal::StartCount));
+        assert_eq!(plan.export(&mut buffer), Err(Refusal::StartCount));
+    }
+    let mut plan = p1();
+    plan.mark(3, 6).unwrap();
+    assert_eq!(plan.export(&mut buffer[..0]), Err(Refusal::StartCount));
+    assert_eq!(plan.export(&mut buffer), Err(Refusal::StartCount));
+    for lent in [0, 1, length - 1] {
+        let answer = p1().export(&mut buffer[..lent]);
+        assert_eq!(answer, Err(Refusal::BufferTooShort));
+    }
+    assert!(buffer.iter().all(|&octet| octet == 0xAA));
+    assert_eq!(p1().export(&mut buffer), Ok(length));
+    assert_eq!(&buffer[..length], P1_TEXT.as_bytes());
+    assert_eq!(buffer[length..], [0xAA; 2]);
+    assert_eq!(p1().export(&mut buffer[..length]), Ok(length));
+}
+
+#[test]
+fn the_initial_state_is_the_start_wherever_it_is() {
+    let mut plan = p1();
+    plan.mark(0, 3).unwrap();
+    plan.mark(3, 7).unwrap();
+    let text = aldebaran::encode(&plan).unwrap();
+    assert_eq!(text, P1_TEXT.replacen("des (0", "des (3", 1));
+    let imported = aldebaran::decode(text.as_bytes()).unwrap();
+    assert_eq!(imported.marks, [0, 0, 0, 4]);
+    assert_eq!(imported, plan.stripped());
 }

@@ -9,6 +9,7 @@ use std::hint::black_box;
 use std::ptr::null_mut;
 use std::slice;
 
+use reference::aldebaran;
 use reference::image::{encode, length};
 #[cfg(feature = "quotations")]
 use reference::proved::{quote, replay, LentCalls, OUT, WALKS};
@@ -16,7 +17,7 @@ use reference::proved::{LentPlan, ACCEPTED};
 use reference::rng::print;
 #[cfg(feature = "quotations")]
 use reference::{quotation::RECORD_OCTETS, Figure, FIGURES};
-use reference::{Plan, Transition, MAX_STATES, MAX_TRANSITIONS};
+use reference::{Plan, Refusal, Transition, MAX_STATES, MAX_TRANSITIONS};
 
 const STACK: usize = 1 << 20;
 const LIMIT: usize = 96 << 10;
@@ -144,6 +145,16 @@ fn every_call_stays_within_the_limit() {
     let read = most(|mut lent, plan| lent.read(&encode(plan)));
     let from_image = most(|mut lent, plan| lent.make(&encode(plan)));
     let write = most(|lent, _| lent.write(&mut vec![0; length(MAX_STATES, MAX_TRANSITIONS)]));
+    let import = most(|mut lent, plan| match aldebaran::encode(plan) {
+        Ok(text) => {
+            // Off the form by its last octet, and then the whole text.
+            let off = lent.import(&text.as_bytes()[..text.len() - 1]);
+            assert_eq!(off, Refusal::TextForm.number());
+            lent.import(text.as_bytes())
+        }
+        Err(refusal) => refusal.number(),
+    });
+    let export = most(|lent, _| lent.export(&mut vec![0; 1 << 16]));
     #[cfg_attr(not(feature = "quotations"), allow(unused_mut))]
     let mut depths = vec![
         ("fresh", fresh),
@@ -153,6 +164,8 @@ fn every_call_stays_within_the_limit() {
         ("read", read),
         ("from_image", from_image),
         ("write", write),
+        ("import", import),
+        ("export", export),
     ];
     #[cfg(feature = "quotations")]
     depths.extend(quotations());
@@ -175,17 +188,21 @@ fn quotations() -> Vec<(&'static str, usize)> {
     let record = most(|lent, _| lent.record(&mut [0; RECORD_OCTETS]));
     let quote = most(|_, plan| quote(&encode(plan), &mut vec![0; WALKS], &mut [0; 4 * OUT]));
     let replay = most(|mut lent, plan| {
-        // A call of each kind: the image is read, a transition goes, one comes, and a state is marked.
-        let octets = encode(plan);
-        let mut arguments = vec![0; 16];
-        arguments[1] = octets.len();
+        // A call of each kind: the text is imported, the image is read, a transition goes, one comes,
+        // and a state is marked.
+        let text = aldebaran::encode(plan).unwrap_or_default();
+        let image = encode(plan);
+        let octets = [text.as_bytes(), &image].concat();
+        let mut arguments = vec![0; 20];
+        arguments[1] = text.len();
+        arguments[4..6].copy_from_slice(&[text.len(), octets.len()]);
         let calls = LentCalls {
-            kinds: vec![3, 2, 1, 0],
+            kinds: vec![4, 3, 2, 1, 0],
             arguments,
             octets,
         };
         let (mut walks, mut out) = (vec![0; WALKS], [0; 4 * OUT]);
-        replay(1, &calls, &mut [0; 4], &mut lent, &mut walks, &mut out)
+        replay(1, &calls, &mut [0; 5], &mut lent, &mut walks, &mut out)
     });
     depths.extend([("record", record), ("quote", quote), ("replay", replay)]);
     depths

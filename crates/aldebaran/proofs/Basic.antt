@@ -9,7 +9,7 @@ use Rattle.aldebaran.specs.Text.{Holding, firstForm, lineForm, lineText,
 
 -- two states and a transition, in two lines
 abbrev pub small : Holding
-small = record { initial = 0; states = 2; lines = record { from = 0; low = 5; high = 20; to = 1 } ∷ [] }
+small = record { initial = 0; states = 2; transitions = record { from = 0; to = 1; low = 5; high = 20 } ∷ [] }
 
 pub small-text : textOf small ≡ octets "des (0, 1, 2)\n(0, \"5..20\", 1)\n"
 unfolding octets leading digits written firstForm lineForm lineText linesText textOf
@@ -20,7 +20,7 @@ unfolding octets valueAfter value andThen readWord isDigit front isNumeral readN
 small-read = refl
 
 -- "a number of any length is on form": a state count past every machine word
-pub long-read : readText (octets "des (0, 0, 18446744073709551616)\n") ≡ on (record { initial = 0; states = 18446744073709551616; lines = [] }) []
+pub long-read : readText (octets "des (0, 0, 18446744073709551616)\n") ≡ on (record { initial = 0; states = 18446744073709551616; transitions = [] }) []
 unfolding octets valueAfter value andThen readWord isDigit front isNumeral readNumber readForm firstForm lineForm readLines whole readText
 long-read = refl
 

@@ -9,21 +9,22 @@ use native.Mathlib.Omega.{arith}
 use borrow.Author.Tests.{eqb-true, eq-eqb}
 use lib.Dec.{eqb}
 use lib.ListN.{length, getD}
+use Rattle.graph.specs.Graph.{Transition}
 use Rattle.text.specs.Text.{octets, digits}
 use Rattle.aldebaran.specs.Form.{Piece, word, number, numbers, written, Reading, off, on, andThen, readWord, readNumber, readForm, isDigit, noDigit, parted}
-use Rattle.aldebaran.specs.Text.{Line, Holding, firstForm, lineForm, numbersOf, lineOf, lineText, linesText, textOf, readLines, whole, readText}
+use Rattle.aldebaran.specs.Text.{Holding, firstForm, lineForm, numbersOf, transitionOf, lineText, linesText, textOf, readLines, whole, readText}
 use Rattle.aldebaran.proofs.Numbers.{on-got, on-rest, off-not-on, number-read, number-written}
 
 -- ---- one thing after another
 
 -- where the whole was read, so was each part
-record Both {A B : Type 0} (r : Reading A) (f : A → List ℕ → Reading B) (b : B) (rest : List ℕ) : Type 0 where
-  first : A
-  between : List ℕ
-  read-first : r ≡ on first between
-  read-then : f first between ≡ on b rest
+pub record Both {A B : Type 0} (r : Reading A) (f : A → List ℕ → Reading B) (b : B) (rest : List ℕ) : Type 0 where
+  pub first : A
+  pub between : List ℕ
+  pub read-first : r ≡ on first between
+  pub read-then : f first between ≡ on b rest
 
-both : {A B : Type 0} (r : Reading A) (f : A → List ℕ → Reading B) (b : B) (rest : List ℕ) → andThen r f ≡ on b rest → Both r f b rest
+pub both : {A B : Type 0} (r : Reading A) (f : A → List ℕ → Reading B) (b : B) (rest : List ℕ) → andThen r f ≡ on b rest → Both r f b rest
 unfolding andThen
 both off f b rest e = absurd (off-not-on e)
 both (on a xs) f b rest e = record { first = a; between = xs; read-first = refl; read-then = e }
@@ -118,8 +119,8 @@ first-numbers : numbers firstForm ≡ 3
 unfolding numbers firstForm
 first-numbers = refl
 
--- four numbers are those of their line
-line-is : (ns : List ℕ) → length ns ≡ 4 → numbersOf (lineOf ns) ≡ ns
+-- four numbers are those of their transition
+line-is : (ns : List ℕ) → length ns ≡ 4 → numbersOf (transitionOf ns) ≡ ns
 line-is [] e = absurd (omega arith)
 line-is (a ∷ []) e = absurd (omega arith)
 line-is (a ∷ b ∷ []) e = absurd (omega arith)
@@ -134,7 +135,7 @@ three-is (a ∷ b ∷ []) e = absurd (omega arith)
 three-is (a ∷ b ∷ c ∷ []) e = refl
 three-is (a ∷ b ∷ c ∷ d ∷ ns) e = absurd (omega arith)
 
-lines-read : (ls : List Line) (tail : List ℕ) → readLines (length ls) (linesText ls ++ tail) ≡ on ls tail
+lines-read : (ls : List Transition) (tail : List ℕ) → readLines (length ls) (linesText ls ++ tail) ≡ on ls tail
 unfolding andThen lineText linesText readLines
 lines-read [] tail = refl
 lines-read (l ∷ ls) tail =
@@ -144,12 +145,12 @@ lines-read (l ∷ ls) tail =
       lines-read ls tail,
     ) refl
 
-record LinesWritten (m : ℕ) (xs : List ℕ) (ls : List Line) (rest : List ℕ) : Type 0 where
-  as-many : length ls ≡ m
-  text : xs ≡ linesText ls ++ rest
+pub record LinesWritten (m : ℕ) (xs : List ℕ) (ls : List Transition) (rest : List ℕ) : Type 0 where
+  pub as-many : length ls ≡ m
+  pub text : xs ≡ linesText ls ++ rest
 
-line-more : (m : ℕ) (xs ns between : List ℕ) (ks : List Line) (end : List ℕ) (ls : List Line) (rest : List ℕ) → numbersOf (lineOf ns) ≡ ns → xs ≡ written lineForm ns ++ between
-    → LinesWritten m between ks end → lineOf ns ∷ ks ≡ ls → end ≡ rest → LinesWritten (suc m) xs ls rest
+line-more : (m : ℕ) (xs ns between : List ℕ) (ks : List Transition) (end : List ℕ) (ls : List Transition) (rest : List ℕ) → numbersOf (transitionOf ns) ≡ ns → xs ≡ written lineForm ns ++ between
+    → LinesWritten m between ks end → transitionOf ns ∷ ks ≡ ls → end ≡ rest → LinesWritten (suc m) xs ls rest
 unfolding lineText linesText
 line-more m xs ns between ks end ls rest four line w all same = rw (← all) (record {
   as-many = ap suc (w .as-many);
@@ -157,14 +158,14 @@ line-more m xs ns between ks end ls rest four line w all same = rw (← all) (re
       ∙ sym (append-assoc (written lineForm ns) (linesText ks) rest) ∙ ap (λ (l : List ℕ). written lineForm l ++ linesText ks ++ rest) (sym four);
 })
 
-lines-written : (m : ℕ) (xs : List ℕ) (ls : List Line) (rest : List ℕ) → readLines m xs ≡ on ls rest → LinesWritten m xs ls rest
+pub lines-written : (m : ℕ) (xs : List ℕ) (ls : List Transition) (rest : List ℕ) → readLines m xs ≡ on ls rest → LinesWritten m xs ls rest
 unfolding andThen lineText linesText readLines
 lines-written zero xs ls rest e = rw (← on-got e) (record { as-many = refl; text = on-rest e })
 lines-written (suc m) xs ls rest e =
-    let b = both (readForm lineForm xs) (λ ns r. andThen (readLines m r) (λ ks r′. on (lineOf ns ∷ ks) r′)) ls rest e in
-    let c = both (readLines m (b .between)) (λ ks r′. on (lineOf (b .first) ∷ ks) r′) ls rest (b .read-then) in
+    let b = both (readForm lineForm xs) (λ ns r. andThen (readLines m r) (λ ks r′. on (transitionOf ns ∷ ks) r′)) ls rest e in
+    let c = both (readLines m (b .between)) (λ ks r′. on (transitionOf (b .first) ∷ ks) r′) ls rest (b .read-then) in
     let w = lines-written m (b .between) (c .first) (c .between) (c .read-first) in
-    let four : numbersOf (lineOf (b .first)) ≡ b .first = line-is (b .first) (form-numbers lineForm xs (b .first) (b .between) (b .read-first) ∙ line-numbers) in
+    let four : numbersOf (transitionOf (b .first)) ≡ b .first = line-is (b .first) (form-numbers lineForm xs (b .first) (b .between) (b .read-first) ∙ line-numbers) in
     line-more m xs (b .first) (b .between) (c .first) (c .between) ls rest four (form-written lineForm xs (b .first) (b .between) (b .read-first)) w
     (on-got (c .read-then)) (on-rest (c .read-then))
 
@@ -173,9 +174,9 @@ lines-written (suc m) xs ls rest e =
 pub text-read : (h : Holding) → readText (textOf h) ≡ on h []
 unfolding andThen textOf whole readText
 text-read h =
-    let ns : List ℕ = h .initial ∷ length (h .lines) ∷ h .states ∷ [] in
-    let lines : readLines (length (h .lines)) (linesText (h .lines)) ≡ on (h .lines) [] = rw (append-nil (linesText (h .lines))) at (lines-read (h .lines) []) in
-    rw (form-read firstForm ns (linesText (h .lines)) first-parted (sym first-numbers), lines) refl
+    let ns : List ℕ = h .initial ∷ length (h .transitions) ∷ h .states ∷ [] in
+    let lines : readLines (length (h .transitions)) (linesText (h .transitions)) ≡ on (h .transitions) [] = rw (append-nil (linesText (h .transitions))) at (lines-read (h .transitions) []) in
+    rw (form-read firstForm ns (linesText (h .transitions)) first-parted (sym first-numbers), lines) refl
 
 whole-is : {A : Type 0} (a b : A) (xs rest : List ℕ) → whole a xs ≡ on b rest → (a ≡ b) × (xs ≡ [])
 unfolding whole
@@ -183,8 +184,8 @@ whole-is a b [] rest e = (on-got e, refl)
 whole-is a b (x ∷ xs) rest e = absurd (off-not-on e)
 
 -- the first line's numbers, and as many lines as the second of them says
-put-together : (ns : List ℕ) (ls : List Line) (after end : List ℕ) (h : Holding) → getD ns 0 0 ∷ getD ns 1 0 ∷ getD ns 2 0 ∷ [] ≡ ns → length ls ≡ getD ns 1 0
-    → after ≡ linesText ls ++ end → end ≡ [] → record { initial = getD ns 0 0; states = getD ns 2 0; lines = ls } ≡ h → written firstForm ns ++ after ≡ textOf h
+put-together : (ns : List ℕ) (ls : List Transition) (after end : List ℕ) (h : Holding) → getD ns 0 0 ∷ getD ns 1 0 ∷ getD ns 2 0 ∷ [] ≡ ns → length ls ≡ getD ns 1 0
+    → after ≡ linesText ls ++ end → end ≡ [] → record { initial = getD ns 0 0; states = getD ns 2 0; transitions = ls } ≡ h → written firstForm ns ++ after ≡ textOf h
 unfolding textOf
 put-together ns ls after end h three many text nothing held =
     let lines : after ≡ linesText ls = text ∙ ap (λ (l : List ℕ). linesText ls ++ l) nothing ∙ append-nil (linesText ls) in
@@ -195,11 +196,11 @@ pub text-written : (xs : List ℕ) (h : Holding) (rest : List ℕ) → readText 
 unfolding andThen textOf readText
 text-written xs h rest e =
     let b = both (readForm firstForm xs) (λ ns r. andThen (readLines (getD ns 1 0) r)
-    (λ ls r′. whole (record { initial = getD ns 0 0; states = getD ns 2 0; lines = ls }) r′)) h rest e in
+    (λ ls r′. whole (record { initial = getD ns 0 0; states = getD ns 2 0; transitions = ls }) r′)) h rest e in
     let ns = b .first in
-    let c = both (readLines (getD ns 1 0) (b .between)) (λ ls r′. whole (record { initial = getD ns 0 0; states = getD ns 2 0; lines = ls }) r′) h rest (b .read-then) in
+    let c = both (readLines (getD ns 1 0) (b .between)) (λ ls r′. whole (record { initial = getD ns 0 0; states = getD ns 2 0; transitions = ls }) r′) h rest (b .read-then) in
     let w = lines-written (getD ns 1 0) (b .between) (c .first) (c .between) (c .read-first) in
-    let (held, nothing) = whole-is (record { initial = getD ns 0 0; states = getD ns 2 0; lines = c .first }) h (c .between) rest (c .read-then) in
+    let (held, nothing) = whole-is (record { initial = getD ns 0 0; states = getD ns 2 0; transitions = c .first }) h (c .between) rest (c .read-then) in
     let three : getD ns 0 0 ∷ getD ns 1 0 ∷ getD ns 2 0 ∷ [] ≡ ns = three-is ns (form-numbers firstForm xs ns (b .between) (b .read-first) ∙ first-numbers) in
     form-written firstForm xs ns (b .between) (b .read-first)
     ∙ put-together ns (c .first) (b .between) (c .between) h three (w .as-many) (w .text) nothing held

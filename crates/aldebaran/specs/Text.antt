@@ -2,21 +2,15 @@
 use Prim.Native.Nat.{ℕ, zero, suc}
 use mathlib.Core.List.{List, [], _∷_, _++_}
 use lib.ListN.{length, getD}
+use Rattle.graph.specs.Graph.{Transition}
 use Rattle.text.specs.Text.{octets}
 use Rattle.aldebaran.specs.Form.{Piece, word, number, written, Reading, off, on, andThen, readForm}
 
--- what a later line holds: a transition, with numbers of any size
-pub record Line : Type 0 where
-  pub from : ℕ
-  pub low : ℕ
-  pub high : ℕ
-  pub to : ℕ
-
--- what a text holds; the transition count is the number of its lines
+-- what a text holds, numbers of any size: a transition for each later line, so the transition count is their number
 pub record Holding : Type 0 where
   pub initial : ℕ
   pub states : ℕ
-  pub lines : List Line
+  pub transitions : List Transition
 
 -- "The first line is `des (` then the initial state, the transition count and the state count, separated by a comma and a space, and `)`"
 unfoldable pub firstForm : List Piece
@@ -27,32 +21,32 @@ unfoldable pub lineForm : List Piece
 lineForm =
     word (octets "(") ∷ number ∷ word (octets ", \"") ∷ number ∷ word (octets "..") ∷ number ∷ word (octets "\", ") ∷ number ∷ word (octets ")\n") ∷ []
 
--- the numbers of a line in their order, and the line of four numbers
-abbrev pub numbersOf : Line → List ℕ
-numbersOf l = l .from ∷ l .low ∷ l .high ∷ l .to ∷ []
+-- the numbers of a line in their order, and the transition of four numbers
+abbrev pub numbersOf : Transition → List ℕ
+numbersOf t = t .from ∷ t .low ∷ t .high ∷ t .to ∷ []
 
-abbrev pub lineOf : List ℕ → Line
-lineOf ns = record { from = getD ns 0 0; low = getD ns 1 0; high = getD ns 2 0; to = getD ns 3 0 }
+abbrev pub transitionOf : List ℕ → Transition
+transitionOf ns = record { from = getD ns 0 0; low = getD ns 1 0; high = getD ns 2 0; to = getD ns 3 0 }
 
 -- ---- writing
 
-unfoldable pub lineText : Line → List ℕ
-lineText l = written lineForm (numbersOf l)
+unfoldable pub lineText : Transition → List ℕ
+lineText t = written lineForm (numbersOf t)
 
-unfoldable pub linesText : List Line → List ℕ
+unfoldable pub linesText : List Transition → List ℕ
 linesText [] = []
-linesText (l ∷ ls) = lineText l ++ linesText ls
+linesText (t ∷ ts) = lineText t ++ linesText ts
 
 -- the text of what it holds
 unfoldable pub textOf : Holding → List ℕ
-textOf h = written firstForm (h .initial ∷ length (h .lines) ∷ h .states ∷ []) ++ linesText (h .lines)
+textOf h = written firstForm (h .initial ∷ length (h .transitions) ∷ h .states ∷ []) ++ linesText (h .transitions)
 
 -- ---- reading
 
 -- so many lines
-unfoldable pub readLines : ℕ → List ℕ → Reading (List Line)
+unfoldable pub readLines : ℕ → List ℕ → Reading (List Transition)
 readLines zero xs = on [] xs
-readLines (suc n) xs = andThen (readForm lineForm xs) (λ ns rest. andThen (readLines n rest) (λ ls rest′. on (lineOf ns ∷ ls) rest′))
+readLines (suc n) xs = andThen (readForm lineForm xs) (λ ns rest. andThen (readLines n rest) (λ ts rest′. on (transitionOf ns ∷ ts) rest′))
 
 -- nothing may follow the last line: "Text off this form, its count of lines included, is 15"
 unfoldable pub whole : {A : Type 0} → A → List ℕ → Reading A
@@ -64,4 +58,4 @@ unfoldable pub readText : List ℕ → Reading Holding
 readText xs =
     andThen (readForm firstForm xs)
     (λ ns rest. andThen (readLines (getD ns 1 0) rest)
-    (λ ls rest′. whole (record { initial = getD ns 0 0; states = getD ns 2 0; lines = ls }) rest′))
+    (λ ts rest′. whole (record { initial = getD ns 0 0; states = getD ns 2 0; transitions = ts }) rest′))

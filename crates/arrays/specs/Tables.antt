@@ -36,6 +36,23 @@ pub record Later (k : ℕ) (before after : List ℕ) : Type 0 where
   pub room : k ≤ length after
   pub same : drop k after ≡ drop k before
 
+-- the four fields of transitions, in arrays
+pub record Fields : Type 0 where
+  pub from : List ℕ
+  pub to : List ℕ
+  pub low : List ℕ
+  pub high : List ℕ
+
+abbrev pub fields : List ℕ → List ℕ → List ℕ → List ℕ → Fields
+fields from to low high = record { from = from; to = to; low = low; high = high }
+
+-- "later places stay", in each of them
+pub record LaterFields (m : ℕ) (before after : Fields) : Type 0 where
+  pub from : Later m (before .from) (after .from)
+  pub to : Later m (before .to) (after .to)
+  pub low : Later m (before .low) (after .low)
+  pub high : Later m (before .high) (after .high)
+
 -- a list at the front of an array, and every later place as it was
 abbrev pub over : List ℕ → List ℕ → List ℕ
 over xs before = xs ++ drop (length xs) before

@@ -1,27 +1,28 @@
 // The calculator for programs in other languages: each function hands on to one of a crate below. A plan crosses as three lent slices: the two counts; the
 // marks values, 512 places; and the transitions' fields, 2,048 places each for from, to, low and high. A call answers a refusal by its number and 256 for
-// accepted; write and record answer 256 plus the octets' number. 255 is no number of the table: the three slices are too short to hold a plan, so there is
+// accepted; write, export and record answer 256 plus the octets' number. 255 is no number of the table: the three slices are too short to hold a plan, so there is
 // none to look at. A quotation answers in four more lent places: the figure's kind (0 number, 1 NONE, 2 STRANDED, 3 ENDLESS) and number, k and j; too few of
 // these or for a walk are 11. One call takes no plan: an image in, its four figures out. Another takes a list of calls, and answers 254 where the slices are none.
 ghost use mathlib.Core.Path.{_≡_};
 ghost use Rattle.arrays.specs.Tables.{transition};
 ghost use Rattle.edits.specs.Lent.{LentFresh, LentHeld, LentTurn};
 ghost use Rattle.graph.specs.declared.Which.the-variants.{LeastDelay, GreatestDelay, LeastCount, GreatestCount};
-ghost use Rattle.lent.specs.declared.Content.the-variants.{Image, Record};
+ghost use Rattle.lent.specs.declared.Content.the-variants.{Image, Record, Text};
 ghost use Rattle.lent.specs.Quoted.{LentQuote, LentQuotes};
 ghost use Rattle.lent.specs.Written.{LentFill};
 ghost use Rattle.replay.specs.Replayed.{LentReplay, places};
-ghost use Rattle.rules.specs.Calls.{mark, join, unjoin, read};
+ghost use Rattle.rules.specs.Calls.{mark, join, unjoin, read, import};
 ghost use Rattle.slices.specs.Lent.{slices};
 use graph::Which;
 use lent::Content;
+use rules::Format;
 
 // The version of the archive: 10,000 times the first number, 100 times the second, and the third.
 #[no_mangle]
 pub extern "C" fn callplan_lent_version() -> u32
-    ensures { λ r. ⌜ r ≡ 200 ⌝ }
+    ensures { λ r. ⌜ r ≡ 300 ⌝ }
 {
-    200
+    300
 }
 
 // A fresh plan with n states.
@@ -119,7 +120,7 @@ pub extern "C" fn callplan_lent_read(
         (slices (now (counts .exit)) (now (marks .exit)) (now (fields .exit)))
         (read (now (octets .entry))) r ⌝ }
 {
-    edits::read(counts, marks, fields, octets)
+    edits::replace(Format::Image, counts, marks, fields, octets)
 }
 
 // Puts the image at the front of the buffer.
@@ -134,6 +135,36 @@ pub extern "C" fn callplan_lent_write(
         (now (buffer .entry)) (now (buffer .exit)) r ⌝ }
 {
     lent::fill(Content::Image, counts, marks, fields, buffer)
+}
+
+// Imports a text.
+#[no_mangle]
+pub extern "C" fn callplan_lent_import(
+    counts: &mut [usize],
+    marks: &mut [u8],
+    fields: &mut [u16],
+    text: &[u8],
+) -> u32
+    ensures { λ r. ⌜ LentTurn
+        (slices (now (counts .entry)) (now (marks .entry)) (now (fields .entry)))
+        (slices (now (counts .exit)) (now (marks .exit)) (now (fields .exit)))
+        (import (now (text .entry))) r ⌝ }
+{
+    edits::replace(Format::Text, counts, marks, fields, text)
+}
+
+// Puts the plan's text at the front of the buffer.
+#[no_mangle]
+pub extern "C" fn callplan_lent_export(
+    counts: &[usize],
+    marks: &[u8],
+    fields: &[u16],
+    buffer: &mut [u8],
+) -> u32
+    ensures { λ r. ⌜ LentFill Text (slices (now (counts .entry)) (now (marks .entry)) (now (fields .entry)))
+        (now (buffer .entry)) (now (buffer .exit)) r ⌝ }
+{
+    lent::fill(Content::Text, counts, marks, fields, buffer)
 }
 
 // The least delay, with a route that attains it.
@@ -224,7 +255,7 @@ pub extern "C" fn callplan_lent_quote(octets: &[u8], walks: &mut [u16], out: &mu
 }
 
 // Makes a list of calls in turn from a fresh plan of n states, stores the plan after it, and quotes its four figures. A call is a kind (0 mark, 1 join,
-// 2 unjoin, 3 read) and four arguments; a read's are the start and the end of its octets. Each call has a place for its answer.
+// 2 unjoin, 3 read, 4 import) and four arguments; those of a read or an import are the start and the end of its octets. Each call has a place for its answer.
 // Ten slices and numbers: the list is three of them, the plan three.
 #[no_mangle]
 pub extern "C" fn callplan_lent_replay(

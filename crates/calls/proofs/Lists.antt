@@ -1,4 +1,4 @@
--- Every list of calls has such slices: its kinds, four arguments for each, and the octets of its reads one after another. So what replay promises
+-- Every list of calls has such slices: its kinds, four arguments for each, and the octets of its reads and imports one after another. So what replay promises
 -- is said of every list. Assumes nothing.
 use mathlib.Core.Bool.{true}
 use mathlib.Core.List.{List, [], _∷_, _++_, append-assoc}
@@ -11,7 +11,7 @@ use lib.ListN.{length, getD, take, drop, length-append}
 use lib.Seq.{take-at, drop-at}
 use Rattle.rules.specs.Image.{tabulate}
 use Rattle.rules.proofs.Tabulated.{tabulate-same, all-tabulate}
-use Rattle.rules.specs.Calls.{Call, mark, join, unjoin, read}
+use Rattle.rules.specs.Calls.{Call, mark, join, unjoin, read, import}
 use Rattle.rules.specs.Limits.{stateCountOk}
 use Rattle.rules.specs.Refusal.{accepted}
 use Rattle.calls.specs.Rows.{replayRule}
@@ -23,12 +23,14 @@ item k (mark state value) = record { kind = 0; a = state; b = value; c = 0; d = 
 item k (join t) = record { kind = 1; a = t .from; b = t .to; c = t .low; d = t .high }
 item k (unjoin number) = record { kind = 2; a = number; b = 0; c = 0; d = 0 }
 item k (read octets) = record { kind = 3; a = k; b = k + length octets; c = 0; d = 0 }
+item k (import text) = record { kind = 4; a = k; b = k + length text; c = 0; d = 0 }
 
 octetsIn : Call → List ℕ
 octetsIn (mark state value) = []
 octetsIn (join t) = []
 octetsIn (unjoin number) = []
 octetsIn (read octets) = octets
+octetsIn (import text) = text
 
 -- the three slices of a list whose octets stand behind the first k
 kindsOf : ℕ → List Call → List ℕ
@@ -66,18 +68,23 @@ unfolding tabulate
 tabulate-front-one zero f = refl
 tabulate-front-one {A} (suc n) f = ap {B = List A} (λ (l : List A). l ++ (f (suc n) ∷ [])) (tabulate-front-one n f)
 
+-- a part, wherever it stands
+part-back : (octets front rest : List ℕ) → take (length front + length octets - length front) (drop (length front) (front ++ octets ++ rest)) ≡ octets
+part-back octets front rest =
+    let k : ℕ = length front in
+    let m : k + length octets - k ≡ length octets = omega arith in
+    let d : drop k (front ++ octets ++ rest) ≡ octets ++ rest =
+    ap (λ (l : List ℕ). drop k l) (append-assoc front octets rest) ∙ drop-at front (octets ++ rest) k refl in
+    ap₂ (λ (x : ℕ) (l : List ℕ). take x l) m d ∙ take-at octets rest (length octets) refl
+
 -- an item's call, wherever its octets stand
 call-back : (call : Call) (front rest : List ℕ) → callIn (front ++ octetsIn call ++ rest) (item (length front) call) ≡ call
 unfolding item octetsIn
 call-back (mark state value) front rest = refl
 call-back (join t) front rest = refl
 call-back (unjoin number) front rest = refl
-call-back (read octets) front rest =
-    let k : ℕ = length front in
-    let m : k + length octets - k ≡ length octets = omega arith in
-    let d : drop k (front ++ octets ++ rest) ≡ octets ++ rest =
-    ap (λ (l : List ℕ). drop k l) (append-assoc front octets rest) ∙ drop-at front (octets ++ rest) k refl in
-    ap read (ap₂ (λ (x : ℕ) (l : List ℕ). take x l) m d ∙ take-at octets rest (length octets) refl)
+call-back (read octets) front rest = ap read (part-back octets front rest)
+call-back (import text) front rest = ap import (part-back text front rest)
 
 call-is : (call : Call) (k long : ℕ) → k + length (octetsIn call) ≤ long → isCall long (item k call) ≡ true
 unfolding item octetsIn
@@ -85,6 +92,7 @@ call-is (mark state value) k long h = refl
 call-is (join t) k long h = refl
 call-is (unjoin number) k long h = refl
 call-is (read octets) k long h = rw (le-leb k (k + length octets) (omega arith), le-leb (k + length octets) long h)
+call-is (import text) k long h = rw (le-leb k (k + length text) (omega arith), le-leb (k + length text) long h)
 
 -- ---- item by item
 

@@ -2,7 +2,7 @@
 // anything is written.
 ghost use mathlib.Core.Path.{_≡_};
 ghost use mathlib.Core.Bool.{_&&_, _||_};
-ghost use lib.Dec.{leb, ltb, eqb};
+ghost use lib.Dec.{leb, ltb};
 ghost use Prim.Native.Nat.{_≤_, _/_};
 ghost use lib.ListN.{length};
 ghost use Rattle.rules.specs.Image.{tabulate};
@@ -23,16 +23,12 @@ fn part_ok(start: usize, end: usize, long: usize) -> bool
 
 // Whether a kind and its first two arguments are a call's.
 fn is_call(kind: u8, a: usize, b: usize, long: usize) -> bool
-    ensures { λ r. ⌜ r ≡ (ltb kind 3 || (eqb kind 3 && (leb a b && leb b long))) ⌝ }
+    ensures { λ r. ⌜ r ≡ (ltb kind 3 || (ltb kind 5 && (leb a b && leb b long))) ⌝ }
 {
     if kind < 3 {
         return true;
     }
-    if kind == 3 {
-        part_ok(a, b, long)
-    } else {
-        false
-    }
+    if kind < 5 { part_ok(a, b, long) } else { false }
 }
 
 // Whether every item is a call.

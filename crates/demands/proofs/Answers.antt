@@ -28,6 +28,7 @@ use Rattle.rules.specs.declared.Quotations.the-variants.{Quoted as AllQuoted, R
 use Rattle.rules.specs.declared.Quote.{Quote}
 use Rattle.rules.specs.declared.Written.{Written}
 use Rattle.rules.specs.declared.Written.the-variants.{Length, Refused as NotWritten}
+use Rattle.rules.specs.Aldebaran.{exportText, exportRule}
 use Rattle.rules.specs.Calls.{step}
 use Rattle.rules.specs.Image.{image, imageRows, graphIn, readImage}
 use Rattle.rules.specs.Limits.{within}
@@ -56,6 +57,7 @@ published = record {
   helds = λ octets e. Edit noPlan (readImage octets) e;
   edits = λ p call e. Edit p (step (view p) call) e;
   writes = λ p before after w. Write (image (view p)) (writeRule (view p) before) before after w;
+  exports = λ p before after w. Write (exportText (view p)) (exportRule (view p) before) before after w;
   records = λ p before after w. Write (recordOctets (view p)) (recordRule (view p) before) before after w;
   quotes = λ which p before after q. Quotes which (view p) before after q;
   quotes-all = λ p before after q. QuotesAll (view p) before after q;
@@ -64,7 +66,7 @@ published = record {
 
 pub published-keeps : Promises published
 unfolding published
-published-keeps = record { freshes = λ x. x; helds = λ x. x; edits = λ x. x; writes = λ x. x; records = λ x. x; quotes = λ x. x; quotes-all = λ x. x; quotes-image = λ x. x }
+published-keeps = record { freshes = λ x. x; helds = λ x. x; edits = λ x. x; writes = λ x. x; exports = λ x. x; records = λ x. x; quotes = λ x. x; quotes-all = λ x. x; quotes-image = λ x. x }
 
 -- ---- edits
 
@@ -289,6 +291,7 @@ published-answers = record {
   helds = λ octets. edit-of noPlan (readImage octets);
   edits = λ p call. edit-of p (step (view p) call);
   writes = λ p before. write-of (image (view p)) before (writeRule (view p) before);
+  exports = λ p before. write-of (exportText (view p)) before (exportRule (view p) before);
   records = λ p before. write-of (recordOctets (view p)) before (recordRule (view p) before);
   quotes = λ which p before. quote-of which (view p) before;
   quotes-all = λ p before. all-of (view p) before;

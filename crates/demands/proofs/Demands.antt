@@ -20,7 +20,8 @@ use Rattle.rules.specs.declared.Quote.{Quote}
 use Rattle.rules.specs.declared.Refusal.{Refusal}
 use Rattle.rules.specs.declared.Refusal.the-variants.{PlanLimits}
 use Rattle.rules.specs.declared.Written.{Written}
-use Rattle.rules.specs.Calls.{Call, mark, join, unjoin, read, rowsOf, effectOf, step, runFresh}
+use Rattle.rules.specs.Aldebaran.{exportRows, exportRule}
+use Rattle.rules.specs.Calls.{Call, mark, join, unjoin, read, import, rowsOf, effectOf, step, runFresh}
 use Rattle.rules.specs.Image.{image, imageRows, graphIn, readImage}
 use Rattle.rules.specs.Limits.{within}
 use Rattle.rules.specs.Quotations.{saidQuotation, says, Stated, Write, quoteRows, quoteRule, allRule, heldRule, recordRows, recordRule}
@@ -40,7 +41,7 @@ use Rattle.plan.proofs.Promises.{no-plan, refused-keeps, fresh-run, accepted-wr
 use Rattle.demands.specs.Calculator.{Calculator, Promises, Answers, Listed}
 use Rattle.demands.specs.Calculator.{none as no-call, more as one-more}
 use Rattle.demands.specs.Demands.{Called, Given, Lent, Made, Demand1, Demand2, Demand3}
-use Rattle.demands.specs.Demands.{fresh, held, edit, write, recording, quote, all-four, all-of-image}
+use Rattle.demands.specs.Demands.{fresh, held, edit, write, export, recording, quote, all-four, all-of-image}
 use Rattle.demands.proofs.Agreement.{report-figures}
 
 -- a refused call that fills a lent buffer leaves it
@@ -56,11 +57,12 @@ module _ (c : Calculator) (keeps : Promises c) where
   -- ---- demand 1
 
   by-rows : {rows : List Row} {a : Result (Unit {0})} → Called c rows a → a ≡ first rows
-  unfolding freshRule readImage writeRule recordRule quoteRule allRule heldRule
+  unfolding freshRule readImage writeRule exportRule recordRule quoteRule allRule heldRule
   by-rows (fresh {n} x) = keeps .freshes x .answer ∙ answer-first (freshRows n) (freshGraph n)
   by-rows (held {octets} x) = keeps .helds x .answer ∙ answer-first (imageRows octets) (graphIn octets)
   by-rows (edit {p} {call} x) = keeps .edits x .answer ∙ answer-first (rowsOf (view p) call) (effectOf (view p) call)
   by-rows (write {p} {before} x) = ap answerOf (keeps .writes x .answer) ∙ answer-first (writeRows (view p) before) _
+  by-rows (export {p} {before} x) = ap answerOf (keeps .exports x .answer) ∙ answer-first (exportRows (view p) before) _
   by-rows (recording {p} {before} x) = ap answerOf (keeps .records x .answer) ∙ answer-first (recordRows (view p) before) _
   by-rows (quote {which} {p} {before} x) = keeps .quotes x .answer
   by-rows (all-four {p} {before} x) = keeps .quotes-all x .answer
@@ -75,7 +77,9 @@ module _ (c : Calculator) (keeps : Promises c) where
       go (join t) = rw w
       go (unjoin number) = rw w
       go (read octets) = rw w
+      go (import text) = rw w
   limits-first (write x) w = by-rows (write x) ∙ rw w
+  limits-first (export x) w = by-rows (export x) ∙ rw w
   limits-first (recording x) w = by-rows (recording x) ∙ rw w
   limits-first (quote x) w = by-rows (quote x) ∙ rw w
   limits-first (all-four x) w = by-rows (all-four x) ∙ rw w
@@ -86,6 +90,7 @@ module _ (c : Calculator) (keeps : Promises c) where
 
   stays : {before after : List ℕ} {a : Result (Unit {0})} (k : Refusal) → Lent c before after a → a ≡ refused k → after ≡ before
   stays k (write {p} {before} x) e = kept-buffer k (keeps .writes x) e
+  stays k (export {p} {before} x) e = kept-buffer k (keeps .exports x) e
   stays k (recording {p} {before} x) e = kept-buffer k (keeps .records x) e
   stays k (quote {which} {p} {before} x) e = keeps .quotes x .kept k (sym (keeps .quotes x .answer) ∙ e)
   stays k (all-four {p} {before} x) e = keeps .quotes-all x .kept k (sym (keeps .quotes-all x .answer) ∙ e)

@@ -10,3 +10,5 @@ pub mod Impostors
 pub mod Answers
 -- What an accepted record holds.
 pub mod Record
+-- Import and export.
+pub mod Exchange

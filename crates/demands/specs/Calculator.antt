@@ -1,7 +1,7 @@
 -- A calculator as its callers see it, and what is published of it.
 --
 -- What ties `Promises` to the code: each of its fields is, word for word, the `ensures` of public functions, all without a `requires`: of plan/src/lib.rt
--- `fresh`, `held`, `mark`, `join`, `unjoin`, `read` and `write`, of quotation/src/lib.rt `record`, `quote` with the four that hand on to it, `all` and `held`.
+-- `fresh`, `held`, `mark`, `join`, `unjoin`, `replace` (read and import), `write` and `export`, of quotation/src/lib.rt `record`, `quote` with the four that hand on to it, `all` and `held`.
 -- That each function meets its `ensures` is what the check of its crate proves; here it is the hypothesis. Assumes nothing.
 use mathlib.Core.List.{List, [], _∷_}
 use Prim.Native.Nat.{ℕ}
@@ -10,6 +10,7 @@ use Rattle.rules.specs.declared.Answer.{Answer}
 use Rattle.rules.specs.declared.Quotation.{Quotation}
 use Rattle.rules.specs.declared.Quotations.{Quotations}
 use Rattle.rules.specs.declared.Written.{Written}
+use Rattle.rules.specs.Aldebaran.{exportText, exportRule}
 use Rattle.rules.specs.Calls.{Call, step}
 use Rattle.rules.specs.Image.{image, readImage}
 use Rattle.rules.specs.Quotations.{Quotes, QuotesAll, QuotesHeld, Write, recordOctets, recordRule}
@@ -27,6 +28,7 @@ pub record Calculator : Type 1 where
   pub helds : List ℕ → Edited → Type 0
   pub edits : Plan → Call → Edited → Type 0
   pub writes : Plan → List ℕ → List ℕ → Written → Type 0
+  pub exports : Plan → List ℕ → List ℕ → Written → Type 0
   pub records : Plan → List ℕ → List ℕ → Written → Type 0
   pub quotes : Which → Plan → List ℕ → List ℕ → Quotation → Type 0
   pub quotes-all : Plan → List ℕ → List ℕ → Quotations → Type 0
@@ -39,6 +41,8 @@ pub record Promises (c : Calculator) : Type 0 where
   pub edits : {p : Plan} {call : Call} {e : Edited} → c .edits p call e → Edit p (step (view p) call) e
   pub writes : {p : Plan} {before after : List ℕ} {w : Written} → c .writes p before after w
       → Write (image (view p)) (writeRule (view p) before) before after w
+  pub exports : {p : Plan} {before after : List ℕ} {w : Written} → c .exports p before after w
+      → Write (exportText (view p)) (exportRule (view p) before) before after w
   pub records : {p : Plan} {before after : List ℕ} {w : Written} → c .records p before after w
       → Write (recordOctets (view p)) (recordRule (view p) before) before after w
   pub quotes : {which : Which} {p : Plan} {before after : List ℕ} {q : Quotation} → c .quotes which p before after q
@@ -52,6 +56,7 @@ pub record Answers (c : Calculator) : Type 0 where
   pub helds : (octets : List ℕ) → (e : Edited) × c .helds octets e
   pub edits : (p : Plan) (call : Call) → (e : Edited) × c .edits p call e
   pub writes : (p : Plan) (before : List ℕ) → (after : List ℕ) × (w : Written) × c .writes p before after w
+  pub exports : (p : Plan) (before : List ℕ) → (after : List ℕ) × (w : Written) × c .exports p before after w
   pub records : (p : Plan) (before : List ℕ) → (after : List ℕ) × (w : Written) × c .records p before after w
   pub quotes : (which : Which) (p : Plan) (before : List ℕ) → (after : List ℕ) × (q : Quotation) × c .quotes which p before after q
   pub quotes-all : (p : Plan) (before : List ℕ) → (after : List ℕ) × (q : Quotations) × c .quotes-all p before after q

@@ -25,6 +25,7 @@ use Rattle.rules.specs.declared.Quotations.{Quotations}
 use Rattle.rules.specs.declared.Quote.{Quote}
 use Rattle.rules.specs.declared.Written.{Written}
 use Rattle.rules.specs.declared.Written.the-variants.{Length}
+use Rattle.rules.specs.Aldebaran.{exportRows}
 use Rattle.rules.specs.Calls.{Call, read, rowsOf, runFresh}
 use Rattle.rules.specs.Image.{image, imageRows}
 use Rattle.rules.specs.Limits.{within, stateCountOk}
@@ -47,6 +48,7 @@ module _ (c : Calculator) where
     held : {octets : List ℕ} {e : Edited} → c .helds octets e → Called (imageRows octets) (said (e .answer))
     edit : {p : Plan} {call : Call} {e : Edited} → c .edits p call e → Called (rowsOf (view p) call) (said (e .answer))
     write : {p : Plan} {before after : List ℕ} {w : Written} → c .writes p before after w → Called (writeRows (view p) before) (answerOf (wrote w))
+    export : {p : Plan} {before after : List ℕ} {w : Written} → c .exports p before after w → Called (exportRows (view p) before) (answerOf (wrote w))
     recording : {p : Plan} {before after : List ℕ} {w : Written} → c .records p before after w
         → Called (recordRows (view p) before) (answerOf (wrote w))
     quote : {which : Which} {p : Plan} {before after : List ℕ} {q : Quotation} → c .quotes which p before after q
@@ -60,6 +62,7 @@ module _ (c : Calculator) where
   pub data Given : Plan → Result (Unit {0}) → Type 0 where
     edit : {p : Plan} {call : Call} {e : Edited} → c .edits p call e → Given p (said (e .answer))
     write : {p : Plan} {before after : List ℕ} {w : Written} → c .writes p before after w → Given p (answerOf (wrote w))
+    export : {p : Plan} {before after : List ℕ} {w : Written} → c .exports p before after w → Given p (answerOf (wrote w))
     recording : {p : Plan} {before after : List ℕ} {w : Written} → c .records p before after w → Given p (answerOf (wrote w))
     quote : {which : Which} {p : Plan} {before after : List ℕ} {q : Quotation} → c .quotes which p before after q → Given p (saidQuotation q)
     all-four : {p : Plan} {before after : List ℕ} {q : Quotations} → c .quotes-all p before after q → Given p (saidQuotations q)
@@ -67,6 +70,7 @@ module _ (c : Calculator) where
   -- one that was lent places: they before and after it, and what it answered
   pub data Lent : List ℕ → List ℕ → Result (Unit {0}) → Type 0 where
     write : {p : Plan} {before after : List ℕ} {w : Written} → c .writes p before after w → Lent before after (answerOf (wrote w))
+    export : {p : Plan} {before after : List ℕ} {w : Written} → c .exports p before after w → Lent before after (answerOf (wrote w))
     recording : {p : Plan} {before after : List ℕ} {w : Written} → c .records p before after w → Lent before after (answerOf (wrote w))
     quote : {which : Which} {p : Plan} {before after : List ℕ} {q : Quotation} → c .quotes which p before after q
         → Lent before after (saidQuotation q)
@@ -140,6 +144,7 @@ module _ (c : Calculator) where
     pub quoted : (which : Which) → c .quotes which last (places-before which) (places-after which) (quotation which)
 
 -- DEMAND 3, (01) "one claim about the whole list, and not one for each call":
+-- (02, E1, of import) "demand 3's lists may hold it":
 -- "For every list of mark, join, unjoin and read calls from a fresh plan, refused ones included,
 pub record OneClaim (c : Calculator) (s : Session c) : Type 0 where
   pub fresh-accepted : s .made .answer ≡ Accepted

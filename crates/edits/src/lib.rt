@@ -1,9 +1,10 @@
 // The calls that make or change a plan, on the plan that three lent slices hold: each answers its number, 256 for accepted, and 255 where the slices are too
 // short to hold a plan. Each is a function of its own: in one function their plan values would stand on the stack beside each other.
 ghost use Rattle.arrays.specs.Tables.{transition};
-ghost use Rattle.rules.specs.Calls.{mark, join, unjoin, read};
+ghost use Rattle.rules.specs.Calls.{mark, join, unjoin, replacing};
 ghost use Rattle.slices.specs.Lent.{slices};
 ghost use Rattle.edits.specs.Lent.{LentFresh, LentHeld, LentTurn};
+use rules::Format;
 
 // A fresh plan with n states.
 pub fn fresh(n: usize, counts: &mut [usize], marks: &mut [u8], fields: &mut [u16]) -> u32
@@ -85,16 +86,22 @@ pub fn unjoin(counts: &mut [usize], marks: &mut [u8], fields: &mut [u16], number
     slices::update(edited, counts, marks, fields)
 }
 
-// Reads an image, in place of the plan.
-pub fn read(counts: &mut [usize], marks: &mut [u8], fields: &mut [u16], octets: &[u8]) -> u32
+// Reads an image or imports a text, in place of the plan.
+pub fn replace(
+    format: Format,
+    counts: &mut [usize],
+    marks: &mut [u8],
+    fields: &mut [u16],
+    octets: &[u8],
+) -> u32
     ensures { λ r. ⌜ LentTurn (slices (now (counts .entry)) (now (marks .entry)) (now (fields .entry)))
         (slices (now (counts .exit)) (now (marks .exit)) (now (fields .exit)))
-        (read (now (octets .entry))) r ⌝ }
+        (replacing format (now (octets .entry))) r ⌝ }
 {
     if !slices::has_room(counts.len(), marks.len(), fields.len()) {
         return 255;
     }
     let plan = slices::load(counts, marks, fields);
-    let edited = plan::read(plan, octets);
+    let edited = plan::replace(plan, format, octets);
     slices::update(edited, counts, marks, fields)
 }

@@ -8,12 +8,11 @@ use Rattle.rules.specs.declared.Answer.the-variants.{Accepted, Refused}
 use Rattle.rules.specs.declared.Refusal.{Refusal}
 use Rattle.rules.specs.Image.{tabulate, stateCountOf, transitionCountOf, stateAt, statePlace, transitionAt, transitionPlace, graphIn}
 use Rattle.rules.specs.Image.{headerRows, stateRows, transitionRows, imageRows, readImage}
-use Rattle.rules.specs.Refusal.{accepted, refused, said}
+use Rattle.rules.specs.Refusal.{accepted, refused, said, came}
 use Rattle.rules.specs.Table.{Row, byTable, first, byNumber, NoneHolds}
 use Rattle.rules.proofs.ReadWrite.{Header, clear-header}
 use Rattle.rules.proofs.Tables.{accepted-where, accepted-only, after-none, after-refused}
 use Rattle.arrays.specs.Tables.{statesOf, transitionsOf, graphOf}
-use Rattle.image.specs.Read.{came}
 
 -- the rows of n states, and of m transitions of a plan with n states
 abbrev pub statesRows : List ℕ → ℕ → List Row

@@ -4,7 +4,8 @@ ghost use Prim.Native.Nat.{_+_, _*_, _≤_, _<_, _^_};
 ghost use lib.ListN.{length};
 ghost use Rattle.rules.specs.Image.{transitionAt};
 ghost use Rattle.rules.specs.Table.{first};
-ghost use Rattle.image.specs.Read.{StatesRead, TransitionsRead, Fills, Takes, fields};
+ghost use Rattle.arrays.specs.Tables.{fields};
+ghost use Rattle.image.specs.Read.{StatesRead, TransitionsRead, Fills};
 ghost use Rattle.image.specs.Values.{meant};
 use crate::Transition;
 use arrays::FINAL;
@@ -142,30 +143,4 @@ pub fn fill(
         transitions: m,
         taken: position,
     }
-}
-
-// Reads an image into arrays, where the plan that it is to replace is within the limits; places past the counts stay.
-pub fn take(
-    limited: bool,
-    octets: &[u8],
-    marks: &mut [u8; 512],
-    from: &mut [u16; 2048],
-    to: &mut [u16; 2048],
-    low: &mut [u16; 2048],
-    high: &mut [u16; 2048],
-) -> Filled
-    requires { ⌜ (512 ≤ length (now marks)) × (2048 ≤ length (now from)) × (2048 ≤ length (now to))
-        × (2048 ≤ length (now low)) × (2048 ≤ length (now high)) ⌝ }
-    ensures { λ r. ⌜ Takes limited (now (octets .entry)) (now (marks .exit))
-        (fields (now (from .exit)) (now (to .exit)) (now (low .exit)) (now (high .exit))) r ⌝ }
-{
-    if !limited {
-        return Filled {
-            answer: Answer::Refused(Refusal::PlanLimits),
-            states: 0,
-            transitions: 0,
-            taken: 0,
-        };
-    }
-    fill(octets, marks, from, to, low, high)
 }

@@ -2,14 +2,15 @@
 // on the stack between two calls.
 ghost use mathlib.Core.Path.{_≡_};
 ghost use mathlib.Core.Bool.{true, _&&_, _||_};
-ghost use lib.Dec.{leb, ltb, eqb};
+ghost use lib.Dec.{leb, ltb};
 ghost use Prim.Native.Nat.{_≤_, _<_, _/_};
 ghost use lib.ListN.{length};
 ghost use Rattle.calls.specs.Slices.{callOf, callIn, isCall, itemAt};
 ghost use Rattle.edits.specs.Lent.{LentTurn};
 ghost use Rattle.slices.specs.Lent.{slices};
+use rules::Format;
 
-// One call of a list, on the plan that lent slices hold. Nine arguments: an item's five numbers, the octets that a read is a part of, and the plan's three slices.
+// One call of a list, on the plan that lent slices hold. Nine arguments: an item's five numbers, the octets that a read or an import is a part of, and the plan's three slices.
 fn perform(
     kind: u8,
     a: usize,
@@ -21,7 +22,7 @@ fn perform(
     marks: &mut [u8],
     fields: &mut [u16],
 ) -> u32
-    requires { ⌜ (ltb kind 3 || (eqb kind 3 && (leb a b && leb b (length (now octets))))) ≡ true ⌝ }
+    requires { ⌜ (ltb kind 3 || (ltb kind 5 && (leb a b && leb b (length (now octets))))) ≡ true ⌝ }
     ensures { λ r. ⌜ LentTurn (slices (now (counts .entry)) (now (marks .entry)) (now (fields .entry)))
         (slices (now (counts .exit)) (now (marks .exit)) (now (fields .exit)))
         (callOf (now (octets .entry)) kind a b c d) r ⌝ }
@@ -30,7 +31,8 @@ fn perform(
         0 => edits::mark(counts, marks, fields, a, b),
         1 => edits::join(counts, marks, fields, a, b, c, d),
         2 => edits::unjoin(counts, marks, fields, a),
-        _ => edits::read(counts, marks, fields, &octets[a..b]),
+        3 => edits::replace(Format::Image, counts, marks, fields, &octets[a..b]),
+        _ => edits::replace(Format::Text, counts, marks, fields, &octets[a..b]),
     }
 }
 

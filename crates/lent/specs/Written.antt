@@ -1,9 +1,10 @@
--- What the calls that fill a lent buffer promise: the image, and the record of the figures, by an index. Assumes nothing.
+-- What the calls that fill a lent buffer promise: the image, the record of the figures and the text, by an index. Assumes nothing.
 use mathlib.Core.Bool.{true, false}
 use mathlib.Core.List.{List}
 use mathlib.Core.Path.{_≡_}
 use Prim.Native.Nat.{ℕ, _+_}
 use Rattle.graph.specs.Graph.{Graph}
+use Rattle.rules.specs.Aldebaran.{exportText, exportRule}
 use Rattle.rules.specs.Image.{image}
 use Rattle.rules.specs.Quotations.{recordOctets, recordRule}
 use Rattle.rules.specs.Refusal.{Result, accepted, refused, number}
@@ -11,16 +12,18 @@ use Rattle.rules.specs.Rules.{writeRule, written}
 use Rattle.plan.specs.View.{view}
 use Rattle.slices.specs.Lent.{Slices, hasRoom, planIn}
 use Rattle.lent.specs.declared.Content.{Content}
-use Rattle.lent.specs.declared.Content.the-variants.{Image, Record}
+use Rattle.lent.specs.declared.Content.the-variants.{Image, Record, Text}
 
 -- the octets that a filling puts at the front of the buffer, and its rule
 abbrev pub octetsOf : Content → Graph → List ℕ
 octetsOf Image g = image g
 octetsOf Record g = recordOctets g
+octetsOf Text g = exportText g
 
 abbrev pub ruleOf : Content → Graph → List ℕ → Result ℕ
 ruleOf Image g buffer = writeRule g buffer
 ruleOf Record g buffer = recordRule g buffer
+ruleOf Text g buffer = exportRule g buffer
 
 -- the number that a call answers which fills a lent buffer: 256 plus the octets' number
 abbrev pub lengthCode : Result ℕ → ℕ

@@ -9,10 +9,11 @@ use graph::Which;
 use plan::Plan;
 use rules::Written;
 
-// What is put into a lent buffer: the plan's image, or the record of its figures.
+// What is put into a lent buffer: the plan's image, the record of its figures, or the plan's text.
 pub enum Content {
     Image,
     Record,
+    Text,
 }
 
 // Puts a content of a plan at the front of the buffer.
@@ -23,6 +24,7 @@ fn put(content: Content, plan: Plan, buffer: &mut [u8]) -> Written
     match content {
         Content::Image => plan::write(plan, buffer),
         Content::Record => quotation::record(plan, buffer),
+        Content::Text => plan::export(plan, buffer),
     }
 }
 

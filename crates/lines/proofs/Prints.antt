@@ -2,7 +2,7 @@
 -- the places do; a short buffer is refused (`prints-nothing`). Assumes nothing.
 use mathlib.Core.List.{List, [], _∷_}
 use mathlib.Core.Path.{_≡_, refl, sym, ap, subst, _∙_}
-use Prim.Native.Nat.{ℕ, _^_, _≤_, _<_}
+use Prim.Native.Nat.{ℕ, _≤_, _<_}
 use native.Mathlib.Omega.{arith}
 use borrow.Author.Tests.{lt-ltb, le-ltb}
 use lib.ListN.{length, length-append}
@@ -22,13 +22,8 @@ use Rattle.rules.proofs.Results.{never}
 use Rattle.rules.proofs.Tables.{accepted-only, accepted-where, after-none, after-refused, answer-first, none-append}
 use Rattle.wording.specs.Lines.{linesOf, refusedLine}
 use Rattle.text.specs.Put.{Put}
-use Rattle.text.proofs.Numerals.{digits-length-u32}
-use Rattle.wording.proofs.Lengths.{refused-sum}
 use Rattle.four_lines.specs.Room.{room}
 use Rattle.lines.specs.Printed.{Prints, Printed, answerRows}
-
-pub refused-room : (n : ℕ) → n < 2 ^ 32 → length (refusedLine n) ≤ 19
-refused-room n h = omega (arith, refused-sum n, digits-length-u32 n h)
 
 -- ---- the buffer's row
 

@@ -49,5 +49,7 @@ pub fn number(refusal: Refusal) -> u32
         Refusal::BufferLength => 11,
         Refusal::MarksValue => 12,
         Refusal::FigureSize => 13,
+        Refusal::StartCount => 14,
+        Refusal::TextForm => 15,
     }
 }

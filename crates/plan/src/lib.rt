@@ -1,9 +1,10 @@
-// The call plan: its edits and its image. Every call takes the plan, p as in the definitions, by value, refuses bad input by its row of the table, and
+// The call plan: its edits, its image and its text. Every call takes the plan, p as in the definitions, by value, refuses bad input by its row of the table, and
 // returns a plan.
 ghost use mathlib.Core.Path.{_≡_};
 ghost use Rattle.rules.specs.Limits.{within as withinLimits};
+ghost use Rattle.rules.specs.Aldebaran.{exportText, exportRule};
 ghost use Rattle.rules.specs.Image.{image};
-ghost use Rattle.rules.specs.Calls.{step, mark, join, unjoin, read};
+ghost use Rattle.rules.specs.Calls.{step, mark, join, unjoin, replacing};
 ghost use Rattle.rules.specs.Quotations.{Write};
 ghost use Rattle.rules.specs.Rules.{freshRule, writeRule};
 ghost use Rattle.arrays.specs.Tables.{transition};
@@ -12,6 +13,7 @@ ghost use Rattle.plan.specs.Promise.{Edit, Held, refusing, accepting};
 use arrays::limits;
 use image::reading;
 use rules::Answer;
+use rules::Format;
 use rules::Refusal;
 use rules::Written;
 
@@ -146,9 +148,9 @@ pub fn unjoin(mut p: Plan, number: usize) -> Edited
     Edited { plan: p, answer }
 }
 
-// Reads an image. An accepted one replaces the whole plan: it is read into arrays of its own, and laid over the plan's.
-pub fn read(mut p: Plan, octets: &[u8]) -> Edited
-    ensures { λ r. ⌜ Edit p (step (view p) (read (now (octets .entry)))) r ⌝ }
+// Replaces the whole plan by the one that octets hold: reads an image, or imports a text. It is taken into arrays of its own, and laid over the plan's.
+pub fn replace(mut p: Plan, format: Format, octets: &[u8]) -> Edited
+    ensures { λ r. ⌜ Edit p (step (view p) (replacing format (now (octets .entry)))) r ⌝ }
 {
     let n = p.states;
     let m = p.transitions;
@@ -158,7 +160,8 @@ pub fn read(mut p: Plan, octets: &[u8]) -> Edited
     let mut to = [0u16; 2048];
     let mut low = [0u16; 2048];
     let mut high = [0u16; 2048];
-    let taken = reading::take(
+    let taken = replacement::take(
+        format,
         limited,
         octets,
         &mut marks,
@@ -222,4 +225,14 @@ pub fn write(p: Plan, buffer: &mut [u8]) -> Written
     let n = p.states;
     let m = p.transitions;
     written::write(n, m, &p.marks, &p.from, &p.to, &p.low, &p.high, buffer)
+}
+
+// Puts the plan's text at the front of the buffer, and returns its length.
+pub fn export(p: Plan, buffer: &mut [u8]) -> Written
+    ensures { λ r. ⌜ Write (exportText (view p)) (exportRule (view p) (now (buffer .entry)))
+        (now (buffer .entry)) (now (buffer .exit)) r ⌝ }
+{
+    let n = p.states;
+    let m = p.transitions;
+    exported::export(n, m, &p.marks, &p.from, &p.to, &p.low, &p.high, buffer)
 }

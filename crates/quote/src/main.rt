@@ -20,11 +20,9 @@ fn print(octets: &[u8]) {
 fn main() {
     let mut octets = [0u8; ENOUGH];
     let n = io::read_full(STDIN_FILENO, &mut octets);
-    if n < ENOUGH {
-        if !program::at_end(STDIN_FILENO) {
-            program::fault(b"quote: standard input cannot be read\n");
-            return;
-        }
+    if !program::is_read(n, ENOUGH) {
+        program::fault(b"quote: standard input cannot be read\n");
+        return;
     }
     print(&octets[..n]);
 }

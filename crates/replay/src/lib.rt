@@ -3,7 +3,7 @@ ghost use Rattle.slices.specs.Lent.{slices};
 ghost use Rattle.replay.specs.Replayed.{LentReplay, places};
 
 // Makes a list of calls in turn from a fresh plan of n states, stores the plan after it, and quotes its four figures. A call is a kind (0 mark, 1 join,
-// 2 unjoin, 3 read) and four arguments; a read's are the start and the end of its octets. Each call has a place for its answer.
+// 2 unjoin, 3 read, 4 import) and four arguments; those of a read or an import are the start and the end of its octets. Each call has a place for its answer.
 // Ten slices and numbers: the list is three of them, the plan three.
 pub fn replay(
     n: usize,

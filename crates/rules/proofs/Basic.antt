@@ -6,10 +6,14 @@ use mathlib.Core.Bool.{true, false}
 use mathlib.Core.List.{List, [], _∷_, map}
 use mathlib.Core.Path.{_≡_, refl, ap}
 use Prim.Native.Nat.{ℕ}
+use Prim.Native.String.{String}
 use native.Mathlib.Omega.{arith}
 use lib.Dec.{ltb, lit<}
 use lib.ListN.{length, getD, replicate}
 use Rattle.field.specs.Field.{pack, octetsOf, bits, bitsOf, bitsOfAll, widthOfAll, number, fieldAt}
+use Rattle.text.specs.Text.{octets as textOctets, leading, digits, valueAfter, value}
+use Rattle.aldebaran.specs.Form.{written as writtenForm, andThen, readWord, isDigit, front, isNumeral, readNumber, readForm}
+use Rattle.aldebaran.specs.Text.{Holding, firstForm, lineForm, lineText, linesText, textOf, readLines, whole, readText}
 use Rattle.graph.specs.declared.Which.the-variants.{LeastDelay}
 use Rattle.graph.specs.Figure.{Figure, NONE, costFor}
 use Rattle.graph.specs.Known.{P1, P3, P4, P6, plan, join as to-join}
@@ -18,14 +22,17 @@ use Rattle.graph.specs.Compute.{any, figureFor}
 use Rattle.graph.specs.Graph.{Graph, Transition, states, marksOf, start, final, counted, transition, from, to, low, high}
 use Rattle.rules.specs.declared.Refusal.the-variants.{PlanLimits, StateCount, BufferLength}
 use Rattle.rules.specs.declared.Quotation.the-variants.{Refused}
-use Rattle.rules.specs.Calls.{Call, mark, join, unjoin, read, step, rowsOf, run, runFresh}
+use Rattle.rules.specs.declared.Format.{Format}
+use Rattle.rules.specs.declared.Format.the-variants.{Image, Text}
+use Rattle.rules.specs.Aldebaran.{planOf, holdingRows, textRows, graphInText, importText, passing, exportText, exportRows, stripped}
+use Rattle.rules.specs.Calls.{Call, mark, join, unjoin, read, import, replacing, step, rowsOf, run, runFresh}
 use Rattle.rules.specs.Image.{image, imageFields, fieldsOfEach, headerRows, imageRows, readImage}
 use Rattle.rules.specs.Limits.{within, all, stateCountOk}
 use Rattle.rules.specs.Quotations.{recordOctets, recordFields, recordRows, tooLarge, quoteRows, quoteRule, recordRule, allRows, heldRows, lentQuoteRows, lentHeldRows}
 use Rattle.rules.specs.Quotations.{Shows, Quotes, LeastQuoted}
 use Rattle.rules.specs.Refusal.{accepted, refused, code}
 use Rattle.rules.specs.Rules.{freshRows, writeRows, freshRule, writeRule, freshGraph, withMark, withTransition, without, written}
-use Rattle.rules.specs.Table.{first, byNumber}
+use Rattle.rules.specs.Table.{first, byNumber, each}
 
 -- ---- P1 and the 28 octets of "Plans with known figures"
 
@@ -108,8 +115,9 @@ no-states = freshGraph 0
 pub limits-first : (code (first (rowsOf no-states (mark 0 8))) ≡ 0) × (code (first (rowsOf no-states (join one-way))) ≡ 0)
     × (code (first (rowsOf no-states (unjoin 0))) ≡ 0) × (code (first (rowsOf no-states (read []))) ≡ 0)
     × (code (first (writeRows no-states [])) ≡ 0) × (code (first (recordRows no-states [])) ≡ 0)
+    × (code (first (rowsOf no-states (import []))) ≡ 0) × (code (first (exportRows no-states [])) ≡ 0)
 unfolding within imageRows headerRows
-limits-first = (refl, refl, refl, refl, refl, refl)
+limits-first = (refl, refl, refl, refl, refl, refl, refl, refl)
 
 -- and a quotation of a plan whose one state has a marks value of 8
 pub quote-limits-first : code (first (quoteRows (plan (8 ∷ []) []) [])) ≡ 0
@@ -186,6 +194,61 @@ pub read-by-number : answer (read (image (plan (4 ∷ 2 ∷ []) (to-join 0 1 5 3
 unfolding within all imageRows headerRows byNumber image imageFields fieldsOfEach pack octetsOf bitsOf bitsOfAll widthOfAll number fieldAt bits
 read-by-number = refl
 
+-- ---- texts
+
+-- "Import marks only the initial state, as start", and the transitions are the lines'
+pub import-is : graphInText (textOctets "des (1, 2, 2)\n(0, \"5..20\", 1)\n(1, \"2..3\", 0)\n") ≡ plan (0 ∷ 4 ∷ []) (one-way ∷ back ∷ [])
+unfolding textOctets valueAfter value andThen readWord isDigit front isNumeral readNumber readForm firstForm lineForm readLines whole readText graphInText planOf
+import-is = refl
+
+-- the number that a text answers, over a plan of one state
+abbrev imports : String → ℕ
+imports text = answer (import (textOctets text))
+
+-- "tested over the whole text before 4, 5, 7": no state and 513 states, with a leading zero in the last line, without its line feed, and with text after it
+pub import-15-4 : (imports "des (0, 1, 0)\n(0, \"05..20\", 1)\n" ≡ 15) × (imports "des (0, 1, 513)\n(0, \"5..20\", 1)" ≡ 15) × (imports "des (0, 1, 513)\n(0, \"5..20\", 1)\n(0" ≡ 15)
+    × (imports "des (0, 1, 513)\n(0, \"5..20\", 1)\n" ≡ 4)
+unfolding within all textOctets valueAfter value andThen readWord isDigit front isNumeral readNumber readForm firstForm lineForm readLines whole readText textRows holdingRows each
+import-15-4 = (refl, refl, refl, refl)
+
+-- "its count of lines included": one line too few, and one too many
+pub import-15-count : (imports "des (0, 2, 2)\n(0, \"5..20\", 1)\n" ≡ 15) × (imports "des (0, 0, 2)\n(0, \"5..20\", 1)\n" ≡ 15) × (imports "des (0, 1, 2)\n(0, \"5..20\", 1)\n" ≡ 256)
+unfolding within all textOctets valueAfter value andThen readWord isDigit front isNumeral readNumber readForm firstForm lineForm readLines whole readText textRows holdingRows each
+import-15-count = (refl, refl, refl)
+
+-- "4, 5, 7 for the initial state, and then 7 and 8 line by line": no state, too many lines and an initial state that is none; then without the first; then without the first two
+abbrev holding : ℕ → ℕ → List Transition → Holding
+holding initial n ts = record { initial = initial; states = n; transitions = ts }
+
+pub import-4-5-7 : (code (first (holdingRows (holding 1 0 (replicate 2049 (to-join 0 0 5 3))))) ≡ 4)
+    × (code (first (holdingRows (holding 1 1 (replicate 2049 (to-join 0 0 5 3))))) ≡ 5)
+    × (code (first (holdingRows (holding 1 1 (replicate 2048 (to-join 0 0 5 3))))) ≡ 7)
+    × (code (first (holdingRows (holding 0 1 (replicate 2048 (to-join 0 0 5 3))))) ≡ 8)
+unfolding holdingRows each
+import-4-5-7 = (refl, refl, refl, refl)
+
+-- of one line, 7 before 8; and the first line's low above its high, the second one from no state
+pub import-by-line : (code (first (holdingRows (holding 0 2 (to-join 2 0 5 3 ∷ [])))) ≡ 7) × (code (first (holdingRows (holding 0 2 (to-join 0 1 5 3 ∷ to-join 2 0 1 1 ∷ [])))) ≡ 8)
+unfolding holdingRows each
+import-by-line = (refl, refl)
+
+-- the text of a plan, its one start as the initial state; no other mark is seen there
+abbrev one-start : Graph
+one-start = plan (3 ∷ 6 ∷ []) (one-way ∷ back ∷ [])
+
+pub export-is : exportText one-start ≡ textOctets "des (1, 2, 2)\n(0, \"5..20\", 1)\n(1, \"2..3\", 0)\n"
+unfolding textOctets leading digits writtenForm firstForm lineForm lineText linesText textOf start marksOf passing exportText
+export-is = refl
+
+pub stripped-is : stripped one-start ≡ plan (0 ∷ 4 ∷ []) (one-way ∷ back ∷ [])
+stripped-is = refl
+
+-- "refuses a plan without exactly one start by 14, then a buffer below the text's length by 11": no start and two, with no room; one start and an octet too few, and just enough
+pub export-14-11 : (code (first (exportRows (plan (3 ∷ []) []) [])) ≡ 14) × (code (first (exportRows (plan (4 ∷ 6 ∷ []) []) [])) ≡ 14)
+    × (code (first (exportRows (plan (4 ∷ []) []) (replicate 13 0))) ≡ 11) × (code (first (exportRows (plan (4 ∷ []) []) (replicate 14 0))) ≡ 256)
+unfolding within all leading digits writtenForm firstForm lineForm lineText linesText textOf start marksOf passing exportText textOctets
+export-14-11 = (refl, refl, refl, refl)
+
 -- the known octets
 pub read-known : first (rowsOf (freshGraph 1) (read octets)) ≡ accepted tt
 unfolding within all imageRows headerRows byNumber octets fieldAt bits bitsOf number
@@ -254,6 +317,15 @@ fresh-refused n h = rw h
 pub read-given : (g : Graph) (os : List ℕ) → within g ≡ true → step g (read os) ≡ readImage os
 unfolding readImage
 read-given g os w = rw w
+
+pub import-given : (g : Graph) (text : List ℕ) → within g ≡ true → step g (import text) ≡ importText text
+unfolding importText
+import-given g text w = rw w
+
+-- over one that is not, nothing is looked at
+pub replacing-refused : (g : Graph) (format : Format) (octets : List ℕ) → within g ≡ false → step g (replacing format octets) ≡ refused PlanLimits
+replacing-refused g Image octets w = rw w
+replacing-refused g Text octets w = rw w
 
 module _ (g : Graph) (b : List ℕ) where
   pub quote-limits : within g ≡ false → quoteRule g b ≡ refused PlanLimits

@@ -15,10 +15,12 @@ use Rattle.rules.specs.Limits.{all, within, stateCountOk, marksOk, state
 use Rattle.rules.specs.Image.{imageRows, graphIn, readImage}
 use Rattle.rules.specs.Rules.{freshGraph, withMark, withTransition, without, next}
 use Rattle.rules.specs.Table.{NoneHolds}
-use Rattle.rules.specs.Calls.{Call, mark, join, unjoin, read, rowsOf, effectOf, step, run}
+use Rattle.rules.specs.Aldebaran.{textRows, graphInText, importText}
+use Rattle.rules.specs.Calls.{Call, mark, join, unjoin, read, import, rowsOf, effectOf, step, run}
 use Rattle.rules.proofs.Results.{not-false, and-true, all-append, all-take, all-drop, all-set, all-replicate}
 use Rattle.rules.proofs.Tables.{accepted-where, accepted-only}
 use Rattle.rules.proofs.ReadWrite.{limited, within-limits, rows-ok, read-within}
+use Rattle.rules.proofs.ImportExport.{import-within}
 
 -- ---- each event
 
@@ -38,7 +40,7 @@ fresh-within n h =
 
 -- of each call, where none of its rows holds
 effect-within : (g : Graph) (call : Call) → NoneHolds (rowsOf g call) → within (effectOf g call) ≡ true
-unfolding all readImage
+unfolding all readImage importText
 effect-within g (mark state value) (w, (s, (v, u))) =
     let l = limited g (not-false (within g) w) in
     let k : length (set (g .stateList) state (marked value)) ≡ states g = length-set (g .stateList) state (marked value) in
@@ -80,6 +82,7 @@ effect-within g (unjoin number) (w, r) =
           (all-take (transitionOk (states g)) number ts (l .each-transition)) (all-drop (transitionOk (states g)) (suc number) ts (l .each-transition));
     })
 effect-within g (read octets) (w, r) = read-within octets (graphIn octets) (accepted-where (imageRows octets) (graphIn octets) r)
+effect-within g (import text) (w, r) = import-within text (graphInText text) (accepted-where (textRows text) (graphInText text) r)
 
 -- ---- a list of calls
 

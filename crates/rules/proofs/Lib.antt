@@ -8,6 +8,8 @@ pub mod Tabulated
 pub mod Fields
 pub mod ReadWrite
 pub mod Vectors
+-- A plan's text, both ways.
+pub mod ImportExport
 -- What every call keeps, the figures of a plan within the limits, and the record.
 pub mod Kept
 pub mod Figures

@@ -6,8 +6,10 @@ use Prim.Native.Nat.{ℕ, zero, suc, _<_}
 use native.Mathlib.Nat.{not-suc-le-zero, le-of-suc-le-suc}
 use native.Mathlib.Omega.{arith}
 use lib.ListN.{length, getD, take, drop, set, replicate}
+use Rattle.rules.specs.declared.Answer.{Answer}
+use Rattle.rules.specs.declared.Answer.the-variants.{Accepted, Refused}
 use Rattle.rules.specs.declared.Refusal.{Refusal}
-use Rattle.rules.specs.Refusal.{Result, accepted, refused, answerOf, code}
+use Rattle.rules.specs.Refusal.{Result, accepted, refused, answerOf, said, code}
 use Rattle.rules.specs.Limits.{all}
 
 -- ---- accepted and refused results
@@ -28,6 +30,11 @@ pub refused-as : {A : Type 0} (o : Result A) (k : Refusal) → refused k ≡ ans
 refused-as (accepted a) k e = absurd (never tt k e)
 refused-as (refused j) k e = let i : k ≡ j = cc in rw i
 
+-- an answer that says what it should is the one that it should be
+pub accepted-answer : (a : Answer) → said a ≡ accepted tt → a ≡ Accepted
+accepted-answer Accepted e = refl
+accepted-answer (Refused r) e = absurd (never tt r e)
+
 -- a result and its answer have one number
 pub code-answer : {A : Type 0} (o : Result A) → code o ≡ code (answerOf o)
 code-answer (accepted a) = refl
@@ -41,6 +48,10 @@ and-true false b e = absurd (let z : _≡_ {A = ℕ} 0 1 = cc in omega arith)
 
 pub both-true : (a b : Bool) → a ≡ true → b ≡ true → (a && b) ≡ true
 both-true a b p q = rw (p, q) refl
+
+pub and-false : (a b : Bool) → b ≡ false → (a && b) ≡ false
+and-false true b e = e
+and-false false b e = refl
 
 module _ {A : Type 0} (test : A → Bool) where
   pub all-append : (xs ys : List A) → all test xs ≡ true → all test ys ≡ true → all test (xs ++ ys) ≡ true

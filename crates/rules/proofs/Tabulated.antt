@@ -11,11 +11,7 @@ use lib.ListN.{length, getD, length-append, List·getD-append}
 use lib.Seq.{ext-getD, getD-at}
 use Rattle.rules.specs.Image.{tabulate}
 use Rattle.rules.specs.Limits.{all}
-use Rattle.rules.proofs.Results.{all-append}
-
-and-false : (b c : Bool) → c ≡ false → (b && c) ≡ false
-and-false true c e = e
-and-false false c e = refl
+use Rattle.rules.proofs.Results.{and-false, all-append}
 
 and-unit : (b : Bool) → (b && true) ≡ b
 and-unit true = refl

@@ -2,17 +2,26 @@
 use mathlib.Core.List.{List, [], _∷_}
 use Prim.Native.Nat.{ℕ}
 use Rattle.graph.specs.Graph.{Graph, Transition}
+use Rattle.rules.specs.declared.Format.{Format}
+use Rattle.rules.specs.declared.Format.the-variants.{Image, Text}
 use Rattle.rules.specs.Refusal.{Result, answerOf}
 use Rattle.rules.specs.Table.{Row, byTable}
 use Rattle.rules.specs.Image.{graphIn}
 use Rattle.rules.specs.Rules.{freshGraph, withMark, withTransition, without, markRows, joinRows, unjoinRows, readRows, next}
+use Rattle.rules.specs.Aldebaran.{importRows, graphInText}
 
--- a call with its arguments, "for read the octets lent to it"
+-- a call with its arguments, "for read the octets lent to it"; document 02, E1, of import: "demand 3's lists may hold it"
 pub data Call : Type 0 where
   mark : ℕ → ℕ → Call
   join : Transition → Call
   unjoin : ℕ → Call
   read : List ℕ → Call
+  import : List ℕ → Call
+
+-- the call that replaces the plan by the one that octets hold, by what they are
+abbrev pub replacing : Format → List ℕ → Call
+replacing Image octets = read octets
+replacing Text octets = import octets
 
 -- its rows of the table
 abbrev pub rowsOf : Graph → Call → List Row
@@ -20,6 +29,7 @@ rowsOf g (mark state value) = markRows g state value
 rowsOf g (join t) = joinRows g t
 rowsOf g (unjoin number) = unjoinRows g number
 rowsOf g (read octets) = readRows g octets
+rowsOf g (import text) = importRows g text
 
 -- what "the plan changes" to; for read "the one that the octets hold by the layout"
 abbrev pub effectOf : Graph → Call → Graph
@@ -27,6 +37,7 @@ effectOf g (mark state value) = withMark g state value
 effectOf g (join t) = withTransition g t
 effectOf g (unjoin number) = without g number
 effectOf g (read octets) = graphIn octets
+effectOf g (import text) = graphInText text
 
 -- "the table below and the order under it decide from its arguments and the plan so far whether it is refused, and by which number. If so, the
 -- answer is that number and the plan stays; if not, the answer is that it was accepted, and the plan changes as above"

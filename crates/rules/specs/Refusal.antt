@@ -7,9 +7,9 @@ use Rattle.rules.specs.declared.Refusal.{Refusal}
 use Rattle.rules.specs.declared.Written.{Written}
 use Rattle.rules.specs.declared.Refusal.the-variants.{PlanLimits, ImageShort, ImageLong, Version, StateCount, TransitionCount}
 use Rattle.rules.specs.declared.Refusal.the-variants.{SpareBits, StateNumber, Duration, ListFull, TransitionNumber, BufferLength}
-use Rattle.rules.specs.declared.Refusal.the-variants.{MarksValue, FigureSize}
+use Rattle.rules.specs.declared.Refusal.the-variants.{MarksValue, FigureSize, StartCount, TextForm}
 
--- the column "returned" of the table
+-- the column "returned" of the table; 14 and 15 by document 02, E1
 abbrev pub number : Refusal → ℕ
 number PlanLimits = 0
 number ImageShort = 1
@@ -25,6 +25,8 @@ number TransitionNumber = 10
 number BufferLength = 11
 number MarksValue = 12
 number FigureSize = 13
+number StartCount = 14
+number TextForm = 15
 
 -- "whether it is refused, and by which number": accepted with a result, or refused by a row of the table and "no other result"
 pub data Result (A : Type 0) : Type 0 where
@@ -40,6 +42,11 @@ answerOf (refused r) = refused r
 abbrev pub said : Answer → Result (Unit {0})
 said Accepted = accepted tt
 said (Refused r) = refused r
+
+-- and of what the call made
+abbrev pub came : {A : Type 0} → Answer → A → Result A
+came Accepted a = accepted a
+came (Refused r) a = refused r
 
 -- the same, of an answer with a number of octets
 abbrev pub wrote : Written → Result ℕ

@@ -27,6 +27,11 @@ unfoldable pub byNumber : (ℕ → List Row) → ℕ → ℕ → List Row
 byNumber rows i zero = []
 byNumber rows i (suc k) = rows i ++ byNumber rows (suc i) k
 
+-- "line by line": the rows of the items of a list, in turn
+unfoldable pub each : {A : Type 0} → (A → List Row) → List A → List Row
+each rows [] = []
+each rows (a ∷ items) = rows a ++ each rows items
+
 -- a row of that refusal holds
 abbrev pub Holds : Refusal → List Row → Type 0
 Holds r [] = ⊥

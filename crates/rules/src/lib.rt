@@ -30,6 +30,16 @@ pub enum Refusal {
     MarksValue,
     // a figure above 1,048,575
     FigureSize,
+    // not exactly one start
+    StartCount,
+    // text off the form
+    TextForm,
+}
+
+// What the octets that replace a plan are: its image, which is read, or its text, which is imported.
+pub enum Format {
+    Image,
+    Text,
 }
 
 // The answer of a call that makes or changes a plan.

@@ -11,7 +11,7 @@ use mathlib.Core.Bool.{Bool, true, false, not, cond, true≢false}
 use mathlib.Core.List.{List, [], _∷_, _++_, append-nil, append-assoc}
 use mathlib.Core.Path.{_≡_, refl, sym, ap, _∙_}
 use native.Mathlib.Omega.{arith}
-use borrow.Author.Tests.{ltb-true, ltb-false, lt-ltb, le-ltb, eq-eqb, ne-eqb}
+use borrow.Author.Tests.{ltb-true, ltb-false, eq-eqb, ne-eqb}
 use lib.Dec.{ltb, eqb}
 use lib.ListN.{length, drop, getD, length-append}
 use lib.Seq.{drop-drop}
@@ -21,6 +21,7 @@ use Rattle.aldebaran.specs.Form.{off, on, andThen, readWord, isDigit, front, is
 use Rattle.aldebaran.proofs.Numbers.{isDigit-true}
 use Rattle.scan.specs.declared.Place.{Place}
 use Rattle.scan.specs.declared.Taken.{Taken}
+use Rattle.scan.proofs.Cuts.{cut-below, cut-above}
 use Rattle.scan.specs.Places.{Sound, standing, wordThen, numberThen, WordAt, many, cut, more, DigitsAt, Tells}
 
 -- what is left at a place of a list, from its first number on
@@ -79,12 +80,6 @@ front-stop x xs e = rw e refl
 front-none : front [] ≡ []
 unfolding front
 front-none = refl
-
-cut-below : (v : ℕ) → v < many → cut v ≡ v
-cut-below v h = rw (lt-ltb v many h) refl
-
-cut-above : (v : ℕ) → many ≤ v → cut v ≡ many
-cut-above v h = rw (le-ltb v many h) refl
 
 pub cut-more : (v d : ℕ) → isDigit d ≡ true → more (cut v) d ≡ cut (10 * v + (d - 48))
 cut-more v d e = go (ltb v many) refl (ltb v 1_000_000_000_000_000_000) refl

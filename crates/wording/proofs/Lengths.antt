@@ -24,6 +24,9 @@ pub refused-sum : (n : ℕ) → length (refusedLine n) ≡ length (digits n) + 9
 unfolding octets refusedLine
 refused-sum n = simp length-append (omega arith)
 
+pub refused-room : (n : ℕ) → n < 2 ^ 32 → length (refusedLine n) ≤ 19
+refused-room n h = omega (arith, refused-sum n, digits-length-u32 n h)
+
 figure-length : (f : Figure) → value f < 2 ^ 32 → length (figureText f) ≤ 10
 unfolding octets figureText
 figure-length (number k) h = digits-length-u32 k h

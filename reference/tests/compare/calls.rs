@@ -12,6 +12,11 @@ use crate::tally::Tally;
 const SEED: u64 = 0x0001_CA11;
 const LISTS: u64 = 24_000;
 
+/// The calls that a list may hold.
+pub const CALLS: [&str; 8] = [
+    "fresh", "mark", "join", "unjoin", "read", "import", "write", "export",
+];
+
 #[test]
 fn random_lists_of_calls() {
     let mut tally = Tally::default();
@@ -23,7 +28,7 @@ fn random_lists_of_calls() {
         "lists of calls: seed {SEED:#x}, {LISTS} lists, {} calls",
         tally.calls()
     ));
-    tally.assert_covers(&["fresh", "mark", "join", "unjoin", "read", "write"]);
+    tally.assert_covers(&CALLS);
 }
 
 /// One list, from a fresh plan. Returns what it leaves.

@@ -7,6 +7,7 @@ use reference::{Plan, Transition, MAX_STATES, MAX_TRANSITIONS};
 
 use crate::generate::{self, put};
 use crate::pair::{Call, Pair};
+use crate::texts::P1_TEXT;
 use crate::vectors::P1;
 
 const SEED: u64 = 0xED6E;
@@ -232,8 +233,13 @@ fn plans_that_break_a_limit() {
                 Call::Read(P1.to_vec()),
                 Call::Read(vec![]),
                 Call::Read(vec![0xFF; 40]),
+                Call::Import(P1_TEXT.into()),
+                Call::Import(vec![]),
+                Call::Import(b"des (0, 0, 513)\n".to_vec()),
                 Call::Write(vec![0xAA; 20_000]),
                 Call::Write(vec![]),
+                Call::Export(vec![0xAA; 60_000]),
+                Call::Export(vec![]),
             ] {
                 assert_eq!(pair.run(&call), 0, "{name}");
             }
@@ -265,7 +271,12 @@ fn values_past_the_counts() {
         (Call::Unjoin(3), ACCEPTED),
         (Call::Unjoin(4), 10),
         (Call::Read(P1.to_vec()), ACCEPTED),
+        (Call::Import(P1_TEXT.into()), ACCEPTED),
         (Call::Write(vec![0; 28]), ACCEPTED + 28),
+        (
+            Call::Export(vec![0; P1_TEXT.len()]),
+            ACCEPTED + P1_TEXT.len() as u32,
+        ),
     ] {
         assert_eq!(good.clone().run(&call), answer, "{call:?}");
     }
@@ -303,7 +314,7 @@ fn short_lent_slices() {
         };
         let mut octets = P1.to_vec();
         octets.push(0);
-        let mut buffer = [0xAA; 40];
+        let mut buffer = [0xAA; 100];
         let transition = |from| Transition {
             from,
             to: 0,
@@ -323,10 +334,14 @@ fn short_lent_slices() {
             after.read(&octets),
             after.write(&mut buffer),
             after.write(&mut buffer[..0]),
+            after.import(P1_TEXT.as_bytes()),
+            after.import(&[]),
+            after.export(&mut buffer),
+            after.export(&mut buffer[..0]),
         ];
-        assert_eq!(answers, [SHORT_SLICE; 11], "{counts} {marks} {fields}");
+        assert_eq!(answers, [SHORT_SLICE; 15], "{counts} {marks} {fields}");
         assert!(after == lent, "{counts} {marks} {fields}");
-        assert_eq!(buffer, [0xAA; 40]);
+        assert_eq!(buffer, [0xAA; 100]);
     }
 }
 
@@ -345,8 +360,8 @@ fn unjoin_at_every_place() {
     }
 }
 
-/// The version of the archive, 0.2.0.
+/// The version of the archive, 0.3.0.
 #[test]
 fn the_library_says_its_version() {
-    assert_eq!(reference::proved::version(), 200);
+    assert_eq!(reference::proved::version(), 300);
 }

@@ -1,4 +1,4 @@
-//! Random plans, images and calls: good ones, and ones that are wrong in every way of the table.
+//! Random plans, images, texts and calls: good ones, and ones that are wrong in every way of the table.
 
 use reference::image::{encode, length};
 use reference::proved::LentPlan;
@@ -6,6 +6,7 @@ use reference::rng::Rng;
 use reference::{Plan, Transition, MAX_STATES, MAX_TRANSITIONS};
 
 use crate::pair::{Call, Pair};
+use crate::texts::Numerals;
 
 /// A number of states and a number of transitions, mostly small, sometimes at the limits.
 fn size(rng: &mut Rng) -> (usize, usize) {
@@ -172,6 +173,149 @@ fn damage(rng: &mut Rng, octets: &mut Vec<u8>) {
     }
 }
 
+/// A plan within the limits that has exactly one start.
+pub fn plan_to_export(rng: &mut Rng) -> Plan {
+    let (n, m) = size(rng);
+    let mut plan = plan(rng, n, m);
+    for marks in &mut plan.marks {
+        *marks %= 4;
+    }
+    plan.marks[rng.below(n)] += 4;
+    plan
+}
+
+/// A text of any kind: good, with numbers past their limits, damaged or made of noise.
+pub fn text(rng: &mut Rng) -> Vec<u8> {
+    let mut numerals = numerals(&plan_to_export(rng));
+    match rng.below(10) {
+        0 => scraps(rng),
+        1..=3 => numerals.text().into_bytes(),
+        4..=6 => {
+            for _ in 0..rng.between(1, 2) {
+                alter_numeral(rng, &mut numerals);
+            }
+            numerals.text().into_bytes()
+        }
+        _ => {
+            if rng.one_in(3) {
+                alter_numeral(rng, &mut numerals);
+            }
+            let mut text = numerals.text().into_bytes();
+            for _ in 0..rng.between(1, 3) {
+                damage_text(rng, &mut text);
+            }
+            text
+        }
+    }
+}
+
+/// The numerals of a plan's text. Its first start is the initial state.
+fn numerals(plan: &Plan) -> Numerals {
+    let initial = plan.marks.iter().position(|&marks| marks >= 4);
+    let line = |t: &Transition| {
+        let [low, high] = [t.low, t.high].map(|seconds| seconds.to_string());
+        [t.from.to_string(), low, high, t.to.to_string()]
+    };
+    Numerals {
+        initial: initial.unwrap_or(0).to_string(),
+        count: plan.transitions.len().to_string(),
+        states: plan.marks.len().to_string(),
+        lines: plan.transitions.iter().map(line).collect(),
+    }
+}
+
+/// Changes one numeral, mostly to one about its limit, or makes the lines too many.
+fn alter_numeral(rng: &mut Rng, numerals: &mut Numerals) {
+    let n = numerals.states.parse().unwrap_or(1).min(MAX_STATES + 1);
+    let m = numerals.lines.len();
+    let place = rng.below(10);
+    if place == 9 && rng.one_in(20) {
+        let line = ["0", "0", "0", "0"].map(String::from);
+        numerals.lines.resize(rng.between(2049, 2051), line);
+        numerals.count = numerals.lines.len().to_string();
+        return;
+    }
+    let bound = match place {
+        0 | 3 | 4 => n,
+        1 => m + 1,
+        2 => MAX_STATES + 1,
+        _ => 2048,
+    };
+    let numeral = match rng.below(8) {
+        0 => long_numeral(rng),
+        1 => format!("0{}", rng.below(20)),
+        2 => String::new(),
+        _ => about(rng, bound).to_string(),
+    };
+    let line = match m {
+        0 => None,
+        _ => numerals.lines.get_mut(rng.below(m)),
+    };
+    match (place, line) {
+        (0, _) => numerals.initial = numeral,
+        (1, _) => numerals.count = numeral,
+        (2, _) => numerals.states = numeral,
+        (3, Some(line)) => line[0] = numeral,
+        (4, Some(line)) => line[3] = numeral,
+        (5 | 6, Some(line)) => line[1] = numeral,
+        (_, Some(line)) => line[2] = numeral,
+        (_, None) => {}
+    }
+}
+
+/// A numeral of up to 400 digits that a word does not hold, or just holds.
+fn long_numeral(rng: &mut Rng) -> String {
+    let power: u128 = 1 << rng.pick(&[16, 32, 63, 64, 127]);
+    match rng.below(3) {
+        0 => (power + rng.below(600) as u128).to_string(),
+        1 => (power - 1).to_string(),
+        _ => {
+            let more = (0..rng.below(400)).map(|_| rng.pick(b"0123456789") as char);
+            "1".chars().chain(more).collect()
+        }
+    }
+}
+
+/// Some of the octets and words that texts are made of, in any order.
+fn scraps(rng: &mut Rng) -> Vec<u8> {
+    let words = [
+        "des (", ", ", ")\n", "(", ", \"", "..", "\", ", "0", "1", "12", "2047", "\n", " ", "\r",
+    ];
+    let scraps = (0..rng.below(20)).map(|_| rng.pick(&words));
+    scraps.collect::<String>().into_bytes()
+}
+
+/// Damages a text in one random way.
+fn damage_text(rng: &mut Rng, text: &mut Vec<u8>) {
+    let place = rng.below(text.len() + 1);
+    let octet = match rng.below(4) {
+        0 => rng.next() as u8,
+        _ => rng.pick(b" ,.()\"\n\r0123456789-des"),
+    };
+    match rng.below(8) {
+        0..=1 => text.insert(place, octet),
+        2..=3 if place < text.len() => text[place] = octet,
+        4..=5 if place < text.len() => {
+            text.remove(place);
+        }
+        6 => {
+            // A line twice, or away.
+            let lines = text.split_inclusive(|&octet| octet == b'\n');
+            let mut lines: Vec<&[u8]> = lines.collect();
+            let number = rng.below(lines.len().max(1));
+            match lines.get(number) {
+                Some(&line) if rng.one_in(2) => lines.insert(number, line),
+                Some(_) => {
+                    lines.remove(number);
+                }
+                None => {}
+            }
+            *text = lines.concat();
+        }
+        _ => text.truncate(place),
+    }
+}
+
 fn spare_at(state: usize) -> usize {
     8 * (4 + state) + 3
 }
@@ -230,13 +374,15 @@ fn about_32(rng: &mut Rng, bound: usize) -> u32 {
 pub fn call(rng: &mut Rng, pair: &Pair) -> Call {
     let n = pair.plan().marks.len();
     let m = pair.plan().transitions.len();
-    match rng.below(32) {
+    match rng.below(36) {
         0 => Call::Fresh(rng.pick(&[0, 1, 2, 5, 511, 512, 513, 1024, usize::MAX])),
         1..=8 => Call::Mark(about(rng, n), about_32(rng, 8)),
         9..=19 => Call::Join(join(rng, n)),
         20..=24 => Call::Unjoin(about(rng, m)),
         25..=28 => Call::Read(image(rng)),
-        _ => Call::Write(buffer(rng, pair.image_length())),
+        29..=30 => Call::Import(text(rng)),
+        31..=33 => Call::Write(buffer(rng, pair.image_length())),
+        _ => Call::Export(buffer(rng, pair.text_length())),
     }
 }
 
@@ -257,7 +403,7 @@ fn join(rng: &mut Rng, n: usize) -> Transition {
     transition
 }
 
-/// A lent buffer for an image of the given length.
+/// A lent buffer for an image or a text of the given length.
 fn buffer(rng: &mut Rng, length: usize) -> Vec<u8> {
     let lent = match rng.below(6) {
         0 => length,

@@ -14,6 +14,7 @@ use crate::generate;
 use crate::library;
 use crate::pair::{Call, Pair};
 use crate::tally::Tally;
+use crate::texts::{edges, P1_TEXT};
 
 const SEED: u64 = 0x0000_1157;
 const LISTS: u64 = 12_000;
@@ -27,7 +28,7 @@ struct Made {
 }
 
 /// Puts a call at the end of a list. Arguments that are not looked at are noise, and so are some
-/// octets between the reads'.
+/// octets between those of the reads and imports.
 fn push(rng: &mut Rng, calls: &mut LentCalls, call: &Call) {
     let mut arguments: [usize; 4] = std::array::from_fn(|_| rng.next() as usize);
     let kind = match call {
@@ -43,15 +44,19 @@ fn push(rng: &mut Rng, calls: &mut LentCalls, call: &Call) {
             arguments[0] = *number;
             2
         }
-        Call::Read(octets) => {
+        Call::Read(octets) | Call::Import(octets) => {
             let noise = rng.below(3);
             calls.octets.extend(rng.octets(noise));
             let start = calls.octets.len();
             calls.octets.extend(octets);
             arguments[..2].copy_from_slice(&[start, calls.octets.len()]);
-            3
+            if matches!(call, Call::Read(_)) {
+                3
+            } else {
+                4
+            }
         }
-        Call::Fresh(_) | Call::FromImage(_) | Call::Write(_) => panic!("no call of a list"),
+        _ => panic!("no call of a list"),
     };
     calls.kinds.push(kind);
     calls.arguments.extend(arguments);
@@ -66,7 +71,7 @@ fn make(rng: &mut Rng, n: usize, tally: &mut Tally) -> Made {
     let mut answers = Vec::new();
     for _ in 0..rng.below(30) {
         let call = generate::call(rng, &pair);
-        if matches!(call, Call::Fresh(_) | Call::FromImage(_) | Call::Write(_)) {
+        if matches!(call, Call::Fresh(_) | Call::Write(_) | Call::Export(_)) {
             continue;
         }
         push(rng, &mut calls, &call);
@@ -88,14 +93,14 @@ fn make(rng: &mut Rng, n: usize, tally: &mut Tally) -> Made {
 fn damage(rng: &mut Rng, calls: &mut LentCalls) {
     let last = calls.kinds.len() - 1;
     match rng.below(4) {
-        0 => calls.kinds[rng.below(last + 1)] = rng.pick(&[4, 5, 128, 255]),
+        0 => calls.kinds[rng.below(last + 1)] = rng.pick(&[5, 6, 128, 255]),
         1 => {
-            calls.kinds[last] = 3;
+            calls.kinds[last] = rng.pick(&[3, 4]);
             let end = calls.octets.len();
             calls.arguments[4 * last..][..2].copy_from_slice(&[end, end + 1]);
         }
         2 => {
-            calls.kinds[last] = 3;
+            calls.kinds[last] = rng.pick(&[3, 4]);
             calls.arguments[4 * last..][..2].copy_from_slice(&[1, 0]);
         }
         _ => {
@@ -124,7 +129,55 @@ fn whole_lists_of_calls() {
     answers.remove(&Refusal::ListFull.number());
     assert!(answers
         .into_iter()
-        .eq([1, 2, 3, 4, 5, 6, 7, 8, 10, 12, ACCEPTED]));
+        .eq([1, 2, 3, 4, 5, 6, 7, 8, 10, 12, 15, ACCEPTED]));
+}
+
+/// Every text at the edges, imported in one list: first without its last octet, which is a part of
+/// the same octets. Marks come between.
+#[test]
+fn a_list_of_imports() {
+    let mut rng = Rng::of_test("a_list_of_imports", SEED);
+    let mut pair = Pair::fresh(&mut rng, 3);
+    let mut calls = LentCalls::default();
+    let mut expected = Vec::new();
+    let mut expected_lent = LentPlan::zeroed();
+    let mut texts = edges();
+    texts.push((P1_TEXT.into(), ACCEPTED));
+    for (text, answer) in texts {
+        let start = calls.octets.len();
+        calls.octets.extend(&text);
+        for length in [text.len().saturating_sub(1), text.len()] {
+            calls.kinds.push(4);
+            calls.arguments.extend([start, start + length, 0, 0]);
+            expected.push(pair.run(&Call::Import(text[..length].to_vec())));
+            expected_lent.hold(pair.plan());
+        }
+        assert_eq!(expected.last(), Some(&answer));
+        for call in [Call::Mark(0, 7), Call::Mark(3, 2)] {
+            push(&mut rng, &mut calls, &call);
+            expected.push(pair.run(&call));
+            expected_lent.hold(pair.plan());
+        }
+    }
+
+    let mut answers = vec![0; expected.len()];
+    let mut lent = LentPlan::zeroed();
+    let (mut walks, mut out) = (vec![0; WALKS], vec![0; 4 * OUT]);
+    let (mut expected_walks, mut expected_out) = (walks.clone(), out.clone());
+    let answer = proved::replay(3, &calls, &mut answers, &mut lent, &mut walks, &mut out);
+    assert_eq!(answer, ACCEPTED);
+    assert_eq!(answers, expected);
+    assert!(lent == expected_lent, "the plan after the imports");
+    let values = FIGURES.map(|figure| rounds::quote(pair.plan(), figure).value);
+    library::assert_four(
+        pair.plan(),
+        &values,
+        &walks,
+        &out,
+        &mut expected_walks,
+        &mut expected_out,
+    );
+    assert!(walks == expected_walks && out == expected_out);
 }
 
 /// One list. Most are good; some are wrong in one way or in several, and the first in the order of

@@ -13,5 +13,8 @@ mod pair;
 #[cfg(feature = "quotations")]
 mod quotations;
 mod tally;
+mod text;
+#[path = "../texts/mod.rs"]
+mod texts;
 #[path = "../vectors/mod.rs"]
 mod vectors;

@@ -1,5 +1,6 @@
 //! The two calculators side by side: each call is made on both, and what they did is compared.
 
+use reference::aldebaran;
 use reference::image::decode;
 use reference::proved::{LentPlan, ACCEPTED, COUNTS, FIELDS, MARKS};
 use reference::{Plan, Refusal, Transition, MAX_TRANSITIONS};
@@ -16,8 +17,11 @@ pub enum Call {
     Join(Transition),
     Unjoin(usize),
     Read(Vec<u8>),
+    Import(Vec<u8>),
     /// With what the lent buffer holds before the call.
     Write(Vec<u8>),
+    /// The same.
+    Export(Vec<u8>),
 }
 
 impl Call {
@@ -29,7 +33,9 @@ impl Call {
             Call::Join(_) => "join",
             Call::Unjoin(_) => "unjoin",
             Call::Read(_) => "read",
+            Call::Import(_) => "import",
             Call::Write(_) => "write",
+            Call::Export(_) => "export",
         }
     }
 }
@@ -73,6 +79,14 @@ impl Pair {
 
     pub fn image_length(&self) -> usize {
         reference::image::length(self.plan.marks.len(), self.plan.transitions.len())
+    }
+
+    /// The length of the plan's text, or of no text in particular where it has none.
+    pub fn text_length(&self) -> usize {
+        if !self.plan.within_limits() {
+            return 40;
+        }
+        aldebaran::encode(&self.plan).map_or(40, |text| text.len())
     }
 
     /// Alters the lent slices by hand. The reference then takes the plan that they hold.
@@ -124,16 +138,31 @@ impl Pair {
                 assert!(lent == *octets, "the octets changed in {call:?}");
                 (number(self.plan.read(octets)), answer)
             }
-            Call::Write(buffer) => {
+            Call::Import(text) => {
+                let lent = text.clone();
+                let answer = self.lent.import(&lent);
+                assert!(lent == *text, "the text changed in {call:?}");
+                (number(self.plan.import(text)), answer)
+            }
+            Call::Write(buffer) | Call::Export(buffer) => {
                 let mut expected_buffer = buffer.clone();
                 let mut lent_buffer = buffer.clone();
-                let expected = match self.plan.write(&mut expected_buffer) {
+                let (expected, answer) = match call {
+                    Call::Write(_) => (
+                        self.plan.write(&mut expected_buffer),
+                        self.lent.write(&mut lent_buffer),
+                    ),
+                    _ => (
+                        self.plan.export(&mut expected_buffer),
+                        self.lent.export(&mut lent_buffer),
+                    ),
+                };
+                assert!(lent_buffer == expected_buffer, "buffers after {call:?}");
+                assert!(self.lent == before, "the plan slices changed in {call:?}");
+                let expected = match expected {
                     Ok(length) => ACCEPTED + length as u32,
                     Err(refusal) => refusal.number(),
                 };
-                let answer = self.lent.write(&mut lent_buffer);
-                assert!(lent_buffer == expected_buffer, "buffers after {call:?}");
-                assert!(self.lent == before, "the plan slices changed in {call:?}");
                 (expected, answer)
             }
         };

@@ -8,7 +8,7 @@ use reference::proved::{self, LentPlan, ACCEPTED, COUNTS, FIELDS, MARKS, OUT, SH
 use reference::rng::{Case, Rng};
 use reference::{rounds, Plan, Refusal, Transition, Value, FIGURES, MAX_STATES, MAX_TRANSITIONS};
 
-use crate::calls::run_list;
+use crate::calls::{run_list, CALLS};
 use crate::edges::{breaks, p1, random};
 use crate::generate;
 use crate::library;
@@ -42,7 +42,7 @@ fn lists_of_calls_then_quotations() {
         tally.calls()
     ));
     kinds.assert_covers();
-    tally.assert_covers(&["fresh", "mark", "join", "unjoin", "read", "write"]);
+    tally.assert_covers(&CALLS);
 }
 
 /// P10, made by calls.

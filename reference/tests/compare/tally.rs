@@ -8,14 +8,16 @@ use reference::rng::print;
 
 /// The numbers by which the table lets each call be refused; of replay also those of what is no
 /// list of calls, and no plan.
-const TABLE: [(&str, &[u32]); 9] = [
+const TABLE: [(&str, &[u32]); 11] = [
     ("fresh", &[4]),
     ("from_image", &[1, 2, 3, 4, 5, 6, 7, 8]),
     ("mark", &[0, 7, 12]),
     ("join", &[0, 7, 8, 9]),
     ("unjoin", &[0, 10]),
     ("read", &[0, 1, 2, 3, 4, 5, 6, 7, 8]),
+    ("import", &[0, 4, 5, 7, 8, 15]),
     ("write", &[0, 11]),
+    ("export", &[0, 11, 14]),
     ("quote", &[1, 2, 3, 4, 5, 6, 7, 8]),
     ("replay", &[4, 11, 254, 255]),
 ];

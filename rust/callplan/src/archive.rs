@@ -80,6 +80,28 @@ extern "C" {
         buffer_len: usize,
     ) -> u32;
 
+    pub fn callplan_lent_import(
+        counts: *mut usize,
+        counts_len: usize,
+        marks: *mut u8,
+        marks_len: usize,
+        fields: *mut u16,
+        fields_len: usize,
+        text: *const u8,
+        text_len: usize,
+    ) -> u32;
+
+    pub fn callplan_lent_export(
+        counts: *const usize,
+        counts_len: usize,
+        marks: *const u8,
+        marks_len: usize,
+        fields: *const u16,
+        fields_len: usize,
+        buffer: *mut u8,
+        buffer_len: usize,
+    ) -> u32;
+
     pub fn callplan_lent_least_delay(
         counts: *const usize,
         counts_len: usize,

@@ -1,4 +1,5 @@
-//! The call plan calculator: a call plan is edited, read and written as an image, and quoted.
+//! The call plan calculator: a call plan is edited, read and written as an image, imported and
+//! exported as Aldebaran text, and quoted.
 //!
 //! The calls are those of the proved archive, `libcallplan.a`, and each answers as `callplan.h`
 //! says. No call keeps anything when it has returned, so plans may be used from any thread. The
@@ -39,6 +40,8 @@ pub const MAX_TRANSITIONS: usize = 2048;
 pub const MAX_DURATION: u32 = 2047;
 /// The most octets of an image.
 pub const MAX_IMAGE_OCTETS: usize = 10756;
+/// The most octets of a text that is exported, or accepted by [`Plan::import`].
+pub const MAX_TEXT_OCTETS: usize = 51221;
 /// The octets of a record.
 pub const RECORD_OCTETS: usize = 11;
 
@@ -51,9 +54,9 @@ pub const COUNTED: u32 = 1;
 
 /// The version of the archive that this crate is for: 10,000 times the first number, 100 times the
 /// second, and the third.
-pub const VERSION_NUMBER: u32 = 200;
+pub const VERSION_NUMBER: u32 = 300;
 
-/// What the archive answers for accepted. Write and record add the octets' number.
+/// What the archive answers for accepted. Write, export and record add the octets' number.
 const ACCEPTED: u32 = 256;
 
 /// A transition: it takes from `low` to `high` seconds.
@@ -319,6 +322,67 @@ impl Plan {
     pub fn write(&self, buffer: &mut [u8]) -> Result<usize, Refusal> {
         accepted(unsafe {
             archive::callplan_lent_write(
+                self.counts.as_ptr(),
+                self.counts.len(),
+                self.marks.as_ptr(),
+                self.marks.len(),
+                self.fields.as_ptr(),
+                self.fields.len(),
+                buffer.as_mut_ptr(),
+                buffer.len(),
+            )
+        })
+    }
+
+    /// Becomes the plan that the Aldebaran text holds. The initial state is marked [`START`], and
+    /// nothing else is marked. [`Plan::export`] then gives the same text.
+    ///
+    /// The first line is `des (INITIAL, TRANSITIONS, STATES)`, with the initial state and the two
+    /// counts. Then there is a line `(FROM, "LOW..HIGH", TO)` for each transition, in their order.
+    /// Every line is ended by a line feed, and every space is as it stands here. Numbers are decimal,
+    /// of any length and without leading zeros.
+    ///
+    /// ```
+    /// use callplan::{Plan, Refusal, START};
+    ///
+    /// let mut plan = Plan::fresh(1)?;
+    /// plan.import(b"des (1, 1, 2)\n(1, \"5..20\", 0)\n")?;
+    /// assert_eq!((plan.states(), plan.marks(1)), (2, Some(START)));
+    /// assert_eq!(plan.import(b"des (1,0,2)\n"), Err(Refusal::TextForm));
+    /// # Ok::<(), Refusal>(())
+    /// ```
+    ///
+    /// # Errors
+    ///
+    /// [`Refusal::TextForm`] of the whole text, the number of its lines included;
+    /// [`Refusal::StateCount`], [`Refusal::TransitionCount`]; [`Refusal::StateNumber`] of the initial
+    /// state; line by line [`Refusal::StateNumber`], [`Refusal::Duration`]. The plan then stays as it
+    /// was.
+    pub fn import(&mut self, text: &[u8]) -> Result<(), Refusal> {
+        let answer = unsafe {
+            archive::callplan_lent_import(
+                self.counts.as_mut_ptr(),
+                self.counts.len(),
+                self.marks.as_mut_ptr(),
+                self.marks.len(),
+                self.fields.as_mut_ptr(),
+                self.fields.len(),
+                text.as_ptr(),
+                text.len(),
+            )
+        };
+        accepted(answer).map(|_| ())
+    }
+
+    /// Puts the Aldebaran text at the front of the buffer, and gives the number of its octets, at
+    /// most [`MAX_TEXT_OCTETS`]. Imported, it is the plan without its final and counted marks.
+    ///
+    /// # Errors
+    ///
+    /// [`Refusal::StartCount`], [`Refusal::BufferLength`].
+    pub fn export(&self, buffer: &mut [u8]) -> Result<usize, Refusal> {
+        accepted(unsafe {
+            archive::callplan_lent_export(
                 self.counts.as_ptr(),
                 self.counts.len(),
                 self.marks.as_ptr(),

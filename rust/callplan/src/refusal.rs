@@ -35,12 +35,16 @@ pub enum Refusal {
     MarksValue,
     /// A figure of the record is above 1,048,575. No plan has one, so this never comes back.
     FigureSize,
+    /// Not exactly one state is marked start.
+    StartCount,
+    /// The text is off the form of Aldebaran text.
+    TextForm,
     /// A number that this version of the crate does not know.
     Other(u32),
 }
 
 /// Each refusal with its number, and what it says.
-const REFUSALS: [(Refusal, u32, &str); 14] = [
+const REFUSALS: [(Refusal, u32, &str); 16] = [
     (Refusal::PlanLimits, 0, "the plan breaks a limit of a plan"),
     (
         Refusal::ImageShort,
@@ -90,6 +94,16 @@ const REFUSALS: [(Refusal, u32, &str); 14] = [
         Refusal::FigureSize,
         13,
         "a figure of the record is above 1,048,575",
+    ),
+    (
+        Refusal::StartCount,
+        14,
+        "not exactly one state is marked start",
+    ),
+    (
+        Refusal::TextForm,
+        15,
+        "the text is off the form of Aldebaran text",
     ),
 ];
 

@@ -11,6 +11,14 @@ const P1: [u8; 28] = [
     0x18, 0x0F, 0x00, 0x80, 0xC0, 0x10, 0x1E, 0x01, 0x00, 0xC0, 0x20, 0x19,
 ];
 
+/// Its text.
+const P1_TEXT: &str = r#"des (0, 4, 4)
+(0, "5..20", 1)
+(1, "3..15", 2)
+(1, "2..30", 3)
+(2, "4..25", 3)
+"#;
+
 fn transition(from: usize, to: usize, low: u32, high: u32) -> Transition {
     Transition {
         from,
@@ -120,6 +128,51 @@ fn images_are_written_and_read() {
         assert_eq!(plan.read(&octets), Err(refusal));
     }
     assert_eq!((plan.states(), plan.transitions()), (1, 0));
+}
+
+#[test]
+fn texts_are_exported_and_imported() {
+    let mut plan = p1().unwrap();
+    let length = P1_TEXT.len();
+    let mut buffer = [0xAA; callplan::MAX_TEXT_OCTETS];
+    let short = plan.export(&mut buffer[..length - 1]);
+    assert_eq!(short, Err(Refusal::BufferLength));
+    assert_eq!(plan.export(&mut []), Err(Refusal::BufferLength));
+    assert_eq!(buffer[0], 0xAA);
+    assert_eq!(plan.export(&mut buffer), Ok(length));
+    assert_eq!(buffer[..length], *P1_TEXT.as_bytes());
+    assert_eq!(buffer[length], 0xAA);
+    plan.mark(0, COUNTED).unwrap();
+    assert_eq!(plan.export(&mut []), Err(Refusal::StartCount));
+    plan.mark(0, START).unwrap();
+    plan.mark(1, START).unwrap();
+    assert_eq!(plan.export(&mut buffer), Err(Refusal::StartCount));
+
+    let mut plan = Plan::fresh(1).unwrap();
+    for (text, refusal) in [
+        ("", Refusal::TextForm),
+        ("des (0, 0, 1)", Refusal::TextForm),
+        ("des (0,0,1)\n", Refusal::TextForm),
+        ("des (0, 1, 513)\n", Refusal::TextForm),
+        ("des (0, 0, 513)\n", Refusal::StateCount),
+        ("des (1, 1, 1)\n(0, \"1..0\", 0)\n", Refusal::StateNumber),
+        ("des (0, 1, 1)\n(0, \"1..0\", 1)\n", Refusal::StateNumber),
+        ("des (0, 1, 1)\n(0, \"1..0\", 0)\n", Refusal::Duration),
+        ("des (0, 1, 1)\n(0, \"0..2048\", 0)\n", Refusal::Duration),
+    ] {
+        assert_eq!(plan.import(text.as_bytes()), Err(refusal), "{text:?}");
+    }
+    let many = format!("des (0, 2049, 1)\n{}", "(0, \"0..0\", 0)\n".repeat(2049));
+    let refused = plan.import(many.as_bytes());
+    assert_eq!(refused, Err(Refusal::TransitionCount));
+    assert_eq!((plan.states(), plan.transitions()), (1, 0));
+
+    assert_eq!(plan.import(P1_TEXT.as_bytes()), Ok(()));
+    let mut stripped = p1().unwrap();
+    for state in 1..4 {
+        stripped.mark(state, 0).unwrap();
+    }
+    assert_eq!(plan, stripped);
 }
 
 #[test]

@@ -9,7 +9,9 @@ use std::hint::black_box;
 use std::ptr::null_mut;
 use std::slice;
 
-use callplan::{Plan, Transition, FINAL, MAX_IMAGE_OCTETS, MAX_STATES, MAX_TRANSITIONS, START};
+use callplan::{
+    Plan, Transition, FINAL, MAX_IMAGE_OCTETS, MAX_STATES, MAX_TEXT_OCTETS, MAX_TRANSITIONS, START,
+};
 
 const STACK: usize = 1 << 20;
 /// What docs/LINKING.md says of the crate.
@@ -108,6 +110,10 @@ fn every_call_stays_within_what_is_said() {
     tell("mark", used(|| target.mark(0, START).unwrap()));
     tell("unjoin", used(|| target.unjoin(0).unwrap()));
     tell("write", used(|| assert!(plan.write(&mut buffer).is_ok())));
+    let mut text = vec![0; MAX_TEXT_OCTETS];
+    tell("export", used(|| assert!(plan.export(&mut text).is_ok())));
+    let length = plan.export(&mut text).unwrap();
+    tell("import", used(|| target.import(&text[..length]).unwrap()));
     tell(
         "least_delay",
         used(|| assert!(!plan.least_delay().walk().is_empty())),

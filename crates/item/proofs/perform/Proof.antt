@@ -1,8 +1,9 @@
--- `item::perform`: kind by kind, the promise of the edit on the slices is the call's. A kind past 2 that was let in is a read, and its part lies within
--- the octets (`a-read`). Assumes nothing.
+-- `item::perform`: kind by kind, the promise of the edit on the slices is the call's. A kind past 2 that was let in is a read or an import, and its part lies
+-- within the octets (`a-part`). Assumes nothing.
+use mathlib.Core.Path.{_≡_}
 use native.Mathlib.Omega.{arith}
 use lib.ListN.{length}
-use Rattle.item.proofs.ReadCalls.{a-read}
+use Rattle.item.proofs.Parts.{Part, a-part}
 use borrow.Author.Needs.{needs}
 use Rattle.item.proofs.perform.Statement.{statement}
 use Rattle.item.proofs.perform.Tie as tie
@@ -10,7 +11,7 @@ use Rattle.item.proofs.perform.Reads as reads
 use Rattle.item.proofs.perform.Lts as lts
 use Rattle.edits.proofs.join.Reads as join-reads
 use Rattle.edits.proofs.mark.Reads as mark-reads
-use Rattle.edits.proofs.read.Reads as read-reads
+use Rattle.edits.proofs.replace.Reads as replace-reads
 use Rattle.edits.proofs.unjoin.Reads as unjoin-reads
 
 mark-requires : tie.Need-mark-requires
@@ -22,26 +23,39 @@ join-requires c κs = search needs
 unjoin-requires : tie.Need-unjoin-requires
 unjoin-requires c κs = search needs
 
-sub-read : tie.Need-sub-read
-sub-read c =
-    let a = c .before .before .before .before .before .before .before .before .args in
-    let p = a-read (a .kind) (a .a) (a .b) (length (a .octets .now)) (c .before .before .before .before .before .before .before .before .pre) (c .before .before .before .match .rest .0 .0 .1) (c .before .before .before .match .rest .0 .1) (c .before .before .before .match .rest .1) in
-    omega (arith, p .start, p .end)
+-- the part of a read, and of an import
+read-part : (c : tie.After-replace-arg3) → Part (c .before .before .before .before .before .before .before .before .args .kind) (c .before .before .before .before .before .before .before .before .args .a) (c .before .before .before .before .before .before .before .before .args .b) (length (c .before .before .before .before .before .before .before .before .args .octets .now))
+read-part c = let a = c .before .before .before .before .before .before .before .before .args in a-part (a .kind) (a .a) (a .b) (length (a .octets .now)) (c .before .before .before .before .before .before .before .before .pre) (omega (arith, c .before .before .before .match .keys4))
 
-part-read-start : tie.Need-part-read-start
-part-read-start c =
+import-part : (c : tie.After-replace-arg7) → Part (c .before .before .before .before .before .before .before .before .args .kind) (c .before .before .before .before .before .before .before .before .args .a) (c .before .before .before .before .before .before .before .before .args .b) (length (c .before .before .before .before .before .before .before .before .args .octets .now))
+import-part c =
     let a = c .before .before .before .before .before .before .before .before .args in
-    let p = a-read (a .kind) (a .a) (a .b) (length (a .octets .now)) (c .before .before .before .before .before .before .before .before .pre) (c .before .before .before .match .rest .0 .0 .1) (c .before .before .before .match .rest .0 .1) (c .before .before .before .match .rest .1) in
-    omega (arith, p .start, p .end)
+    let r = c .before .before .before .match .rest in
+    a-part (a .kind) (a .a) (a .b) (length (a .octets .now)) (c .before .before .before .before .before .before .before .before .pre) (omega (arith, r .0 .0 .0 .1, r .0 .0 .1, r .0 .1, r .1))
 
-part-read-end : tie.Need-part-read-end
-part-read-end c =
-    let a = c .before .before .before .before .before .before .before .before .args in
-    let p = a-read (a .kind) (a .a) (a .b) (length (a .octets .now)) (c .before .before .before .before .before .before .before .before .pre) (c .before .before .before .match .rest .0 .0 .1) (c .before .before .before .match .rest .0 .1) (c .before .before .before .match .rest .1) in
-    omega (arith, p .start, p .end)
+sub-replace : tie.Need-sub-replace
+sub-replace c = omega (arith, read-part c .start, read-part c .end)
 
-read-requires : tie.Need-read-requires
-read-requires c κs = search needs
+part-replace-start : tie.Need-part-replace-start
+part-replace-start c = omega (arith, read-part c .start, read-part c .end)
+
+part-replace-end : tie.Need-part-replace-end
+part-replace-end c = omega (arith, read-part c .start, read-part c .end)
+
+replace-requires : tie.Need-replace-requires
+replace-requires c κs = search needs
+
+sub-replace-2 : tie.Need-sub-replace-2
+sub-replace-2 c = omega (arith, import-part c .start, import-part c .end)
+
+part-replace-start-2 : tie.Need-part-replace-start-2
+part-replace-start-2 c = omega (arith, import-part c .start, import-part c .end)
+
+part-replace-end-2 : tie.Need-part-replace-end-2
+part-replace-end-2 c = omega (arith, import-part c .start, import-part c .end)
+
+replace-requires-2 : tie.Need-replace-requires-2
+replace-requires-2 c κs = search needs
 
 same-length : tie.Need-same-length
 same-length c = search needs
@@ -89,9 +103,22 @@ same-length-12 : tie.Need-same-length-12
 same-length-12 c = search needs
 
 returns-4 : tie.Need-returns-4
-returns-4 c =
-    let a = c .before .before .before .before .before .before .before .before .before .before .before .before .before .before .before .before .args in
-    rw (a-read (a .kind) (a .a) (a .b) (length (a .octets .now)) (c .before .before .before .before .before .before .before .before .before .before .before .before .before .before .before .before .pre) (c .before .before .before .before .before .before .before .before .before .before .before .match .rest .0 .0 .1) (c .before .before .before .before .before .before .before .before .before .before .before .match .rest .0 .1) (c .before .before .before .before .before .before .before .before .before .before .before .match .rest .1) .read) (c .before .before .before .before .before .before .read .ensures)
+returns-4 c = rw (c .before .before .before .before .before .before .before .before .before .before .before .match .keys4) (c .before .before .before .before .before .before .replace .ensures)
+
+same-length-13 : tie.Need-same-length-13
+same-length-13 c = search needs
+
+same-length-14 : tie.Need-same-length-14
+same-length-14 c = search needs
+
+same-length-15 : tie.Need-same-length-15
+same-length-15 c = search needs
+
+returns-5 : tie.Need-returns-5
+returns-5 c =
+    let r = c .before .before .before .before .before .before .before .before .before .before .before .match .rest in
+    let e : c .before .before .before .before .before .before .before .before .before .before .before .before .before .before .before .before .args .kind ≡ 4 = omega (arith, import-part (c .before .before .before .before .before .before .before .before) .known, r .0 .0 .0 .1, r .0 .0 .1, r .0 .1, r .1) in
+    rw e (c .before .before .before .before .before .before .replace2 .ensures)
 
 pub perform-spec : {M : Type 1} → statement M
 perform-spec =
@@ -100,10 +127,14 @@ perform-spec =
     mark-requires
     join-requires
     unjoin-requires
-    sub-read
-    part-read-start
-    part-read-end
-    read-requires
+    sub-replace
+    part-replace-start
+    part-replace-end
+    replace-requires
+    sub-replace-2
+    part-replace-start-2
+    part-replace-end-2
+    replace-requires-2
     same-length
     same-length-2
     same-length-3
@@ -119,4 +150,8 @@ perform-spec =
     same-length-10
     same-length-11
     same-length-12
-    returns-4)
+    returns-4
+    same-length-13
+    same-length-14
+    same-length-15
+    returns-5)

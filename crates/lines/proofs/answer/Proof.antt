@@ -4,7 +4,8 @@ use native.Mathlib.Omega.{arith}
 use Rattle.quotation.proofs.Kept.{held-within-limits}
 use Rattle.quotation.proofs.Recorded.{quotes-fit}
 use Rattle.quotation.proofs.Small.{four-small}
-use Rattle.lines.proofs.Prints.{refused-room, prints-nothing, prints-figures, prints-refusal}
+use Rattle.wording.proofs.Lengths.{refused-room}
+use Rattle.lines.proofs.Prints.{prints-nothing, prints-figures, prints-refusal}
 use borrow.Author.Needs.{needs}
 use Rattle.lines.proofs.answer.Statement.{statement}
 use Rattle.lines.proofs.answer.Tie as tie

@@ -4,8 +4,8 @@ use mathlib.Core.Path.{_≡_, refl, sym, ap, _∙_}
 use Rattle.graph.specs.Graph.{Graph}
 use Rattle.rules.specs.declared.Answer.{Answer}
 use Rattle.rules.specs.Image.{readImage}
+use Rattle.rules.specs.Refusal.{came}
 use Rattle.arrays.specs.Tables.{graphOf}
-use Rattle.image.specs.Read.{came}
 use Rattle.plan.specs.View.{view, noPlan}
 use Rattle.plan.proofs.Edits.{refusal, acceptance}
 use borrow.Author.Needs.{needs}

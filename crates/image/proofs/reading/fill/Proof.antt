@@ -6,8 +6,8 @@ use native.Mathlib.Omega.{arith}
 use lib.ListN.{length}
 use Rattle.rules.specs.Refusal.{accepted, said}
 use Rattle.rules.specs.Table.{first}
+use Rattle.arrays.specs.Tables.{Fields, LaterFields}
 use Rattle.arrays.proofs.Lists.{later-none}
-use Rattle.image.specs.Read.{Fields, LaterFields}
 use Rattle.image.proofs.Filling.{statesRows, Head, header, by-header, by-states, by-answer}
 use borrow.Author.Needs.{needs}
 use Rattle.image.proofs.reading.fill.Statement.{statement}

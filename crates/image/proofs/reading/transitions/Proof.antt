@@ -15,8 +15,7 @@ use Rattle.rules.specs.Table.{Row, first, byNumber, NoneHolds}
 use Rattle.rules.proofs.ReadWrite.{Bounded, bounded, rows-ok}
 use Rattle.rules.proofs.Tables.{item-decides, accepted-where, accepted-only, none-each}
 use Rattle.rules.proofs.Tabulated.{tabulate-same}
-use Rattle.image.specs.Read.{LaterFields, fields}
-use Rattle.arrays.specs.Tables.{transitionOf, Later}
+use Rattle.arrays.specs.Tables.{transitionOf, Later, LaterFields, fields}
 use Rattle.image.specs.Values.{meant}
 use Rattle.arrays.proofs.Lists.{transition-other, transition-here, later-none, later-set}
 use Rattle.image.proofs.reading.transitions.Statement.{statement}

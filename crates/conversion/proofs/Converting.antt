@@ -1,0 +1,101 @@
+-- What octets hold is put in the other form: the octets' grounds refuse first, and past them the plan is theirs and within the limits, so that the other call's
+-- rows past 0 decide. Assumes nothing.
+use mathlib.Core.Bool.{true}
+use mathlib.Core.List.{List, _++_}
+use mathlib.Core.Path.{_≡_, refl, sym, ap, _∙_}
+use Prim.Native.Nat.{ℕ}
+use lib.ListN.{length}
+use Rattle.graph.specs.Graph.{Graph, states, count}
+use Rattle.rules.specs.declared.Answer.{Answer}
+use Rattle.rules.specs.declared.Refusal.{Refusal}
+use Rattle.rules.specs.declared.Written.{Written}
+use Rattle.rules.specs.Aldebaran.{textRows, graphInText, importText, exportText, exportRows, exportRule}
+use Rattle.rules.specs.Calls.{step, import}
+use Rattle.rules.specs.Image.{image, imageLength, imageRows, graphIn, readImage}
+use Rattle.rules.specs.Limits.{within}
+use Rattle.rules.specs.Quotations.{Write}
+use Rattle.rules.specs.Refusal.{accepted, refused, said}
+use Rattle.rules.specs.Rules.{freshGraph, freshRule, writeRows, writeRule, written, next}
+use Rattle.rules.specs.Table.{Row, byTable, first, NoneHolds}
+use Rattle.rules.proofs.ImportExport.{import-within}
+use Rattle.rules.proofs.Basic.{fresh-done, import-given}
+use Rattle.rules.proofs.Kept.{fresh-within}
+use Rattle.rules.proofs.ReadWrite.{read-within}
+use Rattle.rules.proofs.Tables.{accepted-only, accepted-where, answer-first, after-none, after-refused}
+use Rattle.plan.specs.declared.Edited.{Edited}
+use Rattle.plan.specs.declared.Plan.{Plan}
+use Rattle.plan.specs.Promise.{Edit, Held}
+use Rattle.plan.specs.View.{view, noPlan}
+use Rattle.conversion.specs.Rules.{pastLimits, imageRule, textRule}
+
+-- ---- octets that hold a plan by their rows, and a call that puts some of it
+
+module _ (rows last : List Row) (g : Graph) (p : Plan) (e : Edited) (x : Edit p (byTable rows g) e) where
+  by-rows : said (e .answer) ≡ first rows
+  by-rows = x .answer ∙ answer-first rows g
+
+  -- refused octets leave the buffer
+  stays : (k : Refusal) → e .answer ≡ Answer.Refused k → (octets before : List ℕ) (n : ℕ)
+      → Write octets (byTable (rows ++ last) n) before before (Written.Refused k)
+  stays k a octets before n =
+      let d : byTable (rows ++ last) n ≡ refused k = after-refused rows last n k (sym by-rows ∙ ap said a) in
+      record { answer = sym d; buffer = sym (ap (written octets before) d) }
+
+  -- past the octets' grounds none of them holds, the plan is theirs, and the call's rows decide
+  module _ (a : e .answer ≡ Answer.Accepted) where
+    none : NoneHolds rows
+    none = accepted-only rows tt tt (sym by-rows ∙ ap said a) .0
+
+    accepts : byTable rows g ≡ accepted g
+    accepts = accepted-where rows g none
+
+    holds : view (e .plan) ≡ g
+    holds = x .plan ∙ ap (next (view p)) accepts
+
+    puts : (n : ℕ) {octets before after : List ℕ} {w : Written} → Write octets (byTable last n) before after w → Write octets (byTable (rows ++ last) n) before after w
+    puts n y = rw (after-none rows last n none) y
+
+-- ---- an image for a text
+
+module _ (text before : List ℕ) (f : Edited) (y : Edit noPlan (freshRule 1) f) (e : Edited) (x : Edit (f .plan) (step (view (f .plan)) (import text)) e) where
+  -- the text is imported over a plan of one state, which is within the limits: the text alone decides
+  alone : Edit (f .plan) (byTable (textRows text) (graphInText text)) e
+  unfolding importText
+  alone =
+      let v : view (f .plan) ≡ freshGraph 1 = y .plan ∙ ap (next (view noPlan)) (fresh-done 1 refl) in
+      rw (← import-given (view (f .plan)) text (ap within v ∙ fresh-within 1 refl)) x
+
+  pub image-refused : (k : Refusal) → e .answer ≡ Answer.Refused k → Write (image (graphInText text)) (imageRule text before) before before (Written.Refused k)
+  unfolding imageRule
+  image-refused k a = stays (textRows text) (pastLimits (writeRows (graphInText text) before)) (graphInText text) (f .plan) e alone k a _ before _
+
+  pub image-put : e .answer ≡ Answer.Accepted → (after : List ℕ) (w : Written) → Write (image (view (e .plan))) (writeRule (view (e .plan)) before) before after w
+      → Write (image (graphInText text)) (imageRule text before) before after w
+  unfolding imageRule writeRule importText
+  image-put a after w z =
+      let g : Graph = graphInText text in
+      let h = holds (textRows text) (pastLimits (writeRows g before)) g (f .plan) e alone a in
+      let i : within g ≡ true = import-within text g (accepts (textRows text) (pastLimits (writeRows g before)) g (f .plan) e alone a) in
+      let z′ : Write (image g) (writeRule g before) before after w = rw (← h) z in
+      puts (textRows text) (pastLimits (writeRows g before)) g (f .plan) e alone a (imageLength (states g) (count g)) (rw i at z′)
+
+-- ---- a text for an image
+
+module _ (octets before : List ℕ) (e : Edited) (x : Held octets e) where
+  read : Edit noPlan (byTable (imageRows octets) (graphIn octets)) e
+  unfolding readImage
+  read = x
+
+  pub text-refused : (k : Refusal) → e .answer ≡ Answer.Refused k → Write (exportText (graphIn octets)) (textRule octets before) before before (Written.Refused k)
+  unfolding textRule
+  text-refused k a = stays (imageRows octets) (pastLimits (exportRows (graphIn octets) before)) (graphIn octets) noPlan e read k a _ before _
+
+  pub text-put : e .answer ≡ Answer.Accepted → (after : List ℕ) (w : Written) → Write (exportText (view (e .plan))) (exportRule (view (e .plan)) before) before after w
+      → Write (exportText (graphIn octets)) (textRule octets before) before after w
+  unfolding textRule exportRule readImage
+  text-put a after w z =
+      let g : Graph = graphIn octets in
+      let h = holds (imageRows octets) (pastLimits (exportRows g before)) g noPlan e read a in
+      let i : within g ≡ true = read-within octets g (accepts (imageRows octets) (pastLimits (exportRows g before)) g noPlan e read a) in
+      let z′ : Write (exportText g) (exportRule g before) before after w = rw (← h) z in
+      puts (imageRows octets) (pastLimits (exportRows g before)) g noPlan e read a (length (exportText g)) (rw i at z′)
