@@ -253,6 +253,52 @@ static void quotations(void)
     CHECK(is_figure(&figure, CALLPLAN_NONE, 0, 0, 0));
 }
 
+/* A high of 2,047 means no limit: the greatest delay, its walk with j at k, and the record. */
+static void open_highs(void)
+{
+    static const uint8_t open_record[CALLPLAN_RECORD_OCTETS] = {0x00, 0x00, 0x0B, 0x00, 0x00, 0x00, 0x00, 0x00, 0x40, 0x00, 0x01};
+    callplan_plan plan;
+    callplan_figure figure;
+    callplan_transition last;
+    uint8_t buffer[CALLPLAN_RECORD_OCTETS];
+
+    CHECK(CALLPLAN_OPEN_HIGH == CALLPLAN_MAX_DURATION);
+    CHECK(callplan_fresh(&plan, 3) == CALLPLAN_ACCEPTED);
+    CHECK(callplan_mark(&plan, 0, CALLPLAN_START) == CALLPLAN_ACCEPTED);
+    CHECK(callplan_mark(&plan, 1, CALLPLAN_COUNTED) == CALLPLAN_ACCEPTED);
+    CHECK(callplan_mark(&plan, 2, CALLPLAN_FINAL) == CALLPLAN_ACCEPTED);
+    CHECK(callplan_join(&plan, 0, 1, 1, 1) == CALLPLAN_ACCEPTED);
+    CHECK(callplan_join(&plan, 1, 2, 1, CALLPLAN_OPEN_HIGH) == CALLPLAN_ACCEPTED);
+    last = callplan_transition_at(&plan, 1);
+    CHECK(last.low == 1 && last.high == CALLPLAN_OPEN_HIGH);
+
+    memset(&figure, 0xAA, sizeof figure);
+    CHECK(callplan_greatest_delay(&plan, &figure) == CALLPLAN_ACCEPTED);
+    CHECK(is_figure(&figure, CALLPLAN_ENDLESS, 0, 2, 2) && figure.walk[0] == 0 && figure.walk[1] == 1 && figure.walk[2] == 0xAAAA);
+    CHECK(callplan_least_delay(&plan, &figure) == CALLPLAN_ACCEPTED);
+    CHECK(is_figure(&figure, CALLPLAN_NUMBER, 2, 2, 0));
+    CHECK(callplan_least_count(&plan, &figure) == CALLPLAN_ACCEPTED);
+    CHECK(is_figure(&figure, CALLPLAN_NUMBER, 1, 2, 0));
+    CHECK(callplan_greatest_count(&plan, &figure) == CALLPLAN_ACCEPTED);
+    CHECK(is_figure(&figure, CALLPLAN_NUMBER, 1, 2, 0));
+    CHECK(callplan_record(&plan, buffer, sizeof buffer, NULL) == CALLPLAN_ACCEPTED);
+    CHECK(memcmp(buffer, open_record, sizeof open_record) == 0);
+
+    /* A second less is a number, and out of a final state an open high is of no account. A low of 2,047 is 2,047 seconds. */
+    CHECK(callplan_unjoin(&plan, 1) == CALLPLAN_ACCEPTED);
+    CHECK(callplan_join(&plan, 1, 2, 1, CALLPLAN_OPEN_HIGH - 1) == CALLPLAN_ACCEPTED);
+    CHECK(callplan_join(&plan, 2, 0, 0, CALLPLAN_OPEN_HIGH) == CALLPLAN_ACCEPTED);
+    CHECK(callplan_greatest_delay(&plan, &figure) == CALLPLAN_ACCEPTED);
+    CHECK(is_figure(&figure, CALLPLAN_NUMBER, 2047, 2, 0));
+    CHECK(callplan_unjoin(&plan, 1) == CALLPLAN_ACCEPTED);
+    CHECK(callplan_join(&plan, 1, 2, CALLPLAN_OPEN_HIGH, CALLPLAN_OPEN_HIGH) == CALLPLAN_ACCEPTED);
+    CHECK(callplan_least_delay(&plan, &figure) == CALLPLAN_ACCEPTED);
+    CHECK(is_figure(&figure, CALLPLAN_NUMBER, 2048, 2, 0) && figure.walk[1] == 2);
+    CHECK(callplan_greatest_delay(&plan, &figure) == CALLPLAN_ACCEPTED);
+    CHECK(is_figure(&figure, CALLPLAN_ENDLESS, 0, 2, 2) && figure.walk[1] == 2);
+    CHECK(callplan_join(&plan, 1, 2, 0, CALLPLAN_OPEN_HIGH + 1) == CALLPLAN_REFUSED_DURATION);
+}
+
 static void quotations_of_an_image(void)
 {
     static callplan_quotations quotations;
@@ -446,6 +492,7 @@ int main(void)
     images();
     texts();
     quotations();
+    open_highs();
     quotations_of_an_image();
     broken_plan();
     short_slices();

@@ -20,6 +20,7 @@ FILES = {
     "calls": "crates/calls/specs/Slices.antt",
     "which": "crates/graph/specs/Which.antt",
     "figure": "crates/graph/specs/Figure.antt",
+    "route": "crates/graph/specs/Route.antt",
     "graph": "crates/graph/specs/Graph.antt",
     "numbers": "crates/numbers/src/lib.rt",
     "refusal": "crates/rules/specs/Refusal.antt",
@@ -153,6 +154,7 @@ def comparisons(t):
         "MAX_STATES": states,
         "MAX_TRANSITIONS": transitions,
         "MAX_DURATION": duration,
+        "OPEN_HIGH": number(t["route"], r"limit high = cond \(eqb high (\d+)\) Open"),
         "MAX_IMAGE_OCTETS": octets,
         "MAX_TEXT_OCTETS": text,
         "RECORD_OCTETS": number(t["quotations"], r"recordRows g buffer = limitRow g ∷ bufferRow buffer (\d+)"),
@@ -170,6 +172,9 @@ def comparisons(t):
     for name, value in marks.items():
         yield f"include/callplan.h: {name}", value, number(t["header"], rf"\bCALLPLAN_{name} = (\d)")
         yield f"rust/callplan: {name}", value, number(t["crate"], rf"pub const {name}: u32 = (\d);")
+    bounds = re.findall(r"(?m)^most \w+ = (\d+)$", t["figure"])
+    said = re.findall(r"seconds, at most ([\d,]+) for the least delay and ([\d,]+) for the greatest, or counted states, at most (\d+);", t["header"])
+    yield "include/callplan.h: the bounds of a number", bounds, [x.replace(",", "") for least, greatest, count in said for x in (least, greatest, count, count)]
     declared = between(t["header"], "typedef enum callplan_kind {", "} callplan_kind;")
     yield "include/callplan.h: the kinds", kinds, numbers(declared, r"CALLPLAN_(\w+) = (\d)")
 
@@ -264,6 +269,8 @@ DAMAGES = [
     ("graph", "finalBit v = v / 2", "finalBit v = v / 4"),
     ("graph", "countedBit v = v % 2", "countedBit v = v / 8 % 2"),
     ("figure", "kind STRANDED = 2", "kind STRANDED = 3"),
+    ("figure", "most GreatestDelay = 1045506", "most GreatestDelay = 1046017"),
+    ("route", "eqb high 2047", "eqb high 2046"),
     ("header", "uint32_t callplan_lent_read(", "uint64_t callplan_lent_read("),
     ("header", "uint32_t callplan_lent_write(const size_t *counts", "uint32_t callplan_lent_write(size_t *counts"),
     ("header", "size_t from, size_t to", "size_t to, size_t from"),
@@ -284,6 +291,8 @@ DAMAGES = [
     ("header", "CALLPLAN_MAX_STATES 512", "CALLPLAN_MAX_STATES 511"),
     ("header", "CALLPLAN_MAX_TRANSITIONS 2048", "CALLPLAN_MAX_TRANSITIONS 2047"),
     ("header", "CALLPLAN_MAX_DURATION 2047", "CALLPLAN_MAX_DURATION 2048"),
+    ("header", "CALLPLAN_OPEN_HIGH 2047", "CALLPLAN_OPEN_HIGH 2046"),
+    ("header", "1,046,017 for the least", "1,045,506 for the least"),
     ("header", "CALLPLAN_MAX_IMAGE_OCTETS 10756", "CALLPLAN_MAX_IMAGE_OCTETS 10755"),
     ("header", "CALLPLAN_MAX_TEXT_OCTETS 51221", "CALLPLAN_MAX_TEXT_OCTETS 51220"),
     ("header", "CALLPLAN_RECORD_OCTETS 11", "CALLPLAN_RECORD_OCTETS 16"),
@@ -302,6 +311,7 @@ DAMAGES = [
     ("crate", "MAX_STATES: usize = 512", "MAX_STATES: usize = 1024"),
     ("crate", "MAX_TRANSITIONS: usize = 2048", "MAX_TRANSITIONS: usize = 1024"),
     ("crate", "MAX_IMAGE_OCTETS: usize = 10756", "MAX_IMAGE_OCTETS: usize = 10757"),
+    ("crate", "OPEN_HIGH: u32 = 2047", "OPEN_HIGH: u32 = 2046"),
     ("crate", "MAX_TEXT_OCTETS: usize = 51221", "MAX_TEXT_OCTETS: usize = 51222"),
     ("crate", "ACCEPTED: u32 = 256", "ACCEPTED: u32 = 255"),
     ("crate", "FINAL: u32 = 2", "FINAL: u32 = 1"),
@@ -314,13 +324,13 @@ DAMAGES = [
     ("refusals", '"a pad or spare bit is set"', '"a spare bit is set"'),
     ("header", 'return "the marks value is above 7"', 'return "the marks value is above 8"'),
     ("header", '    case CALLPLAN_ACCEPTED: return "accepted";\n', ""),
-    ("header", "CALLPLAN_VERSION_NUMBER 3", "CALLPLAN_VERSION_NUMBER 4"),
-    ("binding", "r ≡ 300 ⌝", "r ≡ 301 ⌝"),
-    ("crate", "VERSION_NUMBER: u32 = 3", "VERSION_NUMBER: u32 = 4"),
+    ("header", "CALLPLAN_VERSION_NUMBER 4", "CALLPLAN_VERSION_NUMBER 5"),
+    ("binding", "r ≡ 400 ⌝", "r ≡ 401 ⌝"),
+    ("crate", "VERSION_NUMBER: u32 = 4", "VERSION_NUMBER: u32 = 5"),
     ("launch", "version=0", "version=1"),
     ("page", '"callplan 0', '"callplan 1'),
     ("import page", '"callplan 0', '"callplan 1'),
-    ("changes", "## 0.3", "## 0.4"),
+    ("changes", "## 0.4", "## 0.5"),
     ("proved", "value: u32,\n    ) -> u32", "value: u32,\n    ) -> u16"),
     ("proved", "walk_len: usize", "length: usize"),
     ("proved", "NO_CALLS: u32 = 254", "NO_CALLS: u32 = 253"),

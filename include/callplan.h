@@ -49,12 +49,13 @@
 extern "C" {
 #endif
 
-#define CALLPLAN_VERSION "0.3.0"
-#define CALLPLAN_VERSION_NUMBER 300 /* 10,000 times the first number, 100 times the second, and the third */
+#define CALLPLAN_VERSION "0.4.0"
+#define CALLPLAN_VERSION_NUMBER 400 /* 10,000 times the first number, 100 times the second, and the third */
 
 #define CALLPLAN_MAX_STATES 512
 #define CALLPLAN_MAX_TRANSITIONS 2048
 #define CALLPLAN_MAX_DURATION 2047      /* seconds */
+#define CALLPLAN_OPEN_HIGH 2047         /* a high that means no limit: open, as of a phone that rings until it is picked up */
 #define CALLPLAN_MAX_IMAGE_OCTETS 10756 /* 4, 1 for each state and 5 for each transition */
 #define CALLPLAN_MAX_TEXT_OCTETS 51221  /* of a text that is exported or accepted: 21, and 25 for each transition */
 #define CALLPLAN_RECORD_OCTETS 11
@@ -100,7 +101,7 @@ typedef struct callplan_transition {
     uint16_t from; /* a state */
     uint16_t to;   /* a state */
     uint16_t low;  /* seconds */
-    uint16_t high; /* seconds */
+    uint16_t high; /* seconds, or CALLPLAN_OPEN_HIGH */
 } callplan_transition;
 
 /* The kinds of a figure. */
@@ -108,15 +109,17 @@ typedef enum callplan_kind {
     CALLPLAN_NUMBER = 0,
     CALLPLAN_NONE = 1,     /* a least figure of a plan without routes, or a greatest one of a plan without a start */
     CALLPLAN_STRANDED = 2, /* a call can end unanswered, in a state that nothing leaves */
-    CALLPLAN_ENDLESS = 3   /* a call can go on forever unanswered */
+    CALLPLAN_ENDLESS = 3   /* a call can go on forever unanswered; for the greatest delay also by a transition with an open high */
 } callplan_kind;
 
 /* A figure, and the walk that shows it: the transition numbers walk[0] to walk[k - 1]. */
 typedef struct callplan_figure {
     callplan_kind kind;
-    uint32_t value; /* seconds, or counted states; 0 unless kind is CALLPLAN_NUMBER */
+    uint32_t value; /* seconds, at most 1,046,017 for the least delay and 1,045,506 for the greatest, or counted states, at most 512;
+                       0 unless kind is CALLPLAN_NUMBER */
     size_t k;       /* at most 512. 0 beside a number or CALLPLAN_STRANDED: the walk is a start alone */
-    size_t j;       /* CALLPLAN_ENDLESS: the state after k transitions is the state after j, j below k; otherwise 0 */
+    size_t j;       /* CALLPLAN_ENDLESS: either j is below k, and the state after k transitions is the state after j; or, of the
+                       greatest delay alone, j is k, and the last transition has an open high. Otherwise 0 */
     uint16_t walk[CALLPLAN_MAX_STATES];
 } callplan_figure;
 
@@ -261,7 +264,7 @@ CALLPLAN_ANSWERS callplan_mark(callplan_plan *plan, size_t state, uint32_t value
     return callplan_private_answer(callplan_lent_mark(CALLPLAN_SLICES(plan), state, value));
 }
 
-/* Puts a transition at the end of the list. It takes from low to high seconds.
+/* Puts a transition at the end of the list. It takes from low to high seconds, or low or more where high is CALLPLAN_OPEN_HIGH.
  * Refused: PLAN_LIMITS, STATE_NUMBER, DURATION, LIST_FULL. */
 CALLPLAN_ANSWERS callplan_join(callplan_plan *plan, size_t from, size_t to, uint32_t low, uint32_t high)
 {
@@ -322,7 +325,7 @@ CALLPLAN_ANSWERS callplan_write(const callplan_plan *plan, uint8_t *buffer, size
  *
  * The first line is `des (INITIAL, TRANSITIONS, STATES)`, with the initial state and the two counts. Then there is a line
  * `(FROM, "LOW..HIGH", TO)` for each transition, in their order. Every line is ended by a line feed, and every space is as it stands
- * here. Numbers are decimal, of any length and without leading zeros. */
+ * here. Numbers are decimal, of any length and without leading zeros. A HIGH of 2047 is open. */
 
 /* Makes *plan the plan that the text holds, in place of the one that it holds. The initial state is marked start, and nothing else is
  * marked. Exported, it is the same text again. The text is looked at as octets, and needs no 0 at its end.
@@ -374,14 +377,17 @@ static inline callplan_answer callplan_private_quotation(callplan_private_call *
     return callplan_private_answer(answer);
 }
 
-/* The least delay: the smallest sum of lows over all routes, or CALLPLAN_NONE. */
+/* The least delay: the smallest sum of lows over all routes, or CALLPLAN_NONE. A low of 2,047 is 2,047 seconds, and open highs are of
+ * no account here and for the counts. */
 CALLPLAN_ANSWERS callplan_least_delay(const callplan_plan *plan, callplan_figure *figure)
 {
     return callplan_private_quotation(callplan_lent_least_delay, plan, figure);
 }
 
 /* The greatest delay: the first that applies of CALLPLAN_NONE, CALLPLAN_ENDLESS and CALLPLAN_STRANDED, and otherwise the largest
- * sum of highs over all routes. */
+ * sum of highs over all routes. It is CALLPLAN_ENDLESS also where a walk of unfinished states from a start can take a transition with an
+ * open high. Such a walk is shown with j at k: it ends with that transition, which may lead anywhere, and the states that it leaves
+ * differ. Where there is a loop too, either may be shown. */
 CALLPLAN_ANSWERS callplan_greatest_delay(const callplan_plan *plan, callplan_figure *figure)
 {
     return callplan_private_quotation(callplan_lent_greatest_delay, plan, figure);
@@ -393,7 +399,7 @@ CALLPLAN_ANSWERS callplan_least_count(const callplan_plan *plan, callplan_figure
     return callplan_private_quotation(callplan_lent_least_count, plan, figure);
 }
 
-/* The greatest count: as the greatest delay, with the largest number of counted states on a route. */
+/* The greatest count: as the greatest delay, with the largest number of counted states on a route, and open highs as any others. */
 CALLPLAN_ANSWERS callplan_greatest_count(const callplan_plan *plan, callplan_figure *figure)
 {
     return callplan_private_quotation(callplan_lent_greatest_count, plan, figure);

@@ -1,10 +1,11 @@
-//! Whether a shown walk is one that document 01 asks for ("Routes and figures").
+//! Whether a shown walk is one that document 01 asks for ("Routes and figures"), and E2 of document
+//! 02.
 //!
 //! The checker takes the value as said and looks at the walk alone. Whether the value is right is
 //! for the calculators to say.
 
 use crate::figure::{Figure, Quotation, Value};
-use crate::plan::Plan;
+use crate::plan::{Duration, Plan};
 
 /// What is wrong with a shown walk.
 #[derive(Clone, Copy, Debug, PartialEq, Eq)]
@@ -34,8 +35,11 @@ pub enum Fault {
     OtherNumber,
     /// A transition leaves the last state of a STRANDED walk.
     NoDeadEnd,
-    /// j is not below k, or the state after k transitions is not the state after j.
+    /// j is below k, and the state after k transitions is not the state after j; or j is above k, or
+    /// the walk of ENDLESS has no transitions.
     NoReturn,
+    /// j equals k, and the last transition is not open, or the figure is a count.
+    NotOpen,
 }
 
 /// Looks at the walk shown with a figure of a plan within the limits.
@@ -59,8 +63,11 @@ pub fn check(plan: &Plan, figure: Figure, shown: &Quotation) -> Result<(), Fault
         }
         Value::Endless => {
             require(!figure.is_least(), Fault::Kind)?;
-            require(shown.j < k, Fault::NoReturn)?;
-            from_some_start(plan, shown, |states| is_endless(plan, states, shown.j))
+            require(k > 0 && shown.j <= k, Fault::NoReturn)?;
+            from_some_start(plan, shown, |states| match shown.j < k {
+                true => is_loop(plan, states, shown.j),
+                false => is_open(plan, figure, shown, states),
+            })
         }
     }
 }
@@ -101,14 +108,20 @@ fn is_route(
     require(all_differ(states), Fault::Twice)?;
     let steps = shown.walk.iter().map(|&number| plan.transitions[number]);
     let attained = match figure {
-        Figure::LeastDelay => steps.map(|step| step.low).sum(),
-        Figure::GreatestDelay => steps.map(|step| step.high).sum(),
-        Figure::LeastCount | Figure::GreatestCount => states
-            .iter()
-            .filter(|&&state| plan.is_counted(state))
-            .count() as u32,
+        Figure::LeastDelay => Some(steps.map(|step| step.low).sum()),
+        // No number where one of them is open.
+        Figure::GreatestDelay => steps
+            .map(|step| match step.longest() {
+                Duration::Seconds(seconds) => Some(seconds),
+                Duration::Open => None,
+            })
+            .sum(),
+        Figure::LeastCount | Figure::GreatestCount => {
+            let counted = states.iter().filter(|&&state| plan.is_counted(state));
+            Some(counted.count() as u32)
+        }
     };
-    require(attained == number, Fault::OtherNumber)
+    require(attained == Some(number), Fault::OtherNumber)
 }
 
 /// "an unfinished walk to a dead end, no state twice"
@@ -122,11 +135,23 @@ fn is_stranded(plan: &Plan, states: &[usize]) -> Result<(), Fault> {
 
 /// "an unfinished walk and a place j below k, where the state after k transitions is the state
 /// after j, and the first k states differ"
-fn is_endless(plan: &Plan, states: &[usize], j: usize) -> Result<(), Fault> {
+fn is_loop(plan: &Plan, states: &[usize], j: usize) -> Result<(), Fault> {
     let k = states.len() - 1;
     require(all_unfinished(plan, states), Fault::Finished)?;
     require(j < k && states[k] == states[j], Fault::NoReturn)?;
     require(all_differ(&states[..k]), Fault::Twice)
+}
+
+/// "A walk shown for that ends with the transition, j equals k, and its first k states still
+/// differ." (E2) The transition leaves an unfinished state and may lead to any; the counts "pay no
+/// heed to it".
+fn is_open(plan: &Plan, figure: Figure, shown: &Quotation, states: &[usize]) -> Result<(), Fault> {
+    let k = shown.walk.len();
+    require(all_unfinished(plan, &states[..k]), Fault::Finished)?;
+    require(all_differ(&states[..k]), Fault::Twice)?;
+    let last = plan.transitions[shown.walk[k - 1]];
+    let is_open = figure == Figure::GreatestDelay && last.longest() == Duration::Open;
+    require(is_open, Fault::NotOpen)
 }
 
 fn all_unfinished(plan: &Plan, states: &[usize]) -> bool {
@@ -150,7 +175,7 @@ fn require(condition: bool, fault: Fault) -> Result<(), Fault> {
 #[cfg(test)]
 mod tests {
     use super::*;
-    use crate::plan::Transition;
+    use crate::plan::{Transition, MAX_CLOSED_HIGH, OPEN_HIGH};
     use Figure::{GreatestCount, GreatestDelay, LeastCount, LeastDelay};
 
     /// State 0 and the final state 6 are starts, state 3 is final, 4 and 7 are dead ends, 7 a
@@ -211,6 +236,110 @@ mod tests {
             assert_eq!(verdict(figure, Value::Endless, &[0, 6], 1), Ok(()));
             assert_eq!(verdict(figure, Value::Endless, &[0, 1, 3], 1), Ok(()));
         }
+    }
+
+    /// The same plan, in which some transitions are open.
+    fn opened(numbers: &[usize]) -> Plan {
+        let mut plan = plan();
+        for &number in numbers {
+            plan.transitions[number].high = OPEN_HIGH;
+        }
+        plan
+    }
+
+    /// Whether j at k is as asked of a walk of a greatest delay, where these are open.
+    fn open_verdict(numbers: &[usize], walk: &[usize]) -> Result<(), Fault> {
+        let shown = Quotation::of_open(walk.to_vec());
+        check(&opened(numbers), GreatestDelay, &shown)
+    }
+
+    #[test]
+    fn open_walks_as_asked() {
+        // To an unfinished state, to a final one, to a dead end, back on the walk, round itself, and
+        // from a start at once.
+        for walk in [&[0, 1][..], &[0, 1, 2], &[0, 4], &[0, 1, 3], &[0, 6], &[0]] {
+            let last = walk[walk.len() - 1];
+            assert_eq!(open_verdict(&[last], walk), Ok(()), "{walk:?}");
+            assert_eq!(open_verdict(&[0, last], walk), Ok(()), "{walk:?}");
+            // A second less.
+            let mut plan = opened(&[last]);
+            plan.transitions[last].high = MAX_CLOSED_HIGH;
+            let shown = Quotation::of_open(walk.to_vec());
+            assert_eq!(check(&plan, GreatestDelay, &shown), Err(Fault::NotOpen));
+        }
+        // A loop is shown with j below k, whatever is open on it.
+        let shown = Quotation {
+            j: 1,
+            ..Quotation::of_open(vec![0, 1, 3])
+        };
+        for figure in [GreatestDelay, GreatestCount] {
+            assert_eq!(check(&opened(&[0, 3]), figure, &shown), Ok(()));
+        }
+    }
+
+    #[test]
+    fn wrong_open_walks() {
+        for (numbers, walk, fault) in [
+            (&[5][..], &[5][..], Fault::NoStart),
+            (&[1], &[1], Fault::NoStart),
+            (&[2], &[0, 2], Fault::Break),
+            (&[9], &[0, 1, 2, 9], Fault::Finished),
+            (&[7], &[0, 1, 2, 7], Fault::Finished),
+            (&[2], &[0, 6, 1, 2], Fault::Twice),
+            (&[6], &[0, 6, 6], Fault::Twice),
+            (&[4], &[0, 1, 3, 4], Fault::Twice),
+            (&[], &[0, 1, 2], Fault::NotOpen),
+            (&[0, 1], &[0, 1, 2], Fault::NotOpen),
+            (&[0, 2], &[0, 1], Fault::NotOpen),
+            (&[0], &[], Fault::NoReturn),
+        ] {
+            let found = open_verdict(numbers, walk);
+            assert_eq!(found, Err(fault), "{numbers:?} open: {walk:?}");
+        }
+        // j beside k, and the other figures.
+        let shown = Quotation::of_open(vec![0, 1, 2]);
+        let plan = opened(&[2]);
+        for j in [0, 1, 2, 4] {
+            let found = check(&plan, GreatestDelay, &Quotation { j, ..shown.clone() });
+            // State 3, where it arrives, is final.
+            let fault = if j < 3 {
+                Fault::Finished
+            } else {
+                Fault::NoReturn
+            };
+            assert_eq!(found, Err(fault), "@{j}");
+        }
+        let shown = Quotation::of_open(vec![0, 1]);
+        for j in [0, 1, 3] {
+            let found = check(
+                &opened(&[1]),
+                GreatestDelay,
+                &Quotation { j, ..shown.clone() },
+            );
+            assert_eq!(found, Err(Fault::NoReturn), "@{j}");
+        }
+        let found = check(&opened(&[1]), GreatestCount, &shown);
+        assert_eq!(found, Err(Fault::NotOpen));
+        for figure in [LeastDelay, LeastCount] {
+            let found = check(&opened(&[1]), figure, &shown);
+            assert_eq!(found, Err(Fault::Kind));
+        }
+    }
+
+    /// An open transition on a route: no number is its greatest delay; the others are as they were.
+    #[test]
+    fn routes_that_take_an_open_transition() {
+        let plan = opened(&[1]);
+        let verdict = |figure, number| {
+            let shown = Quotation::new(Value::Number(number), vec![0, 1, 2]);
+            check(&plan, figure, &shown)
+        };
+        for number in [10, 10 + OPEN_HIGH, OPEN_HIGH] {
+            assert_eq!(verdict(GreatestDelay, number), Err(Fault::OtherNumber));
+        }
+        assert_eq!(verdict(LeastDelay, 7), Ok(()));
+        assert_eq!(verdict(LeastCount, 2), Ok(()));
+        assert_eq!(verdict(GreatestCount, 2), Ok(()));
     }
 
     #[test]
@@ -302,10 +431,12 @@ mod tests {
             (&[6][..], 0, Fault::NoStart),
             (&[0, 3], 0, Fault::Break),
             (&[0, 6], 0, Fault::NoReturn),
-            (&[0, 6], 2, Fault::NoReturn),
+            (&[0, 6], 2, Fault::NotOpen),
             (&[0, 6], 3, Fault::NoReturn),
             (&[0, 1, 3], 0, Fault::NoReturn),
             (&[0, 1, 3], 2, Fault::NoReturn),
+            (&[0, 1, 3], 3, Fault::NotOpen),
+            (&[0, 1, 3], 4, Fault::NoReturn),
             (&[0, 1], 0, Fault::NoReturn),
             (&[], 0, Fault::NoReturn),
             (&[0, 6, 6], 1, Fault::Twice),

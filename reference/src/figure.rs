@@ -1,6 +1,8 @@
 //! The four figures, what each comes to, and the walk shown with it.
 
-use crate::plan::Plan;
+use std::ops::Add;
+
+use crate::plan::{Duration, Plan};
 
 /// A figure of a plan.
 #[derive(Clone, Copy, Debug, PartialEq, Eq)]
@@ -34,20 +36,49 @@ impl Figure {
     }
 
     /// What a walk costs that begins at a state.
-    pub(crate) fn first_cost(self, plan: &Plan, state: usize) -> u32 {
+    pub(crate) fn first_cost(self, plan: &Plan, state: usize) -> Cost {
         match self {
-            Figure::LeastDelay | Figure::GreatestDelay => 0,
-            Figure::LeastCount | Figure::GreatestCount => u32::from(plan.is_counted(state)),
+            Figure::LeastDelay | Figure::GreatestDelay => Cost::Number(0),
+            Figure::LeastCount | Figure::GreatestCount => Cost::of_state(plan, state),
         }
     }
 
     /// What a transition of a given number adds, with the state where it arrives.
-    pub(crate) fn step_cost(self, plan: &Plan, number: usize) -> u32 {
+    pub(crate) fn step_cost(self, plan: &Plan, number: usize) -> Cost {
         let transition = plan.transitions[number];
         match self {
-            Figure::LeastDelay => transition.low,
-            Figure::GreatestDelay => transition.high,
-            Figure::LeastCount | Figure::GreatestCount => u32::from(plan.is_counted(transition.to)),
+            Figure::LeastDelay => Cost::Number(transition.low),
+            Figure::GreatestDelay => match transition.longest() {
+                Duration::Seconds(seconds) => Cost::Number(seconds),
+                Duration::Open => Cost::Endless,
+            },
+            Figure::LeastCount | Figure::GreatestCount => Cost::of_state(plan, transition.to),
+        }
+    }
+}
+
+/// What a walk costs. Where it takes an open transition that is more than any number: "For the
+/// greatest delay an open ring then counts as going on forever unanswered." (document 02, E2)
+#[derive(Clone, Copy, Debug, PartialEq, Eq, PartialOrd, Ord)]
+pub(crate) enum Cost {
+    Number(u32),
+    Endless,
+}
+
+impl Cost {
+    /// What a visit of a state adds to a count.
+    fn of_state(plan: &Plan, state: usize) -> Cost {
+        Cost::Number(u32::from(plan.is_counted(state)))
+    }
+}
+
+impl Add for Cost {
+    type Output = Cost;
+
+    fn add(self, other: Cost) -> Cost {
+        match (self, other) {
+            (Cost::Number(one), Cost::Number(other)) => Cost::Number(one + other),
+            _ => Cost::Endless,
         }
     }
 }
@@ -86,7 +117,8 @@ impl Value {
 pub struct Quotation {
     pub value: Value,
     pub walk: Vec<usize>,
-    /// The place to which an ENDLESS walk comes back, else 0.
+    /// Of ENDLESS: below k the place to which the walk comes back, and k where its last transition
+    /// is open. Else 0.
     pub j: usize,
 }
 
@@ -100,8 +132,14 @@ impl Quotation {
         Quotation::new(Value::None, Vec::new())
     }
 
+    /// ENDLESS, shown by a walk whose last transition is open.
+    pub(crate) fn of_open(walk: Vec<usize>) -> Quotation {
+        let (value, j) = (Value::Endless, walk.len());
+        Quotation { value, walk, j }
+    }
+
     /// ENDLESS, shown by a walk that meets a state twice, cut off where it first does.
-    pub(crate) fn endless(plan: &Plan, start: usize, walk: &[usize]) -> Quotation {
+    pub(crate) fn of_loop(plan: &Plan, start: usize, walk: &[usize]) -> Quotation {
         let mut states = vec![start];
         for (place, &number) in walk.iter().enumerate() {
             let state = plan.transitions[number].to;

@@ -21,5 +21,8 @@ pub mod text;
 pub mod walks;
 
 pub use figure::{Figure, Quotation, Value, FIGURES};
-pub use plan::{Plan, Transition, MAX_DURATION, MAX_MARKS, MAX_STATES, MAX_TRANSITIONS};
+pub use plan::{
+    Duration, Plan, Transition, MAX_CLOSED_HIGH, MAX_DURATION, MAX_MARKS, MAX_STATES,
+    MAX_TRANSITIONS, OPEN_HIGH,
+};
 pub use refusal::Refusal;

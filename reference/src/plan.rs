@@ -5,8 +5,20 @@ use crate::refusal::{require, Refusal};
 pub const MAX_STATES: usize = 512;
 pub const MAX_TRANSITIONS: usize = 2048;
 pub const MAX_DURATION: u32 = 2047;
+/// The high that means no limit.
+pub const OPEN_HIGH: u32 = 2047;
+/// The greatest high that is a number of seconds.
+pub const MAX_CLOSED_HIGH: u32 = 2046;
 /// All three marks: 4 for start, 2 for final, 1 for counted.
 pub const MAX_MARKS: u32 = 7;
+
+/// "A high of 2,047 shall mean no limit, so a duration taken from a plan is either a number or
+/// open." (document 02, E2)
+#[derive(Clone, Copy, Debug, PartialEq, Eq)]
+pub enum Duration {
+    Seconds(u32),
+    Open,
+}
 
 /// A transition between two states, with its range of durations in seconds.
 #[derive(Clone, Copy, Debug, PartialEq, Eq)]
@@ -103,6 +115,14 @@ impl Plan {
 }
 
 impl Transition {
+    /// The longest that it takes.
+    pub fn longest(&self) -> Duration {
+        match self.high {
+            OPEN_HIGH => Duration::Open,
+            seconds => Duration::Seconds(seconds),
+        }
+    }
+
     /// The limits of a transition in a plan of `n` states, in the order of join and read.
     pub(crate) fn require_limits(&self, n: usize) -> Result<(), Refusal> {
         require(self.from < n && self.to < n, Refusal::StateNumber)?;

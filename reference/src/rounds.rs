@@ -3,15 +3,17 @@
 //! Round r finds, for each state, the best walk of just r transitions that ends there, from the
 //! walks of the round before and all transitions. These are Bellman and Ford's rounds, kept
 //! apart by length. As many rounds as there are states are enough, for the reasons in `walks`.
+//! An endless cost is the best of a greatest delay, so the rounds carry a walk that takes an open
+//! transition on as they do any other.
 
-use crate::figure::{Figure, Quotation, Value};
+use crate::figure::{Cost, Figure, Quotation, Value};
 use crate::plan::Plan;
 
 /// The best walk of a round that ends at a state: its cost, and its last transition. In round 0
 /// there is none, and the number means nothing.
 #[derive(Clone, Copy)]
 struct End {
-    cost: u32,
+    cost: Cost,
     number: u16,
 }
 
@@ -25,7 +27,7 @@ impl Rounds<'_> {
     /// Rounds 0 to n, or up to the first with no walk. No walk goes on from a final state.
     fn new(plan: &Plan, figure: Figure) -> Rounds<'_> {
         let n = plan.marks.len();
-        let costs: Vec<u32> = (0..plan.transitions.len())
+        let costs: Vec<Cost> = (0..plan.transitions.len())
             .map(|number| figure.step_cost(plan, number))
             .collect();
         let first = |state| {
@@ -84,7 +86,7 @@ impl Rounds<'_> {
     }
 
     /// The best cost over the routes of all rounds.
-    fn best(&self, figure: Figure) -> Option<u32> {
+    fn best(&self, figure: Figure) -> Option<Cost> {
         let finals = (0..self.plan.marks.len()).filter(|&state| self.plan.is_final(state));
         let ends = finals.flat_map(|state| self.ends.iter().filter_map(move |row| row[state]));
         let costs = ends.map(|end| end.cost);
@@ -96,28 +98,40 @@ impl Rounds<'_> {
     }
 }
 
-/// The figure's value and a walk that document 01 lets be shown with it.
+/// The figure's value and a walk that documents 01 and 02 let be shown with it.
 pub fn quote(plan: &Plan, figure: Figure) -> Quotation {
     let n = plan.marks.len();
     let rounds = Rounds::new(plan, figure);
+    let costs = |round: usize, state: usize, cost: Cost| {
+        rounds.ends[round][state].is_some_and(|end| end.cost == cost)
+    };
     if !figure.is_least() {
         let endless = rounds.find(|round, state| round == n && !plan.is_final(state));
         if let Some((round, state)) = endless {
             let (start, walk) = rounds.walk(round, state);
-            return Quotation::endless(plan, start, &walk);
+            return Quotation::of_loop(plan, start, &walk);
+        }
+        // "an unfinished walk from a start can take a transition with an open high" (E2): in the
+        // first round that has one it ends with its one open transition. It leaves no state twice:
+        // without what lies between it would be in an earlier round.
+        let open = rounds.find(|round, state| costs(round, state, Cost::Endless));
+        if let Some((round, state)) = open {
+            return Quotation::of_open(rounds.walk(round, state).1);
         }
         let dead_ends: Vec<bool> = (0..n).map(|state| plan.is_dead_end(state)).collect();
         if let Some((round, state)) = rounds.find(|_, state| dead_ends[state]) {
             return Quotation::new(Value::Stranded, rounds.walk(round, state).1);
         }
     }
-    let Some(cost) = rounds.best(figure) else {
-        return Quotation::none();
+    let number = match rounds.best(figure) {
+        Some(Cost::Number(number)) => number,
+        Some(Cost::Endless) => panic!("no walk of the rounds takes an open transition"),
+        None => return Quotation::none(),
     };
     // The first round that attains it: the fewest transitions, so no state is on the route twice.
     let attains = |round: usize, state: usize| {
-        plan.is_final(state) && rounds.ends[round][state].is_some_and(|end| end.cost == cost)
+        plan.is_final(state) && costs(round, state, Cost::Number(number))
     };
     let (round, state) = rounds.find(attains).expect("some route attains the best");
-    Quotation::new(Value::Number(cost), rounds.walk(round, state).1)
+    Quotation::new(Value::Number(number), rounds.walk(round, state).1)
 }

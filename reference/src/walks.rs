@@ -2,9 +2,13 @@
 //!
 //! Walks of up to n transitions are enough, n the number of states. A route that visits no state
 //! twice has fewer. An unfinished walk of n transitions visits a state twice, so it can go on
-//! forever; and an endless walk begins with one. The list grows with a power of the transitions.
+//! forever; and an endless walk begins with one. A shortest walk that takes an open transition takes
+//! it last and leaves no state twice, so it has at most n. The list grows with a power of the
+//! transitions.
 
-use crate::figure::{Figure, Quotation, Value};
+use std::ops::Add;
+
+use crate::figure::{Cost, Figure, Quotation, Value};
 use crate::plan::Plan;
 
 /// A start state followed by transitions.
@@ -22,10 +26,10 @@ impl Walk {
         }
     }
 
-    fn cost(&self, plan: &Plan, figure: Figure) -> u32 {
+    fn cost(&self, plan: &Plan, figure: Figure) -> Cost {
         let steps = self.transitions.iter();
-        let sum: u32 = steps.map(|&number| figure.step_cost(plan, number)).sum();
-        figure.first_cost(plan, self.start) + sum
+        let costs = steps.map(|&number| figure.step_cost(plan, number));
+        costs.fold(figure.first_cost(plan, self.start), Add::add)
     }
 }
 
@@ -57,21 +61,28 @@ fn walks(plan: &Plan) -> Vec<Walk> {
     list
 }
 
-/// The figure's value and a walk that document 01 lets be shown with it.
+/// The figure's value and a walk that documents 01 and 02 let be shown with it.
 pub fn quote(plan: &Plan, figure: Figure) -> Quotation {
     let n = plan.marks.len();
-    let (routes, unfinished): (Vec<Walk>, Vec<Walk>) = walks(plan)
+    let list = walks(plan);
+    let cost = |walk: &&Walk| walk.cost(plan, figure);
+    // "an unfinished walk from a start can take a transition with an open high" (E2): the first in
+    // the list ends with its one open transition. It is shown before a loop; `rounds` has the loop
+    // first.
+    if let Some(walk) = list.iter().find(|walk| cost(walk) == Cost::Endless) {
+        return Quotation::of_open(walk.transitions.clone());
+    }
+
+    let (routes, unfinished): (Vec<Walk>, Vec<Walk>) = list
         .into_iter()
         .partition(|walk| plan.is_final(walk.last_state(plan)));
-    let cost = |walk: &&Walk| walk.cost(plan, figure);
-
     let best = if figure.is_least() {
         // The first of the least: the one with fewest transitions, so no state is on it twice.
         routes.iter().min_by_key(cost)
     } else {
         let endless = unfinished.iter().find(|walk| walk.transitions.len() == n);
         if let Some(walk) = endless {
-            return Quotation::endless(plan, walk.start, &walk.transitions);
+            return Quotation::of_loop(plan, walk.start, &walk.transitions);
         }
         let stranded = unfinished
             .into_iter()
@@ -81,11 +92,11 @@ pub fn quote(plan: &Plan, figure: Figure) -> Quotation {
         }
         routes.iter().max_by_key(cost)
     };
-    match best {
-        Some(route) => {
-            let value = Value::Number(route.cost(plan, figure));
-            Quotation::new(value, route.transitions.clone())
-        }
-        None => Quotation::none(),
-    }
+    let Some(route) = best else {
+        return Quotation::none();
+    };
+    let Cost::Number(number) = cost(&route) else {
+        panic!("no listed walk takes an open transition");
+    };
+    Quotation::new(Value::Number(number), route.transitions.clone())
 }

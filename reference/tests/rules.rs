@@ -6,7 +6,7 @@ mod vectors;
 
 use reference::aldebaran;
 use reference::image::{decode, encode};
-use reference::{Plan, Refusal, Transition};
+use reference::{Duration, Plan, Refusal, Transition};
 use texts::{edges, ACCEPTED, P1_TEXT};
 use vectors::P1;
 
@@ -151,6 +151,24 @@ fn join_refuses_states_then_durations_then_a_full_list() {
     assert_eq!(plan.join(transition(0, 3, 2, 1)), Err(Refusal::Duration));
     assert_eq!(plan.join(transition(0, 3, 1, 2)), Err(Refusal::ListFull));
     assert_eq!(plan, full);
+}
+
+/// "A high of 2,047 shall mean no limit": open, whatever the low, and no other high is.
+#[test]
+fn a_high_of_2047_is_open() {
+    for high in 0..2047 {
+        let longest = transition(0, 0, 0, high).longest();
+        assert_eq!(longest, Duration::Seconds(high));
+    }
+    for low in [0, 1, 2046, 2047] {
+        let mut plan = p1();
+        assert_eq!(plan.join(transition(3, 0, low, 2047)), Ok(()));
+        assert_eq!(plan.transitions[4].longest(), Duration::Open);
+        // It is kept as the number that it is, in the image and in the text.
+        assert_eq!(decode(&encode(&plan)), Ok(plan.clone()));
+        let text = aldebaran::encode(&plan).unwrap();
+        assert!(text.ends_with(&format!("(3, \"{low}..2047\", 0)\n")));
+    }
 }
 
 #[test]

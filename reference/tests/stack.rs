@@ -17,7 +17,7 @@ use reference::proved::{LentPlan, ACCEPTED};
 use reference::rng::print;
 #[cfg(feature = "quotations")]
 use reference::{quotation::RECORD_OCTETS, Figure, FIGURES};
-use reference::{Plan, Refusal, Transition, MAX_STATES, MAX_TRANSITIONS};
+use reference::{Plan, Refusal, Transition, MAX_STATES, MAX_TRANSITIONS, OPEN_HIGH};
 
 const STACK: usize = 1 << 20;
 const LIMIT: usize = 96 << 10;
@@ -73,7 +73,7 @@ fn used<F: FnMut() + Send>(mut call: F) -> usize {
     }
 }
 
-/// A plan of the largest size: a chain, with steps back in it if `has_loops`.
+/// A plan of the largest size: a chain, with steps back in it if `has_loops`. All highs are closed.
 fn full(has_loops: bool) -> Plan {
     let mut marks = vec![1; MAX_STATES];
     marks[0] = 4;
@@ -84,8 +84,8 @@ fn full(has_loops: bool) -> Plan {
         Transition {
             from,
             to: if is_back { from / 2 } else { from + 1 },
-            low: (number % 1024) as u32,
-            high: 1024 + (number % 1024) as u32,
+            low: (number % 1023) as u32,
+            high: 1024 + (number % 1023) as u32,
         }
     });
     Plan {
@@ -99,7 +99,14 @@ fn plans() -> Vec<Plan> {
     let (chain, loops) = (full(false), full(true));
     let mut stranded = chain.clone();
     stranded.marks[MAX_STATES - 1] = 0;
-    vec![Plan::fresh(1).unwrap(), chain, loops, stranded]
+    // Open at the end of the chain, so that the whole of it is shown.
+    let mut open = chain.clone();
+    for transition in &mut open.transitions {
+        if transition.to == MAX_STATES - 1 {
+            transition.high = OPEN_HIGH;
+        }
+    }
+    vec![Plan::fresh(1).unwrap(), chain, loops, stranded, open]
 }
 
 /// The most stack that the call uses on a plan, where it is accepted.
@@ -113,7 +120,7 @@ fn most(call: impl Fn(LentPlan, &Plan) -> u32 + Sync) -> usize {
         (answer >= ACCEPTED).then_some(depth - idle)
     };
     let depths: Vec<usize> = plans().iter().filter_map(of_plan).collect();
-    assert!(depths.len() >= 3, "most plans are accepted");
+    assert!(depths.len() >= 4, "most plans are accepted");
     depths.into_iter().max().unwrap_or(0)
 }
 

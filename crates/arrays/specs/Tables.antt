@@ -1,4 +1,5 @@
 -- The lists that arrays hold: a plan's states by their marks values, and its transitions by their four fields. Assumes nothing.
+use mathlib.Core.Bool.{false}
 use mathlib.Core.List.{List, _++_}
 use Prim.Native.Nat.{ℕ, _≤_}
 use mathlib.Core.Path.{_≡_}
@@ -57,6 +58,6 @@ pub record LaterFields (m : ℕ) (before after : Fields) : Type 0 where
 abbrev pub over : List ℕ → List ℕ → List ℕ
 over xs before = xs ++ drop (length xs) before
 
--- a cost as two arrays: a weight for each transition, a close for each state
+-- a cost as two arrays, without open transitions: a weight for each transition, a close for each state
 abbrev pub costOf : List ℕ → List ℕ → Cost
-costOf weight close = record { step = λ t. getD weight t 0; close = λ s. getD close s 0 }
+costOf weight close = record { step = λ t. getD weight t 0; unlimited = λ t. false; close = λ s. getD close s 0 }

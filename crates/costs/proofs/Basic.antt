@@ -9,7 +9,7 @@ use Rattle.graph.specs.Route.{Cost, total}
 use Rattle.graph.specs.Figure.{number, ENDLESS}
 use Rattle.graph.specs.Known.{P1}
 use Rattle.rules.specs.Image.{tabulate}
-use Rattle.costs.specs.Arrays.{delayWeight, countWeight, countClose}
+use Rattle.costs.specs.Arrays.{lowWeight, highWeight, countWeight, countClose}
 use Rattle.arrays.specs.Tables.{costOf}
 use Rattle.costs.specs.Scaled.{divided}
 
@@ -28,6 +28,13 @@ highest = 20 ∷ 15 ∷ 30 ∷ 25 ∷ []
 
 -- ---- weights and closes
 
+-- an open high adds nothing, and one of a second less all of it
+pub open-nothing : highWeight (2047 ∷ 2046 ∷ []) 0 ≡ 0
+open-nothing = refl
+
+pub below-open : highWeight (2047 ∷ 2046 ∷ []) 1 ≡ 2046
+below-open = refl
+
 -- a transition weighs what the state that it leaves counts: 0→1 nothing, 1→3 one
 pub leaving-uncounted : countWeight 1 0 marks sources 0 ≡ 0
 leaving-uncounted = refl
@@ -41,22 +48,22 @@ last-counted = refl
 
 -- ---- P1's routes over the filled arrays
 
-abbrev delaysIn : ℕ → ℕ → List ℕ → Cost
-delaysIn scale extra durations = costOf (tabulate 4 (delayWeight scale extra durations)) (replicate 4 0)
+abbrev delaysIn : (ℕ → ℕ) → Cost
+delaysIn weight = costOf (tabulate 4 weight) (replicate 4 0)
 
 abbrev countsIn : ℕ → ℕ → Cost
 countsIn scale extra = costOf (tabulate 4 (countWeight scale extra marks sources)) (tabulate 4 (countClose scale marks))
 
 -- 7 seconds by two transitions, over 12 by three
-pub least-delay-found : total (P1 .plan) (delaysIn 1024 1 lowest) 0 (0 ∷ 2 ∷ []) ≡ 7 * 1024 + 2
+pub least-delay-found : total (P1 .plan) (delaysIn (lowWeight 1024 1 lowest)) 0 (0 ∷ 2 ∷ []) ≡ 7 * 1024 + 2
 unfolding tabulate transition to
 least-delay-found = refl
 
-pub least-delay-rival : total (P1 .plan) (delaysIn 1024 1 lowest) 0 (0 ∷ 1 ∷ 3 ∷ []) ≡ 12 * 1024 + 3
+pub least-delay-rival : total (P1 .plan) (delaysIn (lowWeight 1024 1 lowest)) 0 (0 ∷ 1 ∷ 3 ∷ []) ≡ 12 * 1024 + 3
 unfolding tabulate transition to
 least-delay-rival = refl
 
-pub greatest-delay-found : total (P1 .plan) (delaysIn 1 0 highest) 0 (0 ∷ 1 ∷ 3 ∷ []) ≡ 60
+pub greatest-delay-found : total (P1 .plan) (delaysIn (highWeight highest)) 0 (0 ∷ 1 ∷ 3 ∷ []) ≡ 60
 unfolding tabulate transition to
 greatest-delay-found = refl
 

@@ -2,17 +2,18 @@
 -- of the lent places, and later places stay. The rest of the promise follows. The figure is the only one that is least or greatest, so it is the
 -- computed one; its line of the rule says what holds where it is of a kind; and where the condition of a kind holds, the figure of that kind is
 -- right too, so it is this one. Assumes nothing.
+use mathlib.Core.Bool.{false}
 use mathlib.Core.List.{List}
 use mathlib.Core.Path.{_≡_, refl, sym, _∙_}
-use Prim.Native.Nat.{ℕ, _≤_}
+use Prim.Native.Nat.{ℕ, _≤_, _<_}
 use native.Mathlib.Omega.{arith}
 use lib.ListN.{length, take, drop}
 use lib.Seq.{length-take-le}
-use Rattle.graph.specs.Graph.{Graph, states, Closed}
-use Rattle.graph.specs.Route.{Cost}
+use Rattle.graph.specs.Graph.{Graph, states, count, Closed}
+use Rattle.graph.specs.Route.{Cost, HasEndlessWalk, HasOpenWalk}
 use Rattle.graph.specs.Figure.{Figure, number, NONE, STRANDED, ENDLESS, IsLeast, IsGreatest, Shown}
 use Rattle.graph.proofs.Least.{least-unique, least-computed}
-use Rattle.graph.proofs.Greatest.{greatest-unique, greatest-computed}
+use Rattle.graph.proofs.Greatest.{forever-begins, greatest-unique, greatest-computed}
 use Rattle.costs.specs.Scaled.{Scaled, scale, divided}
 use Rattle.costs.proofs.Scaled.{least-scaled, greatest-scaled}
 use Rattle.rules.specs.Quotations.{Shows, Costs, LeastQuoted, GreatestQuoted}
@@ -63,7 +64,7 @@ module _ (g : Graph) (closed : Closed g) (c : Cost) (f : Figure) (k j : ℕ) (be
   greatest-quoted is = record {
     figure = greatest-computed g c closed f is;
     none = (λ e. rw e at is, λ unmarked. greatest-unique g c f NONE is unmarked);
-    endless = (λ e. (rw e at is) .1, λ u. let (s, taken, (b, w)) = u in greatest-unique g c f ENDLESS is (λ unmarked. unmarked s b, u));
+    endless = (λ e. (rw e at is) .1, λ u. let (s, b) = forever-begins g c u in greatest-unique g c f ENDLESS is (λ unmarked. unmarked s b, u));
     stranded = (
       λ e. let (started, finite, ends) = rw e at is in (finite, ends),
       λ (finite, u). let (s, ts, (b, w)) = u in greatest-unique g c f STRANDED is (λ unmarked. unmarked s b, finite, u),
@@ -82,7 +83,8 @@ module _ (g : Graph) (closed : Closed g) (c c′ : Cost) (f : Figure) (k j : ℕ
       let (is′, shown′) = least-scaled g closed small c c′ scaled f (take k after) j is shown in
       least-quoted g closed c (divided f) k j before after shown′ fits room later as-long is′
 
-  pub greatest-answered : Scaled 1 0 g c c′ → IsGreatest g c′ f → GreatestQuoted g c f k j before after
-  greatest-answered scaled is =
-      let (is′, shown′) = greatest-scaled g closed c c′ scaled f (take k after) j is shown in
+  pub greatest-answered : Scaled 1 0 g c c′ → ((t : ℕ) → t < count g → c′ .unlimited t ≡ false) → (HasOpenWalk g c → HasEndlessWalk g) → IsGreatest g c′ f
+      → GreatestQuoted g c f k j before after
+  greatest-answered scaled none beside is =
+      let (is′, shown′) = greatest-scaled g closed c c′ scaled none beside f (take k after) j is shown in
       greatest-quoted g closed c f k j before after shown′ fits room later as-long is′

@@ -4,19 +4,24 @@
 -- 2. Scale 1,024 and extra 1. A route that visits no state twice has at most 511 transitions in a plan of at most 512 states, so its scaled cost is its
 --    cost times 1,024 and less than 1,024 more: dividing gives the cost. Every route has such a one at no greater cost, and of two such the one
 --    that costs less costs less after scaling. So the route that is least after scaling is least (`least-scaled`).
--- 3. Scale 1 and extra 0 change no cost, so no figure and nothing shown (`greatest-scaled`).
+-- 3. Scale 1 and extra 0 change no cost, so no figure and nothing shown: over weights, none of which is open, where an open transition changes nothing
+--    (`greatest-scaled`).
 -- Assumes nothing.
+use mathlib.Core.Bool.{false}
 use mathlib.Core.List.{List, [], _∷_}
+use mathlib.Core.Logic.{inl, inr}
 use mathlib.Core.Path.{_≡_, _∙_}
 use Prim.Native.Nat.{ℕ, _+_, _*_, _/_, _≤_, _<_}
 use native.Mathlib.Omega.{arith}
 use lib.ListN.{length}
-use Rattle.graph.specs.Graph.{Graph, states, to, Final, Unfinished, Closed}
+use Rattle.graph.specs.Graph.{Graph, states, count, to, Final, Unfinished, Closed}
 use Rattle.graph.specs.Walk.{WalkTo, visits, Different}
-use Rattle.graph.specs.Route.{Cost, Route, total}
+use Rattle.graph.specs.Route.{Cost, Route, total, HasEndlessWalk, HasOpenWalk, GoesOnForever}
 use Rattle.graph.specs.Figure.{Figure, number, NONE, STRANDED, ENDLESS, Largest, IsLeast, IsGreatest, Shown}
 use Rattle.graph.proofs.Simple.{simple, short-length, simple-length}
 use Rattle.graph.proofs.Walks.{start-below}
+use Rattle.graph.proofs.Open.{none-open}
+use Rattle.graph.proofs.Sentences.{no-heed}
 use Rattle.costs.specs.Scaled.{Scaled, scale, divided}
 
 -- ---- 1
@@ -79,9 +84,16 @@ module _ (g : Graph) (closed : Closed g) (c c′ : Cost) (scaled : Scaled 1 0 g 
       let (s, ts, r, e) = u .attained in
       record { attained = (s, ts, r, same-total s ts r ∙ e); bound = λ x xs p. rw (same-total x xs p) (u .bound x xs p) }
 
-  pub greatest-scaled : (f : Figure) (ts : List ℕ) (j : ℕ) → IsGreatest g c′ f → Shown g c′ f ts j → IsGreatest g c f × Shown g c f ts j
-  greatest-scaled (number k) ts j (started, finite, unstranded, u) (s, r, e, d, z) =
-      ((started, finite, unstranded, same-largest k u), (s, r, same-total s ts r ∙ e, d, z))
-  greatest-scaled NONE ts j u shown = (u, shown)
-  greatest-scaled STRANDED ts j u shown = (u, shown)
-  greatest-scaled ENDLESS ts j u shown = (u, shown)
+  -- no transition of c′ is open, and where a walk takes one that is open for c, there is an endless one too
+  module _ (none : (t : ℕ) → t < count g → c′ .unlimited t ≡ false) (beside : HasOpenWalk g c → HasEndlessWalk g) where
+    same-forever : (GoesOnForever g c′ → ⊥) → GoesOnForever g c → ⊥
+    same-forever finite (inl e) = finite (inl e)
+    same-forever finite (inr w) = finite (inl (beside w))
+
+    pub greatest-scaled : (f : Figure) (ts : List ℕ) (j : ℕ) → IsGreatest g c′ f → Shown g c′ f ts j → IsGreatest g c f × Shown g c f ts j
+    greatest-scaled (number k) ts j (started, finite, unstranded, u) (s, r, e, d, z) =
+        ((started, same-forever finite, unstranded, same-largest k u), (s, r, same-total s ts r ∙ e, d, z))
+    greatest-scaled NONE ts j u shown = (u, shown)
+    greatest-scaled STRANDED ts j (started, finite, ends) shown = ((started, same-forever finite, ends), shown)
+    greatest-scaled ENDLESS ts j (started, forever) (inl shown) = ((started, inl (no-heed g c′ none forever)), inl shown)
+    greatest-scaled ENDLESS ts j u (inr (s, w, e, d)) = absurd (none-open g c′ none (s, ts, w))

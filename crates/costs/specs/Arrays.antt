@@ -5,7 +5,7 @@ use mathlib.Core.Path.{_≡_}
 use Prim.Native.Nat.{ℕ, _+_, _*_, _≤_, _<_}
 use lib.ListN.{getD, replicate}
 use Rattle.graph.specs.Graph.{countedMark}
-use Rattle.graph.specs.Route.{one}
+use Rattle.graph.specs.Route.{limit, seconds, one}
 
 -- the first k places of an array hold f 0 up to f (k - 1), and later places are zero
 pub record Filled (k : ℕ) (f : ℕ → ℕ) (xs : List ℕ) : Type 0 where
@@ -19,9 +19,13 @@ noWeight = replicate 2048 0
 abbrev pub noClose : List ℕ
 noClose = replicate 512 0
 
--- the weight of the transition t for a delay: "the sum of its lows for a least figure, and of its highs for a greatest one"
-abbrev pub delayWeight : ℕ → ℕ → List ℕ → ℕ → ℕ
-delayWeight scale extra durations t = scale * getD durations t 0 + extra
+-- the weight of the transition t for a delay: "the sum of its lows for a least figure ..
+abbrev pub lowWeight : ℕ → ℕ → List ℕ → ℕ → ℕ
+lowWeight scale extra low t = scale * getD low t 0 + extra
+
+-- .. and of its highs for a greatest one"; an open high adds nothing
+abbrev pub highWeight : List ℕ → ℕ → ℕ
+highWeight high t = seconds (limit (getD high t 0))
 
 -- .. and for a count, "the number of counted states on it": a transition counts the state that it leaves
 abbrev pub countWeight : ℕ → ℕ → List ℕ → List ℕ → ℕ → ℕ

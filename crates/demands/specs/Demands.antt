@@ -145,6 +145,7 @@ module _ (c : Calculator) where
 
 -- DEMAND 3, (01) "one claim about the whole list, and not one for each call":
 -- (02, E1, of import) "demand 3's lists may hold it":
+-- (02, E2, of a call that goes on forever) "For the greatest delay an open ring then counts as going on forever unanswered.":
 -- "For every list of mark, join, unjoin and read calls from a fresh plan, refused ones included,
 pub record OneClaim (c : Calculator) (s : Session c) : Type 0 where
   pub fresh-accepted : s .made .answer ≡ Accepted

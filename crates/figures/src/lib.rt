@@ -1,4 +1,4 @@
-// Each figure of a plan: its weights, the search over them, and the walk that shows it.
+// Each figure of a plan: its weights, the search over them, and the walk that shows it; before that an open transition by which it is ENDLESS.
 ghost use mathlib.Core.Bool.{true, false};
 ghost use mathlib.Core.List.{List};
 ghost use mathlib.Core.Path.{_≡_};
@@ -53,8 +53,8 @@ fn weigh<'a>(
         (weightsOf (now (weight .exit)) (now (close .exit)))) ⌝ }
 {
     match which {
-        Which::LeastDelay => costs::fill_durations(low, m, costs::SCALE, 1, weight),
-        Which::GreatestDelay => costs::fill_durations(high, m, 1, 0, weight),
+        Which::LeastDelay => costs::fill_lows(low, m, costs::SCALE, 1, weight),
+        Which::GreatestDelay => costs::fill_highs(high, m, weight),
         Which::LeastCount => {
             costs::fill_leaving(marks, from, m, costs::SCALE, 1, weight);
             costs::fill_closes(marks, n, costs::SCALE, close)
@@ -99,6 +99,10 @@ pub fn figure<'a>(
         (says which (view (planOf n m (now (marks .entry)) (now (from .entry)) (now (to .entry)) (now (low .entry)) (now (high .entry)))))
         r (now (walk .entry)) (now (walk .exit)) ⌝ }
 {
+    let open = open_search::find(which, reached, m, from, high);
+    if open < m {
+        return open_search::show(open, from, reached, walk);
+    }
     let mut weight = [0u32; 2048];
     let mut close = [0u32; 512];
     weigh(which, n, m, marks, from, low, high, &mut weight, &mut close);

@@ -4,21 +4,24 @@
 -- Costs are computed. A route or a walk that is claimed is written out; one that is denied is followed from its start
 -- until a condition on a state fails. Assumes nothing.
 use Prim.Native.Nat.{ℕ, zero, suc, _<_}
-use mathlib.Core.Path.{_≡_, refl, sym, _∙_}
-use mathlib.Core.Bool.{true≢false, false≢true}
+use mathlib.Core.Path.{_≡_, refl, sym, _∙_, ap}
+use mathlib.Core.Bool.{true, false, true≢false, false≢true}
 use mathlib.Core.Logic.{_⊎_, inl, inr}
-use mathlib.Core.List.{List, [], _∷_}
+use mathlib.Core.List.{List, [], _∷_, _++_}
 use native.Mathlib.Nat.{not-suc-le-zero, le-of-suc-le-suc}
 use native.Mathlib.Omega.{arith}
 use lib.Dec.{T, ltb, lit<}
+use lib.ListN.{length, getD}
 use Rattle.graph.specs.Graph.{Graph, Transition, count, start, final, counted, from, to, low, high, Departs, Unfinished}
-use Rattle.graph.specs.Walk.{Begins, Walk, Different, reached}
-use Rattle.graph.specs.Route.{Route, GoesOnForever, StrandedFrom, EndsUnanswered, Cost, total}
-use Rattle.graph.specs.Figure.{Figure, number, NONE, STRANDED, ENDLESS, NoStart, IsLeast, IsGreatest, Shown}
+use Rattle.graph.specs.Walk.{Begins, Walk, Different, arrival, UnfinishedFrom, reached}
+use Rattle.graph.specs.Route.{Route, HasEndlessWalk, StrandedFrom, EndsUnanswered, Cost, total, limit, isOpen, highs, OpenWalk, HasOpenWalk}
+use Rattle.graph.specs.Figure.{Figure, number, NONE, STRANDED, ENDLESS, NoStart, IsLeast, IsGreatest, LoopShown, OpenShown, Shown}
 use Rattle.graph.specs.Figure.{costFor, kind, value}
-use Rattle.graph.specs.declared.Which.the-variants.{LeastDelay, GreatestDelay, LeastCount}
+use Rattle.graph.specs.declared.Which.{Which}
+use Rattle.graph.specs.declared.Which.the-variants.{LeastDelay, GreatestDelay, LeastCount, GreatestCount}
+use Rattle.graph.specs.declared.Duration.the-variants.{Seconds, Open}
 use Rattle.graph.specs.Known.{join, P1, P3, P4, P6, P7, P8, P9, unreached-dead-end, reached-dead-end}
-use Rattle.graph.specs.Known.{plan, counted-ends}
+use Rattle.graph.specs.Known.{plan, counted-ends, open-unreached, open-answered, open-at-once}
 
 -- transition t, a numeral, departs from s
 departs : (g : Graph) (s t : ℕ) → T (ltb t (count g)) → from g t ≡ s → Departs g s t
@@ -74,7 +77,7 @@ abbrev loop : ℕ → ℕ → Graph
 loop m d = plan (4 ∷ m ∷ []) (join 0 0 d d ∷ join 0 1 1 1 ∷ [])
 
 -- 0→0, over and over: how long it lasts makes no difference
-pub loop-endless : (m d : ℕ) → GoesOnForever (loop m d)
+pub loop-endless : (m d : ℕ) → HasEndlessWalk (loop m d)
 unfolding start final from to high
 loop-endless m d = (0, λ i. 0, (refl, record { departs = λ i. rw (stays i) (departs (loop m d) 0 0 tt refl); unfinished = λ i. rw (stays i) refl }))
   where
@@ -82,7 +85,7 @@ loop-endless m d = (0, λ i. 0, (refl, record { departs = λ i. rw (stays i) (de
     stays zero = refl
     stays (suc i) = refl
 
-pub zero-loop-endless : GoesOnForever (P4 .plan)
+pub zero-loop-endless : HasEndlessWalk (P4 .plan)
 zero-loop-endless = loop-endless 2 0
 
 -- of the marks 4, 2, 0 only the first is a start
@@ -94,7 +97,7 @@ only-0 ts (suc (suc zero)) b = absurd (false≢true b)
 only-0 ts (suc (suc (suc s))) b = absurd (false≢true b)
 
 -- 2→2, which no start reaches: from 0 there is only 0→1, and 1 is final
-pub unreached-not-endless : GoesOnForever (P7 .plan) → ⊥
+pub unreached-not-endless : HasEndlessWalk (P7 .plan) → ⊥
 unfolding final from to
 unreached-not-endless (s, taken, (b, e)) = first s (taken 0) (only-0 (P7 .plan .transitions) s b) (e .departs 0) (e .unfinished 1)
   where
@@ -117,10 +120,70 @@ unreached-not-stranded (s, ts, (b, w)) = first s ts (only-0 (unreached-dead-end 
     first s (zero ∷ ts) q w = at-1 ts (w .2)
     first s (suc t ∷ ts) q w = not-suc-le-zero (le-of-suc-le-suc (w .1 .listed))
 
+-- ---- walks that take an open transition (document 02, E2)
+
+-- 0→0 without limit
+abbrev open-loop : Graph
+open-loop = plan (4 ∷ []) (join 0 0 0 2047 ∷ [])
+
+-- "A high of 2,047 shall mean no limit", and one of 2,046 does not
+pub high-2047 : limit 2047 ≡ Open
+high-2047 = refl
+
+pub high-2046 : limit 2046 ≡ Seconds 2046
+high-2046 = refl
+
+-- 0→1 2047..2047, at once and into a final state: an open transition "may lead anywhere"
+pub takes-one : OpenWalk (open-at-once .plan) (costFor GreatestDelay (open-at-once .plan)) 0 (0 ∷ [])
+unfolding start final from high
+takes-one = (refl, record { before = []; last = 0; ends-with = refl; unfinished = refl; departs = departs (open-at-once .plan) 0 0 tt refl; unlimited = refl })
+
+-- "Both counts and the least delay pay no heed to it"
+pub delay-only : (which : Which) → (which ≡ GreatestDelay → ⊥) → HasOpenWalk (open-at-once .plan) (costFor which (open-at-once .plan)) → ⊥
+delay-only LeastDelay other (s, ts, (b, w)) = false≢true (w .unlimited)
+delay-only GreatestDelay other u = other refl
+delay-only LeastCount other (s, ts, (b, w)) = false≢true (w .unlimited)
+delay-only GreatestCount other (s, ts, (b, w)) = false≢true (w .unlimited)
+
+-- its low of 2,047 is 2,047 seconds
+pub low-2047 : total (open-at-once .plan) (costFor LeastDelay (open-at-once .plan)) 0 (0 ∷ []) ≡ 2047
+unfolding low
+low-2047 = refl
+
+-- 0→1, where 1 is final, is all that leaves the start: the other transition is not taken, open or not
+module _ (a b x y l h : ℕ) where
+  abbrev beside : Graph
+  beside = plan (4 ∷ 2 ∷ 0 ∷ []) (join 0 1 a b ∷ join (suc x) y l h ∷ [])
+
+  not-taken : isOpen (limit b) ≡ false → HasOpenWalk beside (highs beside) → ⊥
+  unfolding final from to high
+  not-taken e (s, ts, (begins, w)) = first s (w .before) (only-0 (beside .transitions) s begins) (w .unfinished) (w .last) (w .departs) (w .unlimited)
+    where
+      at-1 : (us : List ℕ) → UnfinishedFrom beside 1 us → ⊥
+      at-1 [] u = true≢false u
+      at-1 (t ∷ us) u = true≢false (u .0)
+
+      first : (s : ℕ) (us : List ℕ) → s ≡ 0 → UnfinishedFrom beside s us → (t : ℕ) → Departs beside (arrival beside s us) t
+          → isOpen (limit (high beside t)) ≡ true → ⊥
+      first s [] q u zero d o = false≢true (sym e ∙ o)
+      first s [] q u (suc zero) d o = omega (arith, d .source)
+      first s [] q u (suc (suc t)) d o = not-suc-le-zero (le-of-suc-le-suc (le-of-suc-le-suc (d .listed)))
+      first s (zero ∷ us) q u t d o = at-1 us (u .2)
+      first s (suc zero ∷ us) q u t d o = omega (arith, u .1 .source)
+      first s (suc (suc v) ∷ us) q u t d o = not-suc-le-zero (le-of-suc-le-suc (le-of-suc-le-suc (u .1 .listed)))
+
+-- "from a start": one that leaves 2, which no start reaches
+pub unreached-not-open : HasOpenWalk (open-unreached .plan) (costFor GreatestDelay (open-unreached .plan)) → ⊥
+unreached-not-open = not-taken 2 3 1 1 1 2047 refl
+
+-- "an unfinished walk": one that leaves 1, which is final
+pub answered-not-open : HasOpenWalk (open-answered .plan) (costFor GreatestDelay (open-answered .plan)) → ⊥
+answered-not-open = not-taken 1 2 0 2 5 2047 refl
+
 -- ---- "first that applies"
 
 -- P9: 0→0 goes on forever, and 0→1 ends in a dead end
-pub P9-endless : GoesOnForever (P9 .plan)
+pub P9-endless : HasEndlessWalk (P9 .plan)
 P9-endless = loop-endless 0 1
 
 pub P9-stranded : EndsUnanswered (P9 .plan)
@@ -141,7 +204,7 @@ pub P9-started : NoStart (P9 .plan) → ⊥
 P9-started none = none 0 P9-start
 
 pub endless-first : (c : Cost) → IsGreatest (P9 .plan) c ENDLESS
-endless-first c = (P9-started, P9-endless)
+endless-first c = (P9-started, inl P9-endless)
 
 -- "NONE if there is no route": P3 has a start, and no route
 P3-no-route : (s : ℕ) (ts : List ℕ) → Route (P3 .plan) s ts → ⊥
@@ -162,7 +225,7 @@ one-place i j l h e = omega arith
 -- for ENDLESS 0→0, back where it began, and for STRANDED the start alone
 pub loop-shown : (c : Cost) → Shown (P4 .plan) c ENDLESS (0 ∷ []) 0
 unfolding start final from to
-loop-shown c = (0, (refl, (refl, departs (P4 .plan) 0 0 tt refl, refl)), lit< tt, refl, one-place)
+loop-shown c = inl (0, (refl, (refl, departs (P4 .plan) 0 0 tt refl, refl)), lit< tt, refl, one-place)
 
 pub start-shown : (c : Cost) → Shown (P3 .plan) c STRANDED [] 0
 unfolding start final
@@ -184,18 +247,36 @@ unfolding from to
 not-twice-stranded c (s, w, d, z) = d 0 1 (lit< tt) (lit< tt) (sym (w .1 .1 .source))
 
 -- "a place j below k"
-pub not-at-k : (c : Cost) → Shown (P4 .plan) c ENDLESS [] 0 → ⊥
-not-at-k c (s, w, l, q, d) = not-suc-le-zero l
+pub not-at-k : LoopShown (P4 .plan) [] 0 → ⊥
+not-at-k (s, w, l, q, d) = not-suc-le-zero l
 
 -- "the state after k transitions is the state after j": 0→1 does not come back
-pub comes-back : (c : Cost) → Shown (P9 .plan) c ENDLESS (1 ∷ []) 0 → ⊥
+pub comes-back : LoopShown (P9 .plan) (1 ∷ []) 0 → ⊥
 unfolding from to
-comes-back c (s, w, l, q, d) = let e : _≡_ {A = ℕ} 1 0 = q ∙ sym (w .1 .1 .source) in omega arith
+comes-back (s, w, l, q, d) = let e : _≡_ {A = ℕ} 1 0 = q ∙ sym (w .1 .1 .source) in omega arith
 
 -- "the first k states differ": 0→0, 0→0
-pub not-past-first : (c : Cost) → Shown (P4 .plan) c ENDLESS (0 ∷ 0 ∷ []) 0 → ⊥
+pub not-past-first : LoopShown (P4 .plan) (0 ∷ 0 ∷ []) 0 → ⊥
 unfolding from to
-not-past-first c (s, w, l, q, d) = d 0 1 (lit< tt) (lit< tt) (sym (w .1 .1 .source))
+not-past-first (s, w, l, q, d) = d 0 1 (lit< tt) (lit< tt) (sym (w .1 .1 .source))
+
+-- "A walk shown for that ends with the transition, j equals k"
+pub open-shown : Shown (open-at-once .plan) (costFor GreatestDelay (open-at-once .plan)) ENDLESS (0 ∷ []) 1
+open-shown = inr (0, takes-one, refl, one-place)
+
+pub not-before-k : Shown (open-at-once .plan) (costFor GreatestDelay (open-at-once .plan)) ENDLESS (0 ∷ []) 0 → ⊥
+unfolding final to
+not-before-k (inl (s, (b, w), l, q, d)) = true≢false (w .2)
+not-before-k (inr (s, w, q, d)) = omega arith
+
+-- "its first k states still differ": 0→0, and 0→0 without limit
+pub not-round-first : OpenShown open-loop (costFor GreatestDelay open-loop) (0 ∷ 0 ∷ []) 2 → ⊥
+unfolding from to
+not-round-first (s, (b, w), q, d) = again (w .before) (w .last) (w .ends-with) (w .unfinished)
+  where
+    again : (us : List ℕ) (t : ℕ) → _≡_ {A = List ℕ} (0 ∷ 0 ∷ []) (us ++ (t ∷ [])) → UnfinishedFrom open-loop s us → ⊥
+    again [] t e u = omega (arith, ap length e)
+    again (v ∷ us) t e u = d 0 1 (lit< tt) (lit< tt) (sym (rw (sym (ap (λ (l : List ℕ). getD l 0 0) e)) at (u .1 .source)))
 
 -- "For NONE: k is 0."
 pub none-empty : (c : Cost) (t : ℕ) (ts : List ℕ) → Shown (P4 .plan) c NONE (t ∷ ts) 0 → ⊥

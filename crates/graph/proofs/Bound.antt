@@ -2,40 +2,51 @@
 --
 -- The states of what is shown are below n and differ, all of them for a number or STRANDED, all but the last for
 -- ENDLESS; so they are at most n. A route that is shown for a number has at most 511 transitions, n being at most 512,
--- each of at most 2,047 seconds: 1,046,017 seconds, or 512 counted states. Assumes nothing.
+-- each of at most 2,047 seconds: 1,046,017 seconds, or 512 counted states. A high that is a number is at most 2,046, so
+-- a greatest delay is at most 1,045,506 seconds. Assumes nothing.
 use Prim.Native.Nat.{ℕ, _+_, _*_, _≤_, _<_, zero-le}
-use mathlib.Core.Path.{_≡_}
-use mathlib.Core.Bool.{Bool}
+use mathlib.Core.Path.{_≡_, refl}
+use mathlib.Core.Bool.{Bool, true, false, cond}
 use mathlib.Core.List.{List}
+use mathlib.Core.Logic.{inl, inr}
 use native.Mathlib.Nat.{le-of-lt, mul-le-mul-right}
 use native.Mathlib.Omega.{arith}
+use lib.Dec.{eqb}
 use lib.ListN.{length, take}
 use lib.Seq.{length-take-le, getD-take}
+use borrow.Author.Tests.{eqb-false}
+use Rattle.graph.specs.declared.Duration.the-variants.{Seconds, Open}
 use Rattle.graph.specs.Graph.{Graph, states, count, from, low, high, Final, Unfinished, DeadEnd, Closed}
-use Rattle.graph.specs.Walk.{visits}
-use Rattle.graph.specs.Route.{Cost, lows, highs, counts}
+use Rattle.graph.specs.Walk.{Begins, WalkFrom, visits, Different}
+use Rattle.graph.specs.Route.{Cost, limit, seconds, lows, highs, counts}
 use Rattle.graph.specs.declared.Which.the-variants.{LeastDelay, GreatestDelay, LeastCount, GreatestCount}
 use Rattle.graph.specs.Figure.{Figure, number, NONE, STRANDED, ENDLESS, IsLeast, IsGreatest, Shown, most}
 use Rattle.graph.proofs.Repeat.{nth, different-length}
-use Rattle.graph.proofs.Walks.{start-below, length-visits, visits-below}
+use Rattle.graph.proofs.Walks.{start-below, length-visits, visits-below, plain}
+use Rattle.graph.proofs.Open.{open-plain}
 use Rattle.graph.proofs.Simple.{simple-length}
 use Rattle.graph.proofs.Cost.{total-le, one-le}
 use Rattle.graph.proofs.Least.{least-shown}
 use Rattle.graph.proofs.Greatest.{greatest-shown}
 
 module _ (g : Graph) (closed : Closed g) (c : Cost) where
-  -- "n places" are enough for every walk that is shown
-  pub shown-fits : (f : Figure) (ts : List ℕ) (j : ℕ) → Shown g c f ts j → length ts ≤ states g
-  shown-fits (number k) ts j (s, r, q, d, z) = le-of-lt (simple-length g (Unfinished g) (Final g) closed s ts r d)
-  shown-fits STRANDED ts j (s, w, d, z) = le-of-lt (simple-length g (Unfinished g) (DeadEnd g) closed s ts w d)
-  shown-fits ENDLESS ts j (s, (b, w), l, e, d) =
+  -- a walk that leaves no state twice
+  left-fit : (s : ℕ) (ts : List ℕ) → Begins g s → WalkFrom g s ts → Different (take (length ts) (visits g s ts)) → length ts ≤ states g
+  left-fit s ts b w d =
       let k = length ts in
       let xs = visits g s ts in
       let hk : k ≤ length xs = omega (arith, length-visits g s ts) in
       let lk : length (take k xs) ≡ k = length-take-le k xs hk in
-      let all = visits-below g (Unfinished g) (Unfinished g) closed s ts (start-below g s b) w in
+      let all = visits-below g (λ s. Unit) (λ s. Unit) closed s ts (start-below g s b) w in
       let first : (i : ℕ) → i < length (take k xs) → nth (take k xs) i < states g = λ i h. rw (getD-take k xs i 0 (omega arith)) (all i (omega arith)) in
       rw lk at (different-length (states g) (take k xs) d first)
+
+  -- "n places" are enough for every walk that is shown
+  pub shown-fits : (f : Figure) (ts : List ℕ) (j : ℕ) → Shown g c f ts j → length ts ≤ states g
+  shown-fits (number k) ts j (s, r, q, d, z) = le-of-lt (simple-length g (Unfinished g) (Final g) closed s ts r d)
+  shown-fits STRANDED ts j (s, w, d, z) = le-of-lt (simple-length g (Unfinished g) (DeadEnd g) closed s ts w d)
+  shown-fits ENDLESS ts j (inl (s, (b, w), l, e, d)) = left-fit s ts b (plain g (Unfinished g) (Unfinished g) s ts w) d
+  shown-fits ENDLESS ts j (inr (s, (b, w), e, d)) = left-fit s ts b (open-plain g c s ts w) d
   shown-fits NONE ts j (e, z) = omega arith
 
   -- so every figure can be shown within n places
@@ -64,13 +75,21 @@ module _ (g : Graph) (closed : Closed g) (c : Cost) (small : states g ≤ 512)
   pub greatest-number-le : IsGreatest g c (number k) → k ≤ 511 * a + b
   greatest-number-le u = let (ts, j, shown) = greatest-shown g c closed (number k) u in shown-number-le ts j shown
 
+-- a high of 2,047 is no number
+pub seconds-le : (high : ℕ) → high ≤ 2047 → seconds (limit high) ≤ 2046
+seconds-le high h = go (eqb high 2047) refl
+  where
+    go : (b : Bool) → eqb high 2047 ≡ b → seconds (cond b Open (Seconds high)) ≤ 2046
+    go true e = zero-le
+    go false e = omega (arith, eqb-false high 2047 e)
+
 module _ (g : Graph) (closed : Closed g) (small : states g ≤ 512) (k : ℕ) where
-  -- a delay, of 511 transitions of 2,047 seconds
+  -- a delay, of 511 transitions of 2,047 seconds, or of 2,046
   pub least-delay-le : ((t : ℕ) → t < count g → low g t ≤ 2047) → IsLeast g (lows g) (number k) → k ≤ most LeastDelay
   least-delay-le h u = least-number-le g closed (lows g) small 2047 0 h (λ s. zero-le) k u
 
   pub greatest-delay-le : ((t : ℕ) → t < count g → high g t ≤ 2047) → IsGreatest g (highs g) (number k) → k ≤ most GreatestDelay
-  greatest-delay-le h u = greatest-number-le g closed (highs g) small 2047 0 h (λ s. zero-le) k u
+  greatest-delay-le h u = greatest-number-le g closed (highs g) small 2046 0 (λ t l. seconds-le (high g t) (h t l)) (λ s. zero-le) k u
 
   -- and a count, over any yes-or-no on states
   pub least-count-le : (p : ℕ → Bool) → IsLeast g (counts g p) (number k) → k ≤ most LeastCount

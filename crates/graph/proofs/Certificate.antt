@@ -5,35 +5,38 @@
 --    a final state, and is carried over each transition out of an unfinished one (`route-bound`). Least values are such
 --    a bound from below (`least-values`), greatest values one from above (`greatest-values`).
 -- 2. A rank that falls along the transitions between the unfinished states that starts reach: no walk among them is
---    longer than the rank of its first state, so none is endless (`no-endless`); and where each of them has a
+--    longer than the rank of its first state, so none is endless (`no-endless`); where no open transition leaves one of
+--    them, no walk takes one (`no-open`), and then none goes on forever (`no-forever`); and where each of them has a
 --    transition out, none is a dead end (`no-stranded`). So every start leads to an answer (`rank-answers`), and there
 --    is a greatest value (`rank-greatest`).
 -- 3. A transition chosen at each unfinished state, that leads on with a lower rank and accounts for the value:
 --    following the choices is a route that costs the value and visits no state twice (`follow`).
 -- 4. A tree of the states found, each by a transition from a state found before it: it holds a walk from a start to
---    each, that visits no state twice (`tree-walk`).
+--    each, that visits no state twice (`tree-walk`). So it shows a dead end that was found, and an open transition that
+--    leaves a state found (`tree-stranded`, `tree-open`).
 -- 5. Together, values at a best start are the least figure (`least-number`, `least-none`), or the greatest
 --    (`greatest-number`); and walks that may be shown prove the other kinds (`greatest-endless`, `greatest-stranded`).
 --    For ENDLESS that walk is a search's stack with one transition more (`endless-by-places`).
 -- Assumes nothing.
 use Prim.Native.Nat.{ℕ, zero, suc, _+_, _≤_, _<_}
 use mathlib.Core.Path.{_≡_, refl, sym, _∙_, ap}
-use mathlib.Core.Bool.{Bool, true, false}
+use mathlib.Core.Bool.{Bool, true, false, false≢true}
 use mathlib.Core.List.{List, [], _∷_, _++_}
 use mathlib.Core.Logic.{_⊎_, inl, inr}
 use native.Mathlib.Nat.{not-suc-le-zero, le-of-suc-le-suc, le-refl, le-trans, le-of-lt, le-of-eq}
 use native.Mathlib.Omega.{arith}
 use lib.ListN.{length}
 use Rattle.graph.specs.Graph.{Graph, count, final, from, to, Departs, Final, Unfinished, DeadEnd, Closed}
-use Rattle.graph.specs.Walk.{Begins, visits, arrival, UnfinishedWalk, Different, reached, EndlessWalk}
-use Rattle.graph.specs.Route.{RouteFrom, LeadsToAnswer, StrandedFrom, GoesOnForever, EndsUnanswered, Cost, total}
-use Rattle.graph.specs.Figure.{Figure, number, NONE, STRANDED, ENDLESS, IsLeast, IsGreatest, Shown}
+use Rattle.graph.specs.Walk.{Begins, visits, arrival, UnfinishedFrom, UnfinishedWalk, Different, reached, EndlessWalk}
+use Rattle.graph.specs.Route.{RouteFrom, LeadsToAnswer, StrandedFrom, HasEndlessWalk, HasOpenWalk, GoesOnForever, EndsUnanswered, Cost, total}
+use Rattle.graph.specs.Figure.{Figure, number, NONE, STRANDED, ENDLESS, IsLeast, IsGreatest, LoopShown, Shown}
 use Rattle.graph.specs.Compute.{greatest}
 use Rattle.graph.proofs.Repeat.{nth, Apart, different-take, different-cons, different-one, different-snoc, Snoc}
 use Rattle.graph.proofs.Repeat.{nth-snoc}
 use Rattle.graph.proofs.Build.{arrival-snoc, visits-snoc, walk-snoc, StepAt, walk-by-places, visits-by-places}
 use Rattle.graph.proofs.Walks.{state-after, state-last, with-last}
 use Rattle.graph.proofs.Endless.{shown-endless}
+use Rattle.graph.proofs.Open.{ring-shown}
 use Rattle.graph.proofs.Greatest.{leads-to-answer, greatest-is}
 
 -- ---- 1
@@ -82,6 +85,10 @@ module _ (g : Graph) (c : Cost) where
 
 -- ---- 2
 
+-- no open transition leaves a state of the set
+abbrev pub Limited : Graph → (ℕ → Type 0) → Cost → Type 0
+Limited g In c = (s t : ℕ) → In s → Departs g s t → c .unlimited t ≡ false
+
 module _ (g : Graph) (In : ℕ → Type 0) (rank : ℕ → ℕ) where
   -- the set holds the unfinished states that starts reach through unfinished ones, and the rank falls within it
   pub record FallingRank : Type 0 where
@@ -98,8 +105,27 @@ module _ (g : Graph) (In : ℕ → Type 0) (rank : ℕ → ℕ) where
         (there, omega arith)
 
     -- after so many steps the rank would be below 0
-    pub no-endless : GoesOnForever g → ⊥
+    pub no-endless : HasEndlessWalk g → ⊥
     no-endless (s, taken, e) = omega (arith, in-and-falls s taken e (suc (rank s)) .1)
+
+    -- the last state of a walk of unfinished states from the set is in the set
+    first-unfinished : (s : ℕ) (ts : List ℕ) → UnfinishedFrom g s ts → Unfinished g s
+    first-unfinished s [] w = w
+    first-unfinished s (t ∷ ts) w = w .0
+
+    arrival-in : (s : ℕ) (ts : List ℕ) → In s → UnfinishedFrom g s ts → In (arrival g s ts)
+    arrival-in s [] i w = i
+    arrival-in s (t ∷ ts) i w = arrival-in (to g t) ts (r .onward s t i (w .1) (first-unfinished (to g t) ts (w .2)) .0) (w .2)
+
+    module _ (c : Cost) (limited : Limited g In c) where
+      pub no-open : HasOpenWalk g c → ⊥
+      no-open (s, ts, (b, w)) =
+          let here = arrival-in s (w .before) (r .begins s b (first-unfinished s (w .before) (w .unfinished))) (w .unfinished) in
+          false≢true (sym (limited (arrival g s (w .before)) (w .last) here (w .departs)) ∙ w .unlimited)
+
+      pub no-forever : GoesOnForever g c → ⊥
+      no-forever (inl e) = no-endless e
+      no-forever (inr w) = no-open w
 
     -- a walk from the set to a dead end: its first state is unfinished, and its last is in the set
     stranded-unfinished : (s : ℕ) (ts : List ℕ) → StrandedFrom g s ts → Unfinished g s
@@ -120,14 +146,14 @@ module _ (g : Graph) (In : ℕ → Type 0) (rank : ℕ → ℕ) where
     rank-answers closed out = leads-to-answer g closed no-endless (no-stranded out)
 
     -- and there is a greatest value, where some state is marked start: no other kind is left for the figure
-    pub rank-greatest : (c : Cost) → Closed g → ((s : ℕ) → In s → (t : ℕ) × Departs g s t) → (s : ℕ) → Begins g s
+    pub rank-greatest : (c : Cost) → Limited g In c → Closed g → ((s : ℕ) → In s → (t : ℕ) × Departs g s t) → (s : ℕ) → Begins g s
         → (k : ℕ) × IsGreatest g c (number k)
-    rank-greatest c closed out s b = go (greatest g c) (greatest-is g c closed)
+    rank-greatest c limited closed out s b = go (greatest g c) (greatest-is g c closed)
       where
         go : (f : Figure) → IsGreatest g c f → (k : ℕ) × IsGreatest g c (number k)
         go (number k) u = (k, u)
         go NONE u = absurd (u s b)
-        go ENDLESS u = absurd (no-endless (u .1))
+        go ENDLESS u = absurd (no-forever c limited (u .1))
         go STRANDED u = absurd (no-stranded out (u .2))
 
 -- ---- 3
@@ -306,6 +332,12 @@ module _ (g : Graph) (In : ℕ → Type 0) (order : ℕ → ℕ) where
         let w = with-last g (Unfinished g) (Unfinished g) (DeadEnd g) (q .first) (q .taken) (q .walk .1) last in
         (q .taken, (q .first, (q .walk .0, w), q .different, refl))
 
+    -- a state found that an open transition leaves: the walk to it and the transition are what E2 asks to be shown for ENDLESS
+    pub tree-open : (c : Cost) (s t : ℕ) → In s → Departs g s t → c .unlimited t ≡ true → (ts : List ℕ) × Shown g c ENDLESS ts (length ts)
+    tree-open c s t i d o =
+        let q = tree-walk s i in
+        (q .taken ++ (t ∷ []), inr (ring-shown g c (q .first) (q .taken) (q .walk .0) (q .walk .1) (q .different) t (rw (q .arrives) d) o))
+
 -- ---- 5
 
 module _ (g : Graph) (c : Cost) (In : ℕ → Type 0) (value rank : ℕ → ℕ) where
@@ -318,12 +350,12 @@ module _ (g : Graph) (c : Cost) (In : ℕ → Type 0) (value rank : ℕ → ℕ)
   }
 
   -- the greatest value of a start
-  pub greatest-number : FallingRank g In rank → GreatestValues g c In value → Choices g c In value rank
+  pub greatest-number : FallingRank g In rank → Limited g In c → GreatestValues g c In value → Choices g c In value rank
       → (s : ℕ) → Begins g s → ((x : ℕ) → Begins g x → value x ≤ value s) → ((x : ℕ) → In x → Unfinished g x)
       → IsGreatest g c (number (value s))
-  greatest-number r v p s b best unfinished = (
+  greatest-number r limited v p s b best unfinished = (
     λ no-start. no-start s b,
-    no-endless g In rank r,
+    no-forever g In rank r c limited,
     no-stranded g In rank r (λ x i. let q = p .choice x i (unfinished x i) in (q .next, q .departs)),
     record {
       attained = let f = follow g c In value rank p s (r .begins s b) in (s, f .taken, (b, f .route), f .costs);
@@ -341,29 +373,30 @@ module _ (g : Graph) (c : Cost) where
 
   -- a walk that is shown for ENDLESS
   pub greatest-endless : (ts : List ℕ) (j : ℕ) → Shown g c ENDLESS ts j → IsGreatest g c ENDLESS
-  greatest-endless ts j shown = (
+  greatest-endless ts j (inl shown) = (
     λ no-start. no-start (shown .0) (shown .1 .0),
-    let (s, taken, e, front) = shown-endless g c ts j shown in (s, taken, e),
+    let (s, taken, e, front) = shown-endless g ts j shown in inl (s, taken, e),
   )
-
-  -- such a walk by its places, as on a search's stack: k transitions through unfinished states that differ, and the
-  -- state after them is the one at place j
-  pub endless-by-places : (state : ℕ → ℕ) (ts : List ℕ) → Begins g (state 0)
-      → ((i : ℕ) → i < length ts → StepAt g (Unfinished g) (Unfinished g) state ts i)
-      → (j : ℕ) → j < length ts → state (length ts) ≡ state j → Apart state (length ts) → Shown g c ENDLESS ts j
-  endless-by-places state ts b at j l same apart =
-      let s = state 0 in
-      let here = visits-by-places g (Unfinished g) (Unfinished g) state ts at in
-      let last : Unfinished g (state (length ts)) = rw same (at j l .passes) in
-      let at-j = state-after g s ts j (le-of-lt l) in (
-        s,
-        (b, walk-by-places g (Unfinished g) (Unfinished g) state ts at last),
-        l,
-        sym (state-last g s ts) ∙ here (length ts) (le-refl (length ts)) ∙ same ∙ sym (here j (le-of-lt l)) ∙ at-j,
-        different-take (visits g s ts) (length ts) (λ i i′ o h e. apart i i′ o h (sym (here i (omega arith)) ∙ e ∙ here i′ (le-of-lt h))),
-      )
+  greatest-endless ts j (inr (s, w, e, d)) = (λ no-start. no-start s (w .0), inr (s, ts, w))
 
   -- a walk that is shown for STRANDED, where the rank falls
-  pub greatest-stranded : (In : ℕ → Type 0) (rank : ℕ → ℕ) → FallingRank g In rank → (ts : List ℕ) (j : ℕ) → Shown g c STRANDED ts j
-      → IsGreatest g c STRANDED
-  greatest-stranded In rank r ts j shown = (λ no-start. no-start (shown .0) (shown .1 .0), no-endless g In rank r, (shown .0, ts, shown .1))
+  pub greatest-stranded : (In : ℕ → Type 0) (rank : ℕ → ℕ) → FallingRank g In rank → Limited g In c → (ts : List ℕ) (j : ℕ)
+      → Shown g c STRANDED ts j → IsGreatest g c STRANDED
+  greatest-stranded In rank r limited ts j shown = (λ no-start. no-start (shown .0) (shown .1 .0), no-forever g In rank r c limited, (shown .0, ts, shown .1))
+
+-- a loop by its places, as on a search's stack: k transitions through unfinished states that differ, and the state after
+-- them is the one at place j
+pub endless-by-places : (g : Graph) (state : ℕ → ℕ) (ts : List ℕ) → Begins g (state 0)
+    → ((i : ℕ) → i < length ts → StepAt g (Unfinished g) (Unfinished g) state ts i)
+    → (j : ℕ) → j < length ts → state (length ts) ≡ state j → Apart state (length ts) → LoopShown g ts j
+endless-by-places g state ts b at j l same apart =
+    let s = state 0 in
+    let here = visits-by-places g (Unfinished g) (Unfinished g) state ts at in
+    let last : Unfinished g (state (length ts)) = rw same (at j l .passes) in
+    let at-j = state-after g s ts j (le-of-lt l) in (
+      s,
+      (b, walk-by-places g (Unfinished g) (Unfinished g) state ts at last),
+      l,
+      sym (state-last g s ts) ∙ here (length ts) (le-refl (length ts)) ∙ same ∙ sym (here j (le-of-lt l)) ∙ at-j,
+      different-take (visits g s ts) (length ts) (λ i i′ o h e. apart i i′ o h (sym (here i (omega arith)) ∙ e ∙ here i′ (le-of-lt h))),
+    )

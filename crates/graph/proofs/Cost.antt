@@ -14,13 +14,14 @@ use native.Mathlib.Omega.{arith}
 use lib.ListN.{length}
 use Rattle.graph.specs.Graph.{Graph, count, to}
 use Rattle.graph.specs.Walk.{WalkTo}
-use Rattle.graph.specs.Route.{Cost, total, counts, one, delay, number-on}
+use Rattle.graph.specs.declared.Duration.{Duration}
+use Rattle.graph.specs.Route.{Cost, total, seconds, delays, counts, one, delay, number-on}
 
 -- "the sum of its lows", or of its highs
-pub delay-is : (g : Graph) (duration : ℕ → ℕ) (s : ℕ) (ts : List ℕ)
-    → total g (record { step = duration; close = λ s. 0 }) s ts ≡ delay duration ts
+pub delay-is : (g : Graph) (duration : ℕ → Duration) (s : ℕ) (ts : List ℕ)
+    → total g (delays duration) s ts ≡ delay (λ t. seconds (duration t)) ts
 delay-is g duration s [] = refl
-delay-is g duration s (t ∷ ts) = ap (λ (x : ℕ). duration t + x) (delay-is g duration (to g t) ts)
+delay-is g duration s (t ∷ ts) = ap (λ (x : ℕ). seconds (duration t) + x) (delay-is g duration (to g t) ts)
 
 -- "the number of counted states on it, first and last included, one for each visit"
 pub count-is : (g : Graph) (p : ℕ → Bool) (pass stop : ℕ → Type 0) (s : ℕ) (ts : List ℕ) → WalkTo g pass stop s ts

@@ -7,7 +7,7 @@
 --    of which that is so is an endless walk (`endless-of`). The first k of the one in 1 are the walk itself (`run-round`).
 -- 3. So a plan of n states has an endless walk exactly when n transitions can be walked from a start through unfinished
 --    states: by 2 one way; and by 1 the other, since n + 1 states below n hold a repeat. Up to the first repeat, that
---    walk is what 01 asks to be shown for ENDLESS (`repeat-shown`).
+--    walk is what 01 asks to be shown for a loop (`repeat-shown`).
 -- 4. Where no endless walk exists, every walk through unfinished states visits no state twice (`simple-or-endless`).
 -- Assumes nothing.
 use Prim.Native.Nat.{ℕ, zero, suc, _+_, _≤_, _<_, zero-le}
@@ -24,8 +24,7 @@ use borrow.Author.Tests.{eqb-true, eqb-false, ne-eqb}
 use Rattle.graph.specs.Graph.{Graph, states, Unfinished, Closed}
 use Rattle.graph.specs.Walk.{Begins, WalkTo, visits, arrival, UnfinishedFrom, Different}
 use Rattle.graph.specs.Walk.{reached, EndlessFrom, EndlessWalk}
-use Rattle.graph.specs.Route.{Cost}
-use Rattle.graph.specs.Figure.{ENDLESS, Shown}
+use Rattle.graph.specs.Figure.{LoopShown}
 use Rattle.graph.proofs.Repeat.{nth, Repeat, first-repeat, repeat-below, different-take}
 use Rattle.graph.proofs.Walks.{start-below, length-visits, state-after, state-last, visits-take, passed}
 use Rattle.graph.proofs.Walks.{departs-at, arrives-at, stopped, visits-below, front}
@@ -165,10 +164,10 @@ module _ (g : Graph) (stop : ℕ → Type 0) (s : ℕ) (ts : List ℕ) (below : 
   pub long-endless : Closed g → states g ≤ length ts → (taken : ℕ → ℕ) × EndlessFrom g s taken
   long-endless closed h = let r = long-repeat closed h in (round ts (r .earlier) (r .later), repeat-endless g stop s ts w r)
 
-module _ (g : Graph) (c : Cost) (stop : ℕ → Type 0) (s : ℕ) (ts : List ℕ) (b : Begins g s) (w : WalkTo g (Unfinished g) stop s ts) where
-  -- up to the first repeat, the walk is as 01 asks for ENDLESS
+module _ (g : Graph) (stop : ℕ → Type 0) (s : ℕ) (ts : List ℕ) (b : Begins g s) (w : WalkTo g (Unfinished g) stop s ts) where
+  -- up to the first repeat, the walk is as 01 asks for a loop
   pub repeat-shown : (r : Repeat (nth (visits g s ts)) (length (visits g s ts)))
-      → Shown g c ENDLESS (take (r .later) ts) (r .earlier)
+      → LoopShown g (take (r .later) ts) (r .earlier)
   repeat-shown r =
       let k = r .later in
       let j = r .earlier in
@@ -186,23 +185,23 @@ module _ (g : Graph) (c : Cost) (stop : ℕ → Type 0) (s : ℕ) (ts : List ℕ
         rw (lk, visits-take g s ts k hk, take-take k (suc k) xs (omega arith)) (different-take xs k (r .apart)),
       )
 
-  pub long-shown : Closed g → states g ≤ length ts → (k : ℕ) × (j : ℕ) × Shown g c ENDLESS (take k ts) j × (k ≤ length ts)
+  pub long-shown : Closed g → states g ≤ length ts → (k : ℕ) × (j : ℕ) × LoopShown g (take k ts) j × (k ≤ length ts)
   long-shown closed h =
       let r = long-repeat g stop s ts (start-below g s b) w closed h in
       (r .later, r .earlier, repeat-shown r, omega (arith, length-visits g s ts))
 
-module _ (g : Graph) (c : Cost) where
+module _ (g : Graph) where
   -- every endless walk has a front that may be shown: its first k transitions, for some k ..
   pub endless-shown : Closed g → (s : ℕ) (taken : ℕ → ℕ) → EndlessWalk g s taken
-      → (k : ℕ) × (j : ℕ) × Shown g c ENDLESS (run taken 0 k) j
+      → (k : ℕ) × (j : ℕ) × LoopShown g (run taken 0 k) j
   endless-shown closed s taken (b, e) =
       let n = states g in
       let l : length (run taken 0 n) ≡ n = length-run taken 0 n in
-      let (k, j, shown, h) = long-shown g c (Unfinished g) s (run taken 0 n) b (run-walk g s taken e 0 n) closed (omega arith) in
-      (k, j, subst (λ (us : List ℕ). Shown g c ENDLESS us j) (take-run taken 0 k n (omega arith)) shown)
+      let (k, j, shown, h) = long-shown g (Unfinished g) s (run taken 0 n) b (run-walk g s taken e 0 n) closed (omega arith) in
+      (k, j, subst (λ (us : List ℕ). LoopShown g us j) (take-run taken 0 k n (omega arith)) shown)
 
   -- .. and what is shown goes on forever: it is the front of an endless walk
-  pub shown-endless : (ts : List ℕ) (j : ℕ) → Shown g c ENDLESS ts j
+  pub shown-endless : (ts : List ℕ) (j : ℕ) → LoopShown g ts j
       → (s : ℕ) × (taken : ℕ → ℕ) × EndlessWalk g s taken × (run taken 0 (length ts) ≡ ts)
   shown-endless ts j (s, (b, w), l, e, d) =
       let same = state-last g s ts ∙ e ∙ sym (state-after g s ts j (le-of-lt l)) in

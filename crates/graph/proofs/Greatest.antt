@@ -1,8 +1,9 @@
 -- The greatest figure exists, is one, and can be shown: for any cost.
 --
--- 1. Each of the three tests says yes exactly when its kind applies. An endless walk exists exactly when n transitions
+-- 1. Each of the tests says yes exactly when what it asks for exists. An endless walk exists exactly when n transitions
 --    can be walked from a start through unfinished states (Endless.antt). A walk to a dead end has a simple one, of
---    fewer than n transitions.
+--    fewer than n transitions, and so has one to a state that an open transition leaves (Open.antt). A call can go on
+--    forever where one of the two walks exists (`goes-on`).
 -- 2. Where neither an endless walk nor a walk to a dead end exists, every start leads to an answer: walk on from it,
 --    and within n transitions it ends in a final state, as it can neither be stuck nor go on (`go-on`).
 -- 3. There, too, every route is simple, so its cost is listed: the largest of the list is the largest over all routes.
@@ -11,34 +12,27 @@
 --    only one (`greatest-unique`); and each kind can be shown (`greatest-shown`).
 -- Assumes nothing.
 use Prim.Native.Nat.{ℕ, zero, suc, max}
-use mathlib.Core.Path.{_≡_, refl, sym, _∙_, ap, subst}
-use mathlib.Core.Bool.{Bool, true, false, not, cond, false≢true}
+use mathlib.Core.Path.{_≡_, refl, sym, ap, subst}
+use mathlib.Core.Bool.{Bool, true, false, not, cond, _||_}
 use mathlib.Core.Logic.{_⊎_, inl, inr}
 use mathlib.Core.List.{List, [], _∷_}
 use native.Mathlib.Nat.{le-of-eq, le-refl}
 use lib.ListN.{length}
 use Rattle.graph.specs.Graph.{Graph, states, start, final, to, Departs, Final, Unfinished, DeadEnd, Closed}
 use Rattle.graph.specs.Walk.{Begins, visits, UnfinishedFrom, Different, EndlessFrom}
-use Rattle.graph.specs.Route.{RouteFrom, Route, LeadsToAnswer, StrandedFrom, GoesOnForever, EndsUnanswered, Cost}
-use Rattle.graph.specs.Route.{total}
+use Rattle.graph.specs.Route.{RouteFrom, Route, LeadsToAnswer, StrandedFrom, HasEndlessWalk, GoesOnForever, EndsUnanswered}
+use Rattle.graph.specs.Route.{Cost, total}
 use Rattle.graph.specs.Figure.{Figure, number, NONE, STRANDED, ENDLESS, IsGreatest, NoStart, Shown}
 use Rattle.graph.specs.Compute.{leaving, deadEnd, extreme, begun, within, costs, anyStart, anyEndless}
-use Rattle.graph.specs.Compute.{anyStranded, greatest}
-use Rattle.graph.proofs.Tests.{decided, any-of, in-any}
+use Rattle.graph.specs.Compute.{anyOpen, anyStranded, greatest}
+use Rattle.graph.proofs.Tests.{decided, or-cases, or-left, or-right, Tests, refuted, any-of, in-any}
 use Rattle.graph.proofs.Walks.{start-below, with-stop}
 use Rattle.graph.proofs.Simple.{simple, simple-length, short-length}
 use Rattle.graph.proofs.Endless.{run, length-run, run-walk, long-endless, endless-shown, simple-or-endless}
 use Rattle.graph.proofs.Listed.{_∈_, Yes, of-nonempty, in-nonempty, of-begun, in-begun, of-within, in-within}
 use Rattle.graph.proofs.Listed.{of-leaving, dead-end-is, of-deadEnd, in-deadEnd}
+use Rattle.graph.proofs.Open.{any-open, open-shown}
 use Rattle.graph.proofs.Extreme.{AtLeast, picks-max, Covered, IsExtreme, in-costs, extreme-is, extreme-unique}
-
--- a test says yes exactly when A holds
-pub record Tests (b : Bool) (A : Type 0) : Type 0 where
-  pub sound : b ≡ true → A
-  pub complete : A → b ≡ true
-
-pub refuted : {b : Bool} {A : Type 0} → Tests b A → b ≡ false → A → ⊥
-refuted t e a = false≢true (sym e ∙ t .complete a)
 
 -- ---- 1
 
@@ -53,7 +47,7 @@ module _ (g : Graph) where
     complete = λ p. let (s, b) = p in in-any (start g) (states g) s (start-below g s b) b;
   }
 
-  any-endless : Closed g → Tests (anyEndless g) (GoesOnForever g)
+  any-endless : Closed g → Tests (anyEndless g) (HasEndlessWalk g)
   unfolding anyEndless
   any-endless closed = record {
     sound = λ e.
@@ -85,6 +79,22 @@ module _ (g : Graph) where
         in-nonempty (within g (deadEnd g)) (in-within g (deadEnd g) s (q .short) (w .0) v h);
   }
 
+-- whatever goes on forever begins at a start
+pub forever-begins : (g : Graph) (c : Cost) → GoesOnForever g c → (s : ℕ) × Begins g s
+forever-begins g c (inl (s, taken, (b, e))) = (s, b)
+forever-begins g c (inr (s, ts, (b, w))) = (s, b)
+
+goes-on : (g : Graph) (c : Cost) → Closed g → Tests (anyEndless g || anyOpen g c) (GoesOnForever g c)
+goes-on g c closed = record { sound = λ e. of-either (or-cases (anyEndless g) (anyOpen g c) e); complete = in-either }
+  where
+    of-either : (anyEndless g ≡ true) ⊎ (anyOpen g c ≡ true) → GoesOnForever g c
+    of-either (inl e) = inl (any-endless g closed .sound e)
+    of-either (inr e) = inr (any-open g c closed .sound e)
+
+    in-either : GoesOnForever g c → (anyEndless g || anyOpen g c) ≡ true
+    in-either (inl u) = or-left (anyEndless g) (anyOpen g c) (any-endless g closed .complete u)
+    in-either (inr u) = or-right (anyEndless g) (anyOpen g c) (any-open g c closed .complete u)
+
 -- ---- 2
 
 module _ (g : Graph) where
@@ -113,7 +123,7 @@ module _ (g : Graph) where
       here (inr u) (inl l) rest = let (t, d) = of-leaving g s l in one-more k s t u d (rest t)
       here (inr u) (inr l) rest = inr (inl ([], dead-end-is g s u l))
 
-  pub leads-to-answer : Closed g → (GoesOnForever g → ⊥) → (EndsUnanswered g → ⊥) → (s : ℕ) → Begins g s
+  pub leads-to-answer : Closed g → (HasEndlessWalk g → ⊥) → (EndsUnanswered g → ⊥) → (s : ℕ) → Begins g s
       → LeadsToAnswer g s
   leads-to-answer closed finite unstranded s b = go (go-on (states g) s)
     where
@@ -127,7 +137,7 @@ module _ (g : Graph) where
 -- ---- 3
 
 -- every route is simple
-pub route-simple : (g : Graph) → (GoesOnForever g → ⊥) → (s : ℕ) (ts : List ℕ) → Route g s ts
+pub route-simple : (g : Graph) → (HasEndlessWalk g → ⊥) → (s : ℕ) (ts : List ℕ) → Route g s ts
     → Different (visits g s ts)
 route-simple g finite s ts r = go (simple-or-endless g (Final g) s ts (r .1))
   where
@@ -135,7 +145,7 @@ route-simple g finite s ts r = go (simple-or-endless g (Final g) s ts (r .1))
     go (inl (taken, e)) = absurd (finite (s, taken, (r .0, e)))
     go (inr d) = d
 
-cover : (g : Graph) (c : Cost) → Closed g → (GoesOnForever g → ⊥) → Covered max AtLeast picks-max g c
+cover : (g : Graph) (c : Cost) → Closed g → (HasEndlessWalk g → ⊥) → Covered max AtLeast picks-max g c
 cover g c closed finite s ts r =
     let h = simple-length g (Unfinished g) (Final g) closed s ts r (route-simple g finite s ts r) in
     (total g c s ts, in-costs g c s ts (in-within g (final g) s ts (r .0) (r .1) h), le-refl (total g c s ts))
@@ -146,7 +156,7 @@ module _ (g : Graph) (c : Cost) where
   some-start : (s : ℕ) → Begins g s → NoStart g → ⊥
   some-start s b no-start = no-start s b
 
-  is-largest : (f : Figure) → (NoStart g → ⊥) → (GoesOnForever g → ⊥) → (EndsUnanswered g → ⊥)
+  is-largest : (f : Figure) → (NoStart g → ⊥) → (GoesOnForever g c → ⊥) → (EndsUnanswered g → ⊥)
       → (s : ℕ) → LeadsToAnswer g s → IsExtreme max AtLeast picks-max g c f → IsGreatest g c f
   is-largest (number k) started finite unstranded s a h = (started, finite, unstranded, h)
   is-largest NONE started finite unstranded s a h = absurd (h s (a .0) (a .1))
@@ -156,21 +166,21 @@ module _ (g : Graph) (c : Cost) where
   -- what is computed is the greatest figure
   pub greatest-is : Closed g → IsGreatest g c (greatest g c)
   unfolding greatest
-  greatest-is closed = go (anyStart g) (anyEndless g) (anyStranded g) refl refl refl
+  greatest-is closed = go (anyStart g) (anyEndless g || anyOpen g c) (anyStranded g) refl refl refl
     where
-      go : (a e d : Bool) → anyStart g ≡ a → anyEndless g ≡ e → anyStranded g ≡ d
+      go : (a e d : Bool) → anyStart g ≡ a → (anyEndless g || anyOpen g c) ≡ e → anyStranded g ≡ d
           → IsGreatest g c (cond (not a) NONE (cond e ENDLESS (cond d STRANDED (extreme max (costs g c)))))
       go false e d p q r = λ s b. refuted (any-start g) p (s, b)
-      go true true d p q r = let (s, b) = any-start g .sound p in (some-start s b, any-endless g closed .sound q)
+      go true true d p q r = let (s, b) = any-start g .sound p in (some-start s b, goes-on g c closed .sound q)
       go true false true p q r =
           let (s, b) = any-start g .sound p in
-          (some-start s b, refuted (any-endless g closed) q, any-stranded g closed .sound r)
+          (some-start s b, refuted (goes-on g c closed) q, any-stranded g closed .sound r)
       go true false false p q r =
           let (s, b) = any-start g .sound p in
-          let finite = refuted (any-endless g closed) q in
+          let finite = refuted (goes-on g c closed) q in
           let unstranded = refuted (any-stranded g closed) r in
-          is-largest (extreme max (costs g c)) (some-start s b) finite unstranded s (leads-to-answer g closed finite unstranded s b)
-          (extreme-is max AtLeast picks-max g c (cover g c closed finite))
+          is-largest (extreme max (costs g c)) (some-start s b) finite unstranded s (leads-to-answer g closed (λ u. finite (inl u)) unstranded s b)
+          (extreme-is max AtLeast picks-max g c (cover g c closed (λ u. finite (inl u))))
 
   -- and there is only one: each kind excludes those after it
   pub greatest-unique : (f h : Figure) → IsGreatest g c f → IsGreatest g c h → f ≡ h
@@ -198,14 +208,15 @@ module _ (g : Graph) (c : Cost) where
   -- and it can be shown
   pub greatest-shown : Closed g → (f : Figure) → IsGreatest g c f → (ts : List ℕ) × (j : ℕ) × Shown g c f ts j
   greatest-shown closed NONE u = ([], 0, (refl, refl))
-  greatest-shown closed ENDLESS u =
-      let (s, taken, e) = u .1 in
-      let (k, j, shown) = endless-shown g c closed s taken e in
-      (run taken 0 k, j, shown)
+  greatest-shown closed ENDLESS u = go (u .1)
+    where
+      go : GoesOnForever g c → (ts : List ℕ) × (j : ℕ) × Shown g c ENDLESS ts j
+      go (inl (s, taken, e)) = let (k, j, shown) = endless-shown g closed s taken e in (run taken 0 k, j, inl shown)
+      go (inr w) = let (ts, shown) = open-shown g c w in (ts, length ts, inr shown)
   greatest-shown closed STRANDED u =
       let (s, ts, w) = u .2 in
       let q = simple g (Unfinished g) (DeadEnd g) s ts (w .1) in
       (q .short, 0, (s, (w .0, q .walk), q .different, refl))
   greatest-shown closed (number k) u =
       let (s, ts, r, q) = u .3 .attained in
-      (ts, 0, (s, r, q, route-simple g (u .1) s ts r, refl))
+      (ts, 0, (s, r, q, route-simple g (λ e. u .1 (inl e)) s ts r, refl))

@@ -1,4 +1,4 @@
--- P1 to P9, and the plans that mislead, hold of the rules themselves: one computed test over the tables, and one lemma
+-- P1 to P9, the plans that mislead and those with open highs, hold of the rules themselves: one computed test over the tables, and one lemma
 -- that turns it into the rules.
 --
 -- The test computes the four figures of a row's plan and compares them with the row's, and looks that each transition
@@ -8,6 +8,7 @@ use Prim.Native.Nat.{ℕ, zero, suc, _<_}
 use mathlib.Core.Path.{_≡_, refl, sym, _∙_, ap₂, subst}
 use mathlib.Core.Bool.{Bool, true, _&&_, and-eq-true-iff}
 use mathlib.Core.List.{List, [], _∷_, _++_}
+use mathlib.Core.Logic.{inl}
 use native.Mathlib.Nat.{not-suc-le-zero, le-of-suc-le-suc}
 use lib.Dec.{T, eqb, ltb, lit<}
 use lib.ListN.{length, getD}
@@ -21,7 +22,7 @@ use Rattle.graph.specs.Which.{every}
 use Rattle.graph.specs.Figure.{Figure, number, NONE, STRANDED, ENDLESS, IsFigure, Shown, kind, value, costFor}
 use Rattle.graph.specs.Compute.{closed, figureFor}
 use Rattle.graph.specs.Known.{Row, RowRight, known, misleading, P1, P4, P7, P8, unreached-dead-end, reached-dead-end}
-use Rattle.graph.specs.Known.{counted-ends}
+use Rattle.graph.specs.Known.{counted-ends, opened, open-reached, open-unreached, open-answered, open-and-stranded}
 use Rattle.graph.proofs.Listed.{of-closed}
 use Rattle.graph.proofs.Figures.{figure-is}
 use Rattle.graph.proofs.Greatest.{route-simple}
@@ -88,16 +89,16 @@ all-hold (r ∷ rs) e zero h = holds r (both (right r) (all-right rs) e .0)
 all-hold (r ∷ rs) e (suc i) h = all-hold rs (both (right r) (all-right rs) e .1) i (le-of-suc-le-suc h)
 
 -- "P1 to P9 are shown to hold of the rules themselves, gathered into a table with one proof for the lot"; and so are
--- the plans that mislead
-pub known-hold : (i : ℕ) → i < length (known ++ misleading) → RowRight (getD (known ++ misleading) i P1)
+-- the plans that mislead, and those with open highs
+pub known-hold : (i : ℕ) → i < length (known ++ misleading ++ opened) → RowRight (getD (known ++ misleading ++ opened) i P1)
 unfolding all-right start final counted from to low high
-known-hold = all-hold (known ++ misleading) refl
+known-hold = all-hold (known ++ misleading ++ opened) refl
 
 -- ---- the walks that 01 prints for P1
 
 -- no walk of P1 is endless, so each of its routes visits no state twice
 P1-different : (s : ℕ) (ts : List ℕ) → Route (P1 .plan) s ts → Different (visits (P1 .plan) s ts)
-P1-different s ts r = route-simple (P1 .plan) (known-hold 0 (lit< tt) GreatestDelay .1) s ts r
+P1-different s ts r = route-simple (P1 .plan) (λ e. known-hold 0 (lit< tt) GreatestDelay .1 (inl e)) s ts r
 
 takes : (s t : ℕ) → T (ltb t (count (P1 .plan))) → from (P1 .plan) t ≡ s → Departs (P1 .plan) s t
 takes s t l e = record { listed = lit< l; source = e }
@@ -157,3 +158,20 @@ no-answer = known-hold 10 (lit< tt) GreatestDelay
 -- "Counting neither the first nor the last state": 0, or 1 with one of the two
 pub both-ends-count : IsFigure LeastCount (counted-ends .plan) (number 2)
 both-ends-count = known-hold 11 (lit< tt) LeastCount
+
+-- ---- "A high of 2,047 shall mean no limit" (document 02, E2)
+
+-- the greatest delay is ENDLESS, and the greatest count of the same plan is not
+pub delay-alone : IsFigure GreatestDelay (open-reached .plan) ENDLESS × IsFigure GreatestCount (open-reached .plan) (number 1)
+delay-alone = (known-hold 12 (lit< tt) GreatestDelay, known-hold 12 (lit< tt) GreatestCount)
+
+-- nor where no start reaches it, nor out of a final state
+pub unreached-open : IsFigure GreatestDelay (open-unreached .plan) (number 3)
+unreached-open = known-hold 13 (lit< tt) GreatestDelay
+
+pub answered-open : IsFigure GreatestDelay (open-answered .plan) (number 2)
+answered-open = known-hold 14 (lit< tt) GreatestDelay
+
+-- one plan with both: ENDLESS comes first for the delay, and the count is STRANDED
+pub open-first : IsFigure GreatestDelay (open-and-stranded .plan) ENDLESS × IsFigure GreatestCount (open-and-stranded .plan) STRANDED
+open-first = (known-hold 16 (lit< tt) GreatestDelay, known-hold 16 (lit< tt) GreatestCount)

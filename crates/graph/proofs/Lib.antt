@@ -11,8 +11,9 @@ pub mod Simple
 pub mod Endless
 pub mod Cost
 -- Figures: the computed lists hold just the walks; smallest and largest by one argument; the least and the greatest
--- figure; their bounds.
+-- figure; their bounds. Between them walks that take an open transition.
 pub mod Listed
+pub mod Open
 pub mod Extreme
 pub mod Least
 pub mod Greatest

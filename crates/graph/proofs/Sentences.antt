@@ -5,19 +5,22 @@
 -- and so are the other walks (`in-words`). What is shown of a number is that number. And no figure is right for both P2
 -- and P3, and no number for both P1 and P2. Assumes nothing.
 use Prim.Native.Nat.{ℕ, _<_}
-use mathlib.Core.Path.{_≡_, sym, _∙_}
-use mathlib.Core.Logic.{_↔_}
-use mathlib.Core.Bool.{Bool}
-use mathlib.Core.List.{List, []}
+use mathlib.Core.Path.{_≡_, refl, sym, _∙_}
+use mathlib.Core.Logic.{_↔_, inl, inr}
+use mathlib.Core.Bool.{Bool, false}
+use mathlib.Core.List.{List, [], _∷_, _++_}
+use native.Mathlib.Omega.{arith}
 use lib.ListN.{length}
-use Rattle.graph.specs.Graph.{Graph, low, high, Final, Unfinished, DeadEnd}
+use Rattle.graph.specs.declared.Duration.the-variants.{Seconds}
+use Rattle.graph.specs.Graph.{Graph, count, low, high, Departs, Final, Unfinished, DeadEnd}
 use Rattle.graph.specs.Walk.{Begins, WalkTo, FromStart, Walk, UnfinishedWalk, EndlessWalk, visits, arrival}
-use Rattle.graph.specs.Route.{Route, StrandedWalk, Cost, lows, highs, counts, delay, number-on}
-use Rattle.graph.specs.Figure.{number, STRANDED, Shown}
+use Rattle.graph.specs.Route.{Route, StrandedWalk, Cost, lows, highs, counts, delay, number-on, HasEndlessWalk, HasOpenWalk, GoesOnForever}
+use Rattle.graph.specs.Figure.{number, STRANDED, ENDLESS, IsGreatest, Shown}
 use Rattle.graph.proofs.Repeat.{nth}
 use Rattle.graph.proofs.Walks.{passed, stopped, plain, walk-of}
 use Rattle.graph.proofs.Endless.{run, run-walk, endless-of}
 use Rattle.graph.proofs.Cost.{delay-is, count-is}
+use Rattle.graph.proofs.Open.{none-open, open-high, highs-of}
 
 module _ (g : Graph) where
   -- "A start that is final is a route of no transitions."
@@ -68,13 +71,35 @@ module _ (g : Graph) where
   -- the number shown is the sum over the walk shown, "of its lows for a least figure, and of its highs for a greatest
   -- one" ..
   pub shown-lows : (k : ℕ) (ts : List ℕ) (j : ℕ) → Shown g (lows g) (number k) ts j → delay (low g) ts ≡ k
-  shown-lows k ts j (s, r, q, d, z) = sym (delay-is g (low g) s ts) ∙ q
+  shown-lows k ts j (s, r, q, d, z) = sym (delay-is g (λ t. Seconds (low g t)) s ts) ∙ q
 
-  pub shown-highs : (k : ℕ) (ts : List ℕ) (j : ℕ) → Shown g (highs g) (number k) ts j → delay (high g) ts ≡ k
-  shown-highs k ts j (s, r, q, d, z) = sym (delay-is g (high g) s ts) ∙ q
+  pub shown-highs : (k : ℕ) (ts : List ℕ) (j : ℕ) → IsGreatest g (highs g) (number k) → Shown g (highs g) (number k) ts j → delay (high g) ts ≡ k
+  shown-highs k ts j u (s, r, q, d, z) = sym (highs-of g (λ w. u .1 (inr w)) s ts r) ∙ q
 
   -- .. or the number of counted states on it, from the start where it is a route: "one that quotes a handover count which its
   -- walk lacks" shows no such walk
   pub shown-count : (p : ℕ → Bool) (k : ℕ) (ts : List ℕ) (j : ℕ) → Shown g (counts g p) (number k) ts j
       → (s : ℕ) × Route g s ts × (number-on g p s ts ≡ k)
   shown-count p k ts j (s, r, q, d, z) = (s, r, sym (count-is g p (Unfinished g) (Final g) s ts (r .1)) ∙ q)
+
+  -- "an unfinished walk from a start can take a transition with an open high": a high of 2,047
+  pub open-is : HasOpenWalk g (highs g)
+      ↔ ((s : ℕ) × (ts : List ℕ) × (t : ℕ) × UnfinishedWalk g s ts × Departs g (arrival g s ts) t × (high g t ≡ 2047))
+  open-is = (
+    λ (s, ts, (b, w)). (s, w .before, w .last, (b, w .unfinished), w .departs, open-high (high g (w .last)) .0 (w .unlimited)),
+    λ (s, ts, t, (b, w), d, e).
+        (s, ts ++ (t ∷ []), (b, record { before = ts; last = t; ends-with = refl; unfinished = w; departs = d; unlimited = open-high (high g t) .1 e })),
+  )
+
+  -- "Both counts and the least delay pay no heed to it": where nothing is open, a call goes on forever by an endless walk alone, and a loop is shown
+  pub no-heed : (c : Cost) → ((t : ℕ) → t < count g → c .unlimited t ≡ false) → GoesOnForever g c → HasEndlessWalk g
+  no-heed c none (inl e) = e
+  no-heed c none (inr w) = absurd (none-open g c none w)
+
+  pub counts-no-heed : (p : ℕ → Bool) → GoesOnForever g (counts g p) ↔ HasEndlessWalk g
+  counts-no-heed p = (no-heed (counts g p) (λ t l. refl), inl)
+
+  -- "A walk shown for that ends with the transition, j equals k"; a loop's has j below k, so j tells which of the two is shown
+  pub open-told : (ts : List ℕ) (j : ℕ) → Shown g (highs g) ENDLESS ts j → j ≡ length ts → HasOpenWalk g (highs g)
+  open-told ts j (inl (s, w, l, q, d)) e = absurd (omega arith)
+  open-told ts j (inr (s, w, q, d)) e = (s, ts, w)

@@ -1,6 +1,6 @@
 -- What a test says: of one value, of two tests together, and of the numbers below n.
 --
--- A test says yes or no (`decided`). A search for a number below n that a test accepts finds one exactly if there is
+-- A test says yes or no (`decided`), and one that says yes exactly when something holds tells that it does not (`refuted`). A search for a number below n that a test accepts finds one exactly if there is
 -- one, by recursion on n (`any-of`, `in-any`); so if it finds none, the test says no of each (`none-of`). Assumes
 -- nothing.
 use Prim.Native.Nat.{ℕ, zero, suc, _<_}
@@ -28,6 +28,14 @@ or-right false b h = h
 pub or-left : (a b : Bool) → a ≡ true → (a || b) ≡ true
 or-left true b h = refl
 or-left false b h = absurd (false≢true h)
+
+-- a test says yes exactly when A holds
+pub record Tests (b : Bool) (A : Type 0) : Type 0 where
+  pub sound : b ≡ true → A
+  pub complete : A → b ≡ true
+
+pub refuted : {b : Bool} {A : Type 0} → Tests b A → b ≡ false → A → ⊥
+refuted t e a = false≢true (sym e ∙ t .complete a)
 
 -- ---- the numbers below n
 

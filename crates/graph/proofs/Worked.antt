@@ -3,11 +3,12 @@
 --
 -- P1 for numbers: the values are the least and the greatest delay from each state to an answer. The rank of a state is
 -- the number of transitions that may follow at most. What is asked of a transition is asked of P1's four (`P1-cases`).
--- P3 for NONE, where only the final state has a value; P4 for ENDLESS, with its loop on the stack; and for STRANDED the
--- plan with a dead end beside its answer, whose tree has the start and the dead end. Assumes nothing.
+-- P3 for NONE, where only the final state has a value; P4 for ENDLESS, with its loop on the stack; for STRANDED the
+-- plan with a dead end beside its answer, whose tree has the start and the dead end; and for ENDLESS by an open transition
+-- the plan that reaches one. Assumes nothing.
 use Prim.Native.Nat.{ℕ, zero, suc, _+_, _≤_, _<_}
 use mathlib.Core.Path.{_≡_, refl, sym, subst}
-use mathlib.Core.Bool.{true≢false, false≢true}
+use mathlib.Core.Bool.{false, true≢false, false≢true}
 use mathlib.Core.Logic.{_⊎_, inl, inr}
 use mathlib.Core.List.{[], _∷_}
 use native.Mathlib.Nat.{not-suc-le-zero, le-refl}
@@ -17,11 +18,12 @@ use Rattle.graph.specs.Graph.{Graph, start, final, from, to, low, high, 
 use Rattle.graph.specs.Walk.{Begins}
 use Rattle.graph.specs.Route.{Cost, lows, highs}
 use Rattle.graph.specs.Figure.{number, NONE, STRANDED, ENDLESS, IsLeast, IsGreatest}
-use Rattle.graph.specs.Known.{P1, P3, P4, reached-dead-end}
+use Rattle.graph.specs.Known.{P1, P3, P4, reached-dead-end, open-reached}
 use Rattle.graph.proofs.Repeat.{nth}
 use Rattle.graph.proofs.Build.{StepAt}
 use Rattle.graph.proofs.Certificate.{LeastValues, GreatestValues, FallingRank, Choice, Choices, least-number, least-none}
 use Rattle.graph.proofs.Certificate.{greatest-number, endless-by-places, greatest-endless, FoundBy, Tree, tree-stranded, greatest-stranded}
+use Rattle.graph.proofs.Certificate.{Limited, tree-open}
 
 abbrev g : Graph
 g = P1 .plan
@@ -86,11 +88,15 @@ falling = record {
       s t d u;
 }
 
+limited : Limited g Reached (highs g)
+unfolding high
+limited s t i d = P1-cases (λ s t. highs g .unlimited t ≡ false) refl refl refl refl s t d
+
 greatest-over : GreatestValues g (highs g) Reached greatest
 unfolding to high
 greatest-over = record {
   at-final = λ s f. omega arith;
-  over = λ s t i d. P1-cases (λ s t. high g t + greatest (to g t) ≤ greatest s)
+  over = λ s t i d. P1-cases (λ s t. highs g .step t + greatest (to g t) ≤ greatest s)
       (omega arith) (omega arith) (omega arith) (omega arith) s t d;
 }
 
@@ -107,7 +113,7 @@ greatest-choices = record { at-final = λ s f. rw (final-3 s f) refl; choice = c
 pub P1-greatest-certified : IsGreatest g (highs g) (number 60)
 unfolding start final
 P1-greatest-certified =
-    greatest-number g (highs g) Reached greatest rank falling greatest-over greatest-choices 0 refl
+    greatest-number g (highs g) Reached greatest rank falling limited greatest-over greatest-choices 0 refl
     (λ x b. rw (start-0 x b) (omega arith)) unfinished
   where
     unfinished : (x : ℕ) → x < 3 → Unfinished g x
@@ -163,7 +169,7 @@ pub P4-endless-certified : (c : Cost) → IsGreatest (P4 .plan) c ENDLESS
 unfolding start final from to
 P4-endless-certified c =
     greatest-endless (P4 .plan) c (0 ∷ []) 0
-    (endless-by-places (P4 .plan) c (λ i. 0) (0 ∷ []) refl at 0 (lit< tt) refl (λ i j l h e. omega arith))
+    (inl (endless-by-places (P4 .plan) (λ i. 0) (0 ∷ []) refl at 0 (lit< tt) refl (λ i j l h e. omega arith)))
   where
     at : (i : ℕ) → i < 1 → StepAt (P4 .plan) (Unfinished (P4 .plan)) (Unfinished (P4 .plan)) (λ i. 0) (0 ∷ []) i
     at zero h = record { passes = refl; departs = record { listed = lit< tt; source = refl }; arrives = refl }
@@ -209,13 +215,39 @@ falling-there = record { begins = begins; onward = onward }
     onward s (suc zero) i d u = (inr refl, rw (sym (d .source)) (lit< tt))
     onward s (suc (suc t)) i d u = absurd (omega (arith, d .listed))
 
-pub stranded-certified : (c : Cost) → IsGreatest stuck c STRANDED
+pub stranded-certified : (c : Cost) → ((t : ℕ) → c .unlimited t ≡ false) → IsGreatest stuck c STRANDED
 unfolding from
-stranded-certified c =
+stranded-certified c none =
     let (ts, shown) = tree-stranded stuck FoundThere (λ s. s) found c 2 (inr refl) none-departs in
-    greatest-stranded stuck c FoundThere rank-there falling-there ts 0 shown
+    greatest-stranded stuck c FoundThere rank-there falling-there (λ s t i d. none t) ts 0 shown
   where
     none-departs : (t : ℕ) → Departs stuck 2 t → ⊥
     none-departs zero d = omega (arith, d .source)
     none-departs (suc zero) d = omega (arith, d .source)
     none-departs (suc (suc t)) d = omega (arith, d .listed)
+
+-- ---- an open transition reached: 0→1, and 1→2 without limit
+
+abbrev ringing : Graph
+ringing = open-reached .plan
+
+-- the states found, in this order: 0, a start, and 1, by transition 0
+found-ringing : Tree ringing (λ s. s < 2) (λ s. s)
+unfolding start final from to
+found-ringing = record { unfinished = unfinished; origin = origin }
+  where
+    unfinished : (s : ℕ) → s < 2 → Unfinished ringing s
+    unfinished zero i = refl
+    unfinished (suc zero) i = refl
+    unfinished (suc (suc s)) i = absurd (omega arith)
+
+    origin : (s : ℕ) → s < 2 → Begins ringing s ⊎ FoundBy ringing (λ s. s < 2) (λ s. s) s
+    origin zero i = inl refl
+    origin (suc zero) i = inr (record { via = 0; listed = lit< tt; arrives = refl; inside = lit< tt; earlier = lit< tt })
+    origin (suc (suc s)) i = absurd (omega arith)
+
+pub open-certified : IsGreatest ringing (highs ringing) ENDLESS
+unfolding from high
+open-certified =
+    let (ts, shown) = tree-open ringing (λ s. s < 2) (λ s. s) found-ringing (highs ringing) 1 1 (lit< tt) (record { listed = lit< tt; source = refl }) refl in
+    greatest-endless ringing (highs ringing) ts _ shown

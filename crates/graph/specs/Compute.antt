@@ -80,7 +80,12 @@ abbrev pub extreme : (ℕ → ℕ → ℕ) → List ℕ → Figure
 extreme pick [] = NONE
 extreme pick (x ∷ xs) = number (fold pick x xs)
 
--- is a state marked start; is there an endless walk; is there one to a dead end
+-- does an open transition leave s, which is unfinished
+unfoldable pub ringing : Graph → Cost → ℕ → Bool
+unfolding any
+ringing g c s = not (final g s) && any (λ t. eqb (from g t) s && c .unlimited t) (count g)
+
+-- is a state marked start; is there an endless walk, one that takes an open transition, one to a dead end
 unfoldable pub anyStart : Graph → Bool
 unfolding any
 anyStart g = any (start g) (states g)
@@ -88,6 +93,10 @@ anyStart g = any (start g) (states g)
 unfoldable pub anyEndless : Graph → Bool
 unfolding begun
 anyEndless g = nonempty (begun g (λ s. not (final g s)) (states g))
+
+unfoldable pub anyOpen : Graph → Cost → Bool
+unfolding within ringing
+anyOpen g c = nonempty (within g (ringing g c))
 
 unfoldable pub anyStranded : Graph → Bool
 unfolding within deadEnd
@@ -100,8 +109,8 @@ least g c = extreme min (costs g c)
 
 -- "first that applies"
 unfoldable pub greatest : Graph → Cost → Figure
-unfolding anyStart anyEndless anyStranded costs
-greatest g c = cond (not (anyStart g)) NONE (cond (anyEndless g) ENDLESS (cond (anyStranded g) STRANDED (extreme max (costs g c))))
+unfolding anyStart anyEndless anyOpen anyStranded costs
+greatest g c = cond (not (anyStart g)) NONE (cond (anyEndless g || anyOpen g c) ENDLESS (cond (anyStranded g) STRANDED (extreme max (costs g c))))
 
 -- each of the four figures
 unfoldable pub figureFor : Which → Graph → Figure

@@ -4,12 +4,13 @@ use Prim.Native.Nat.{ℕ, _≤_, _<_}
 use mathlib.Core.Path.{_≡_}
 use mathlib.Core.Bool.{true}
 use mathlib.Core.List.{List}
+use mathlib.Core.Logic.{_⊎_}
 use lib.ListN.{length, take}
 use Rattle.graph.specs.declared.Which.{Which}
 use Rattle.graph.specs.declared.Which.the-variants.{LeastDelay, GreatestDelay, LeastCount, GreatestCount}
 use Rattle.graph.specs.Graph.{Graph, start, counted}
 use Rattle.graph.specs.Walk.{visits, arrival, UnfinishedWalk, Different}
-use Rattle.graph.specs.Route.{Route, StrandedWalk, GoesOnForever, EndsUnanswered, Cost, total, lows, highs}
+use Rattle.graph.specs.Route.{Route, StrandedWalk, OpenWalk, GoesOnForever, EndsUnanswered, Cost, total, lows, highs}
 use Rattle.graph.specs.Route.{counts}
 
 -- "its number or kind"
@@ -60,12 +61,13 @@ abbrev pub NoStart : Graph → Type 0
 NoStart g = (s : ℕ) → start g s ≡ true → ⊥
 
 -- "first that applies: NONE if no state is marked start; ENDLESS if an endless walk of unfinished states exists;
--- STRANDED if a walk of unfinished states ends in a dead end; else the largest .. over all routes"
+-- STRANDED if a walk of unfinished states ends in a dead end; else the largest .. over all routes". "Greatest delay is then ENDLESS also when an
+-- unfinished walk from a start can take a transition with an open high." (E2)
 abbrev pub IsGreatest : Graph → Cost → Figure → Type 0
 IsGreatest g c NONE = NoStart g
-IsGreatest g c ENDLESS = (NoStart g → ⊥) × GoesOnForever g
-IsGreatest g c STRANDED = (NoStart g → ⊥) × (GoesOnForever g → ⊥) × EndsUnanswered g
-IsGreatest g c (number k) = (NoStart g → ⊥) × (GoesOnForever g → ⊥) × (EndsUnanswered g → ⊥) × Largest g c k
+IsGreatest g c ENDLESS = (NoStart g → ⊥) × GoesOnForever g c
+IsGreatest g c STRANDED = (NoStart g → ⊥) × (GoesOnForever g c → ⊥) × EndsUnanswered g
+IsGreatest g c (number k) = (NoStart g → ⊥) × (GoesOnForever g c → ⊥) × (EndsUnanswered g → ⊥) × Largest g c k
 
 -- ---- the four figures: least delay, greatest delay, least count, greatest count
 
@@ -83,14 +85,25 @@ IsFigure GreatestDelay g = IsGreatest g (costFor GreatestDelay g)
 IsFigure LeastCount g = IsLeast g (costFor LeastCount g)
 IsFigure GreatestCount g = IsGreatest g (costFor GreatestCount g)
 
--- the most that its number can be, of a plan within the limits: 511 transitions of 2,047 seconds, and 512 counted states (proofs/Bound.antt)
+-- the most that its number can be, of a plan within the limits: 511 transitions of 2,047 seconds, of 2,046 for a greatest delay since a high of 2,047 is no
+-- number, and 512 counted states (proofs/Bound.antt)
 abbrev pub most : Which → ℕ
 most LeastDelay = 1046017
-most GreatestDelay = 1046017
+most GreatestDelay = 1045506
 most LeastCount = 512
 most GreatestCount = 512
 
 -- ---- what is shown
+
+-- "For ENDLESS: an unfinished walk and a place j below k, where the state after k transitions is the state after j, and
+-- the first k states differ."
+abbrev pub LoopShown : Graph → List ℕ → ℕ → Type 0
+LoopShown g ts j =
+    (s : ℕ) × UnfinishedWalk g s ts × (j < length ts) × (arrival g s ts ≡ arrival g s (take j ts)) × Different (take (length ts) (visits g s ts))
+
+-- "A walk shown for that ends with the transition, j equals k, and its first k states still differ." (E2)
+abbrev pub OpenShown : Graph → Cost → List ℕ → ℕ → Type 0
+OpenShown g c ts j = (s : ℕ) × OpenWalk g c s ts × (j ≡ length ts) × Different (take (length ts) (visits g s ts))
 
 -- the walk of transition numbers ts, k of them, with the place j, is as 01 asks for the figure. "Only ENDLESS has a j":
 -- beside any other kind it is 0. "Which of several such walks is shown is left free."
@@ -99,10 +112,7 @@ abbrev pub Shown : Graph → Cost → Figure → List ℕ → ℕ → Type 0
 Shown g c (number k) ts j = (s : ℕ) × Route g s ts × (total g c s ts ≡ k) × Different (visits g s ts) × (j ≡ 0)
 -- "For STRANDED: an unfinished walk to a dead end, no state twice."
 Shown g c STRANDED ts j = (s : ℕ) × StrandedWalk g s ts × Different (visits g s ts) × (j ≡ 0)
--- "For ENDLESS: an unfinished walk and a place j below k, where the state after k transitions is the state after j, and
--- the first k states differ."
-Shown g c ENDLESS ts j =
-    (s : ℕ) × UnfinishedWalk g s ts × (j < length ts) × (arrival g s ts ≡ arrival g s (take j ts))
-    × Different (take (length ts) (visits g s ts))
+-- for ENDLESS, a loop or an open transition
+Shown g c ENDLESS ts j = LoopShown g ts j ⊎ OpenShown g c ts j
 -- "For NONE: k is 0."
 Shown g c NONE ts j = (length ts ≡ 0) × (j ≡ 0)

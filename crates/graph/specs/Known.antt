@@ -87,3 +87,36 @@ counted-ends = row (5 ∷ 3 ∷ []) (join 0 1 1 1 ∷ []) (number 1) (number 1) 
 
 abbrev pub misleading : List Row
 misleading = unreached-dead-end ∷ reached-dead-end ∷ counted-ends ∷ []
+
+-- ---- "A high of 2,047 shall mean no limit" (document 02, E2): seven rows of our own
+
+-- an open transition that is reached: the greatest delay is ENDLESS, the greatest count a number
+abbrev pub open-reached : Row
+open-reached = row (4 ∷ 1 ∷ 2 ∷ []) (join 0 1 1 1 ∷ join 1 2 1 2047 ∷ []) (number 2) ENDLESS (number 1) (number 1)
+
+-- one that no start reaches
+abbrev pub open-unreached : Row
+open-unreached = row (4 ∷ 2 ∷ 0 ∷ []) (join 0 1 2 3 ∷ join 2 1 1 2047 ∷ []) (number 2) (number 3) (number 0) (number 0)
+
+-- one out of a final state
+abbrev pub open-answered : Row
+open-answered = row (4 ∷ 2 ∷ 0 ∷ []) (join 0 1 1 2 ∷ join 1 2 5 2047 ∷ []) (number 1) (number 2) (number 0) (number 0)
+
+-- one whose walk is k = 1 into a final state; its low of 2,047 is 2,047 seconds
+abbrev pub open-at-once : Row
+open-at-once = row (4 ∷ 2 ∷ []) (join 0 1 2047 2047 ∷ []) (number 2047) ENDLESS (number 0) (number 0)
+
+-- an open high beside a dead end: ENDLESS and STRANDED for the two greatest figures
+abbrev pub open-and-stranded : Row
+open-and-stranded = row (4 ∷ 2 ∷ 0 ∷ []) (join 0 1 1 2047 ∷ join 0 2 1 1 ∷ []) (number 1) ENDLESS (number 0) STRANDED
+
+-- an open high whose low is small
+abbrev pub open-from-small : Row
+open-from-small = row (4 ∷ 2 ∷ []) (join 0 1 3 2047 ∷ join 0 1 5 9 ∷ []) (number 3) ENDLESS (number 0) (number 0)
+
+-- one second less is a number
+abbrev pub all-but-open : Row
+all-but-open = row (4 ∷ 2 ∷ []) (join 0 1 0 2046 ∷ []) (number 0) (number 2046) (number 0) (number 0)
+
+abbrev pub opened : List Row
+opened = open-reached ∷ open-unreached ∷ open-answered ∷ open-at-once ∷ open-and-stranded ∷ open-from-small ∷ all-but-open ∷ []

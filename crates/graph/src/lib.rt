@@ -1,4 +1,5 @@
-// State graphs, walks, routes and figures. This crate has no code but a name for each figure: all else is definitions, in specs/, and theorems, in proofs/.
+// State graphs, walks, routes and figures. This crate has no code but a name for each figure and the two cases of a duration: all else is definitions, in specs/, and
+// theorems, in proofs/.
 
 // The four figures, in the record's order.
 pub enum Which {
@@ -6,4 +7,10 @@ pub enum Which {
     GreatestDelay,
     LeastCount,
     GreatestCount,
+}
+
+// "a duration taken from a plan is either a number or open" (document 02, E2)
+pub enum Duration {
+    Seconds(u16),
+    Open,
 }

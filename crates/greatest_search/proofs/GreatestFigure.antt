@@ -1,9 +1,10 @@
 -- From what the search left behind to the greatest figure, where it is no number (values' `best-quoted` has the numbers).
 --
 -- 1. A loop: the states on the stack are the first states of a walk, whose last transition leads back to one of them (`loop-shown`).
--- 2. A rank that falls, from all starts (values' `falling`): no walk goes on forever. Up the tree the rank rises (`rising`), so a dead end that was entered
---    has a walk from a start, down the tree (`dead-end-shown`).
+-- 2. A rank that falls, from all starts (values' `falling`): no walk goes on forever. Up the tree the rank rises (`rising`), so a state that was entered
+--    has a walk from a start, down the tree (`walked-down`), which shows a dead end (`dead-end-shown`).
 -- Assumes nothing.
+use mathlib.Core.Bool.{false}
 use mathlib.Core.List.{List}
 use mathlib.Core.Logic.{_⊎_, inl, inr, ⊎-elim}
 use mathlib.Core.Path.{_≡_, refl, sym, ap, _∙_}
@@ -13,12 +14,13 @@ use native.Mathlib.Omega.{arith}
 use lib.ListN.{length, take, drop}
 use lib.Seq.{length-take-le, getD-take}
 use Rattle.graph.specs.Graph.{Graph, to, Unfinished, DeadEnd}
-use Rattle.graph.specs.Walk.{Begins}
-use Rattle.graph.specs.Route.{StrandedFrom, Cost}
-use Rattle.graph.specs.Figure.{NONE, STRANDED, ENDLESS, IsGreatest, Shown}
+use Rattle.graph.specs.Walk.{Begins, visits, arrival, UnfinishedFrom, UnfinishedWalk, Different}
+use Rattle.graph.specs.Route.{Cost}
+use Rattle.graph.specs.Figure.{NONE, STRANDED, ENDLESS, IsGreatest, LoopShown, Shown}
 use Rattle.graph.proofs.Build.{StepAt}
 use Rattle.graph.proofs.Certificate.{greatest-endless, endless-by-places, greatest-stranded}
 use Rattle.graph.proofs.Repeat.{nth, Apart}
+use Rattle.graph.proofs.Walks.{with-last}
 use Rattle.search.specs.Arrays.{Arrays, at, StartIn, Leaves, Bounded, StandsIn}
 use Rattle.search.specs.Chain.{none}
 use Rattle.turns.specs.Search.{Table, Loop, Rooted}
@@ -31,7 +33,14 @@ use Rattle.reach.proofs.Hunting.{onward-lower}
 use Rattle.values.proofs.BestFigure.{falling}
 use Rattle.tree.proofs.Climbing.{climbed-along, climbed-steps}
 use Rattle.search.proofs.Held.{held-final, held-start, begins-in, departs, leaves, dead-end, held-walk}
-use Rattle.search.proofs.Held.{held-different}
+use Rattle.search.proofs.Held.{held-arrival, held-different}
+
+-- a walk of unfinished states from a start to s that visits no state twice
+pub record WalkDown (g : Graph) (s : ℕ) (ts : List ℕ) : Type 0 where
+  pub first : ℕ
+  pub walk : UnfinishedWalk g first ts
+  pub arrives : arrival g first ts ≡ s
+  pub different : Different (visits g first ts)
 
 module _ (A : Arrays) (bounded : Bounded A) (a : Table) where
   -- ---- 1
@@ -50,9 +59,9 @@ module _ (A : Arrays) (bounded : Bounded A) (a : Table) where
     last zero e = absurd (omega (arith, l .below))
     last (suc i) e = back i e
 
-    module _ (g : Graph) (held : StandsIn A g) (c : Cost) where
-      pub loop-shown : d ≤ length walk → Shown g c ENDLESS (take d walk) j
-      loop-shown room = endless-by-places g c (along (A .to) (at (a .stack) 0) walk) (take d walk) begins steps j (rw long (l .below)) same apart
+    module _ (g : Graph) (held : StandsIn A g) where
+      pub loop-shown : d ≤ length walk → LoopShown g (take d walk) j
+      loop-shown room = endless-by-places g (along (A .to) (at (a .stack) 0) walk) (take d walk) begins steps j (rw long (l .below)) same apart
         where
           long : length (take d walk) ≡ d
           long = length-take-le d walk room
@@ -99,11 +108,11 @@ module _ (A : Arrays) (bounded : Bounded A) (a : Table) where
             let f = onward-lower r y (at (a .via) s) b q (record { listed = l; source = refl }) (rw e (r .unfinished s h p)) in
             inr (l, b, rw e at (f .1))
 
-    module _ (g : Graph) (held : StandsIn A g) where
-      pub dead-end-shown : (c : Cost) (s k : ℕ) (before after : List ℕ) → k ≤ length after → DeadEndAt A (a .rank) s
-          → Climbs (A .n) (A .m) (A .from) (a .rank) (a .via) s k → Climbed (A .from) (a .via) s k before after → Shown g c STRANDED (take k after) 0
-      dead-end-shown c s k before after room (h, p, none) climbs climbed =
-          (top, (begins, walk), held-different held bounded top after k room steps, refl)
+    module _ (g : Graph) (held : StandsIn A g) (s k : ℕ) (before after : List ℕ) (room : k ≤ length after) (h : s < A .n) (p : 0 < at (a .rank) s)
+        (climbs : Climbs (A .n) (A .m) (A .from) (a .rank) (a .via) s k) (climbed : Climbed (A .from) (a .via) s k before after) where
+      -- the walk down the tree to a state that was entered: from a start, through unfinished states, none twice
+      pub walked-down : WalkDown g s (take k after)
+      walked-down = record { first = top; walk = (begins, walk); arrives = held-arrival held bounded top after k room steps ∙ end; different = held-different held bounded top after k room steps }
         where
           top : ℕ
           top = up (A .from) (a .via) s k
@@ -117,10 +126,10 @@ module _ (A : Arrays) (bounded : Bounded A) (a : Table) where
           end : along (A .to) (up (A .from) (a .via) s k) after k ≡ s
           end = climbed-along A (a .rank) (a .via) s k before after climbs climbed arrives (r .unfinished) k 0 (omega arith)
 
-          walk : StrandedFrom g (up (A .from) (a .via) s k) (take k after)
+          walk : UnfinishedFrom g (up (A .from) (a .via) s k) (take k after)
           walk =
-              held-walk held bounded (up (A .from) (a .via) s k) after k room steps (DeadEnd g)
-              (rw end (dead-end held s h (r .unfinished s h p) none))
+              held-walk held bounded (up (A .from) (a .via) s k) after k room steps (Unfinished g)
+              (rw end (held-final held s h ∙ r .unfinished s h p))
 
           begins : Begins g (up (A .from) (a .via) s k)
           begins =
@@ -128,25 +137,31 @@ module _ (A : Arrays) (bounded : Bounded A) (a : Table) where
               held-start held (up (A .from) (a .via) s k) b
               ∙ ⊎-elim (λ w. w .1) (λ w. absurd (omega (arith, bounded .count, climbs .root, w .0))) (r .origin (up (A .from) (a .via) s k) b q)
 
+      pub dead-end-shown : (c : Cost) → ((t : ℕ) → Leaves A s t → ⊥) → Shown g c STRANDED (take k after) 0
+      dead-end-shown c none =
+          let w = walked-down in
+          let end : DeadEnd g (arrival g (w .first) (take k after)) = rw (w .arrives) (dead-end held s h (r .unfinished s h p) none) in
+          (w .first, (w .walk .0, with-last g (Unfinished g) (Unfinished g) (DeadEnd g) (w .first) (take k after) (w .walk .1) end), w .different, refl)
+
 -- ---- as they are quoted
 
--- a dead end that was entered can be climbed from
-pub climbable : {A : Arrays} {a : Table} {done s : ℕ} → Bounded A → Ranked A a done → DeadEndAt A (a .rank) s → Climbable (A .n) (A .m) (A .from) (a .rank) (a .via) s
-climbable {A} {a} {done} b r (h, p, none) = record { below = h; states = b .states; count = b .count; entered = p; rising = rising A b a done r }
+-- a state that was entered can be climbed from
+pub climbable : {A : Arrays} {a : Table} {done s : ℕ} → Bounded A → Ranked A a done → s < A .n → 0 < at (a .rank) s → Climbable (A .n) (A .m) (A .from) (a .rank) (a .via) s
+climbable {A} {a} {done} b r h p = record { below = h; states = b .states; count = b .count; entered = p; rising = rising A b a done r }
 
 module _ {A : Arrays} (b : Bounded A) {a : Table} {g : Graph} (held : StandsIn A g) (c : Cost) {before after : List ℕ} (long : length after ≡ length before) (room : A .n ≤ length before) where
   pub loop-quoted : {d j : ℕ} → Loop A a d j → ((i : ℕ) → i < d → at after i ≡ at (a .cursor) (at (a .stack) i)) → drop d after ≡ drop d before
       → Quoted (IsGreatest g c) g c ENDLESS d j before after
   loop-quoted {d} {j} l written later =
-      let shown = loop-shown A b a d j l after written g held c (omega (arith, l .depth)) in
-      record { right = greatest-endless g c (take d after) j shown; shown = shown; fits = omega (arith, l .depth, held .as-many); later = later }
+      let shown = loop-shown A b a d j l after written g held (omega (arith, l .depth)) in
+      record { right = greatest-endless g c (take d after) j (inl shown); shown = inl shown; fits = omega (arith, l .depth, held .as-many); later = later }
 
-  pub dead-end-quoted : {done s k : ℕ} → Ranked A a done → DeadEndAt A (a .rank) s → Climbs (A .n) (A .m) (A .from) (a .rank) (a .via) s k → Climbed (A .from) (a .via) s k before after
+  pub dead-end-quoted : ((t : ℕ) → c .unlimited t ≡ false) → {done s k : ℕ} → Ranked A a done → DeadEndAt A (a .rank) s → Climbs (A .n) (A .m) (A .from) (a .rank) (a .via) s k → Climbed (A .from) (a .via) s k before after
       → Quoted (IsGreatest g c) g c STRANDED k 0 before after
-  dead-end-quoted {done} {s} {k} r dead way climbed =
-      let shown = dead-end-shown A b a done r g held c s k before after (omega (arith, way .fits)) dead way climbed in
+  dead-end-quoted limited {done} {s} {k} r (h, p, none) way climbed =
+      let shown = dead-end-shown A b a done r g held s k before after (omega (arith, way .fits)) h p way climbed c none in
       record {
-        right = greatest-stranded g c (λ x. (x < A .n) × (0 < at (a .rank) x)) (at (a .rank)) (falling A b a done r g held) (take k after) 0 shown;
+        right = greatest-stranded g c (λ x. (x < A .n) × (0 < at (a .rank) x)) (at (a .rank)) (falling A b a done r g held) (λ x t i d. limited t) (take k after) 0 shown;
         shown = shown;
         fits = omega (arith, way .fits, held .as-many);
         later = climbed .later;

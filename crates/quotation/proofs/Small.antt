@@ -1,7 +1,8 @@
--- The k and the j of quotes. A walk that is shown has at most as many transitions as the plan has states, and j is below their number or 0; so both
+-- The k and the j of quotes. A walk that is shown has at most as many transitions as the plan has states, and j is at most their number; so both
 -- are at most 512 (`small-quote`, `four-small`). Assumes nothing.
 use mathlib.Core.Bool.{true}
 use mathlib.Core.List.{List}
+use mathlib.Core.Logic.{⊎-elim}
 use mathlib.Core.Path.{_≡_}
 use Prim.Native.Nat.{ℕ, _≤_}
 use native.Mathlib.Omega.{arith}
@@ -20,7 +21,8 @@ small-j : (g : Graph) (c : Cost) (f : Figure) (k j : ℕ) (before after : List �
 small-j g c (number x) k j before after s = omega (arith, s .walk .4)
 small-j g c NONE k j before after s = omega (arith, s .walk .1)
 small-j g c STRANDED k j before after s = omega (arith, s .walk .3)
-small-j g c ENDLESS k j before after s = omega (arith, s .walk .2, s .number-of)
+small-j g c ENDLESS k j before after s =
+    ⊎-elim (λ w. omega (arith, w .2, s .number-of)) (λ w. omega (arith, w .2, s .number-of)) (s .walk)
 
 -- what each says is shown
 pub shows-of : (which : Which) {g : Graph} {f : Figure} {k j : ℕ} {before after : List ℕ} → says which g f k j before after

@@ -9,11 +9,13 @@ use Prim.Native.Nat.{ℕ, zero, suc, _<_}
 use mathlib.Core.Path.{_≡_, refl, sym, _∙_, ap}
 use mathlib.Core.Bool.{true, false, not, cond, _&&_, true≢false, false≢true}
 use mathlib.Core.List.{[], _∷_}
+use mathlib.Core.Logic.{inl, inr}
 use native.Mathlib.Nat.{not-suc-le-zero, le-of-suc-le-suc}
 use native.Mathlib.Omega.{arith}
 use lib.Dec.{lit<}
 use Rattle.graph.specs.declared.Which.the-variants.{LeastDelay, GreatestDelay}
 use Rattle.graph.specs.Graph.{Graph, Transition, marksOf, start, final, counted, transition, from, to, Departs, DeadEnd}
+use Rattle.graph.specs.Route.{GoesOnForever}
 use Rattle.graph.specs.Compute.{any, nonempty}
 use Rattle.graph.specs.Figure.{number, NONE, STRANDED, IsLeast, IsGreatest, costFor}
 use Rattle.graph.specs.Known.{plan, join, P1, P2, P3, P5, reached-dead-end}
@@ -160,9 +162,13 @@ pub no-final : Returns (upper alone) ∞ × IsGreatest alone (costFor GreatestDe
 unfolding any empty same N T T⁻¹ marksOf start final from to transition
 no-final = (
   (_, ends refl, refl),
-  ((λ none. none 0 refl), (λ (s, taken, (b, e)). not-suc-le-zero (e .departs 0 .listed)), (0, [], (refl, end))),
+  ((λ none. none 0 refl), finite-there, (0, [], (refl, end))),
 )
   where
+    finite-there : GoesOnForever alone (costFor GreatestDelay alone) → ⊥
+    finite-there (inl (s, taken, (b, e))) = not-suc-le-zero (e .departs 0 .listed)
+    finite-there (inr (s, ts, (b, w))) = not-suc-le-zero (w .departs .listed)
+
     end : DeadEnd alone 0
     end = record { unfinished = refl; none-departs = λ t d. not-suc-le-zero (d .listed) }
 

@@ -263,4 +263,4 @@ module _ (g : Graph) (q : TotalPlan g) (i : ℕ) (u : Returns (upper g) (finite 
   pub maxcount-returns : (k : ℕ) × Returns (maxcount g c) (finite k) × IsGreatest g (counts g c) (number k)
   maxcount-returns =
       let (k, run, y) = counted-by maximal AtLeast sided-max in
-      (k, run, largest-greatest g q i longest (counts g c) k y)
+      (k, run, largest-greatest g q i longest (counts g c) (λ t l. refl) k y)

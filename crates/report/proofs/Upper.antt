@@ -8,8 +8,8 @@
 -- start. So no walk from a start goes through more than i unfinished states: no route has more than i transitions, and
 -- no walk is endless. And the walk from the start in R, through i unfinished states, ends in a final one, or else the
 -- transition out of it would make it longer: a route of i transitions (`Longest`). No walk ends in a dead end, so what
--- is largest over all routes is the greatest figure, for any cost (`largest-greatest`); and where each transition lasts
--- 1, i is the greatest delay. Assumes nothing.
+-- is largest over all routes is the greatest figure, for any cost without open transitions (`largest-greatest`); and where
+-- each transition lasts 1, none is open and i is the greatest delay. Assumes nothing.
 use Prim.Native.Nat.{ℕ, zero, suc, _≤_, _<_}
 use mathlib.Core.Path.{_≡_, refl, sym, _∙_, ap}
 use mathlib.Core.Bool.{true, false, not, _&&_, true≢false, and-eq-true-iff}
@@ -22,13 +22,14 @@ use native.Mathlib.Omega.{arith}
 use lib.ListN.{length}
 use borrow.Author.Tests.{not-true, not-false}
 use Rattle.graph.specs.declared.Which.the-variants.{GreatestDelay}
-use Rattle.graph.specs.Graph.{Graph, states, start, final, to, Departs, Final, Unfinished}
+use Rattle.graph.specs.Graph.{Graph, states, count, start, final, to, Departs, Final, Unfinished}
 use Rattle.graph.specs.Walk.{Begins, reached, EndlessFrom}
-use Rattle.graph.specs.Route.{RouteFrom, Route, StrandedFrom, Cost, total, highs, GoesOnForever}
+use Rattle.graph.specs.Route.{RouteFrom, Route, StrandedFrom, Cost, total, highs, HasEndlessWalk}
 use Rattle.graph.specs.Figure.{number, NoStart, Largest, IsGreatest, costFor}
 use Rattle.graph.proofs.Tests.{decided}
 use Rattle.graph.proofs.Walks.{start-below}
 use Rattle.graph.proofs.Cost.{total-length}
+use Rattle.graph.proofs.Sentences.{no-heed}
 use Rattle.report.specs.Procedure.{Returns}
 use Rattle.report.specs.Sets.{_∩_, empty, same, T⁻¹}
 use Rattle.report.specs.Bounds.{Bound, finite, ∞, Vars, upper}
@@ -70,7 +71,7 @@ module _ (g : Graph) where
   -- what a value says
   abbrev pub Says : Bound → Type 0
   Says (finite k) = Longest k
-  Says ∞ = GoesOnForever g
+  Says ∞ = HasEndlessWalk g
 
 module _ (g : Graph) (q : TotalPlan g) where
   at-first : Behind g (upper g .begin)
@@ -118,7 +119,7 @@ module _ (g : Graph) (q : TotalPlan g) where
     walk zero = let (s, b′, m) = b .begun in (s, start-below g s b′, m)
     walk (suc i) = onward (walk i)
 
-    endless : GoesOnForever g
+    endless : HasEndlessWalk g
     unfolding out onward walk
     endless = (first, taken, (b .begun .1, record { departs = departs; unfinished = unfinished }))
       where
@@ -184,18 +185,19 @@ module _ (g : Graph) (q : TotalPlan g) where
   pub started : NoStart g → ⊥
   started none = none (q .started .0) (q .started .1)
 
-  -- of a number, no other kind of greatest figure applies, whatever the cost: what is largest is greatest
-  pub largest-greatest : (i : ℕ) → Longest g i → (c : Cost) (k : ℕ) → Largest g c k → IsGreatest g c (number k)
-  largest-greatest i x c k h = (
+  -- of a number, no other kind of greatest figure applies, whatever the cost without open transitions: what is largest is greatest
+  pub largest-greatest : (i : ℕ) → Longest g i → (c : Cost) → ((t : ℕ) → t < count g → c .unlimited t ≡ false) → (k : ℕ) → Largest g c k
+      → IsGreatest g c (number k)
+  largest-greatest i x c none k h = (
     started,
-    (λ (s, taken, (b, e)). x .ends s b (endless-through g s taken e (suc i) 0)),
+    (λ u. let (s, taken, (b, e)) = no-heed g c none u in x .ends s b (endless-through g s taken e (suc i) 0)),
     (λ (s, ts, w). stranded s ts (start-below g s (w .0)) (w .1)),
     h,
   )
 
 module _ (g : Graph) (q : ReportPlan g) where
   cost : (s : ℕ) (ts : List ℕ) → Route g s ts → total g (costFor GreatestDelay g) s ts ≡ length ts
-  cost s ts r = total-length g (highs g) (Unfinished g) (Final g) (q .highs-one) (λ s. refl) s ts (r .1)
+  cost s ts r = total-length g (highs g) (Unfinished g) (Final g) (λ t l. rw (q .highs-one t l)) (λ s. refl) s ts (r .1)
 
   no-longer : (i : ℕ) → Longest g i → (s : ℕ) (ts : List ℕ) → Route g s ts → length ts ≤ i
   no-longer i x s ts r = go (decLe (suc i) (length ts))
@@ -205,10 +207,10 @@ module _ (g : Graph) (q : ReportPlan g) where
       go (no h) = omega arith
 
   greatest : (b : Bound) → Says g b → IsGreatest g (costFor GreatestDelay g) (greatestFigure b)
-  greatest ∞ e = (started g (q .total), e)
+  greatest ∞ e = (started g (q .total), inl e)
   greatest (finite i) x =
       let (s, ts, r, h) = x .attained in
-      largest-greatest g (q .total) i x (costFor GreatestDelay g) i (record {
+      largest-greatest g (q .total) i x (costFor GreatestDelay g) (λ t l. rw (q .highs-one t l)) i (record {
         attained = (s, ts, r, cost s ts r ∙ h);
         bound = λ s ts r. omega (arith, cost s ts r, no-longer i x s ts r);
       })

@@ -16,7 +16,7 @@ use Rattle.aldebaran.specs.Form.{written as writtenForm, andThen, readWord, isD
 use Rattle.aldebaran.specs.Text.{Holding, firstForm, lineForm, lineText, linesText, textOf, readLines, whole, readText}
 use Rattle.graph.specs.declared.Which.the-variants.{LeastDelay}
 use Rattle.graph.specs.Figure.{Figure, NONE, costFor}
-use Rattle.graph.specs.Known.{P1, P3, P4, P6, plan, join as to-join}
+use Rattle.graph.specs.Known.{P1, P3, P4, P6, open-and-stranded, plan, join as to-join}
 use Rattle.graph.specs.Which.{some}
 use Rattle.graph.specs.Compute.{any, figureFor}
 use Rattle.graph.specs.Graph.{Graph, Transition, states, marksOf, start, final, counted, transition, from, to, low, high}
@@ -58,6 +58,11 @@ record-of-P3 = refl
 pub record-of-P4 : recordOctets (P4 .plan) ≡ 0x00 ∷ 0x00 ∷ 0x07 ∷ 0x00 ∷ 0x00 ∷ 0x00 ∷ 0x00 ∷ 0x00 ∷ 0x30 ∷ 0x00 ∷ 0x00 ∷ []
 unfolding recordOctets recordFields figureFor any marksOf start final counted transition from to low high pack octetsOf bitsOf bitsOfAll widthOfAll number
 record-of-P4 = refl
+
+-- with an open high beside a dead end: 1, ENDLESS, 0, STRANDED (document 02, E2)
+pub record-of-open : recordOctets (open-and-stranded .plan) ≡ 0x00 ∷ 0x00 ∷ 0x07 ∷ 0x00 ∷ 0x00 ∷ 0x00 ∷ 0x00 ∷ 0x00 ∷ 0x20 ∷ 0x00 ∷ 0x00 ∷ []
+unfolding recordOctets recordFields figureFor any marksOf start final counted transition from to low high pack octetsOf bitsOf bitsOfAll widthOfAll number
+record-of-open = refl
 
 -- ---- the events
 

@@ -150,15 +150,17 @@ module _ (g : Graph) (c : Cost) (f : Figure) (k j : ℕ) (before after : List �
     pub shows : Shows
 
   -- "first that applies: NONE if no state is marked start; ENDLESS if an endless walk of unfinished states exists; STRANDED if a walk of unfinished
-  -- states ends in a dead end; else the largest .. over all routes"
+  -- states ends in a dead end; else the largest .. over all routes". (02, E2) "Greatest delay is then ENDLESS also when an unfinished walk from a start can
+  -- take a transition with an open high."
   pub record GreatestQuoted : Type 0 where
     pub figure : f ≡ greatest g c
     -- (3) a greatest one exactly when there is no start."
     pub none : (f ≡ NONE) ↔ NoStart g
     -- (3) "A greatest figure is ENDLESS exactly when a telephone call can go on forever unanswered,
-    pub endless : (f ≡ ENDLESS) ↔ GoesOnForever g
+    -- by an endless walk or by an open ring (02, E2: "For the greatest delay an open ring then counts as going on forever unanswered.")
+    pub endless : (f ≡ ENDLESS) ↔ GoesOnForever g c
     -- (3) and STRANDED exactly when none can but one can end unanswered;
-    pub stranded : (f ≡ STRANDED) ↔ ((GoesOnForever g → ⊥) × EndsUnanswered g)
+    pub stranded : (f ≡ STRANDED) ↔ ((GoesOnForever g c → ⊥) × EndsUnanswered g)
     -- (3) "A figure that is a number equals the delay or count of the route shown."
     pub costs : (x : ℕ) → f ≡ number x → Costs x
     -- (3) and at most as much if it is a greatest one."

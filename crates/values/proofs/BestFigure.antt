@@ -18,7 +18,7 @@ use Rattle.graph.specs.Graph.{Graph, to, Departs, Final, Unfinished}
 use Rattle.graph.specs.Walk.{Begins}
 use Rattle.graph.specs.Route.{RouteFrom, total}
 use Rattle.graph.specs.Figure.{number, Extreme}
-use Rattle.graph.proofs.Certificate.{FallingRank, route-bound, no-endless, no-stranded}
+use Rattle.graph.proofs.Certificate.{FallingRank, route-bound, no-forever, no-stranded}
 use Rattle.search.specs.Arrays.{Arrays, at, StartIn, FinalIn, UnfinishedIn, Leaves, Bounded, StandsIn}
 use Rattle.arrays.specs.Tables.{costOf}
 use Rattle.turns.specs.Search.{Table}
@@ -133,7 +133,7 @@ module _ (A : Arrays) (bounded : Bounded A) (a : Table) (done : ℕ) (r : Ranked
             right true e = e
             right false e = (
               λ no-start. no-start best begins,
-              no-endless g Entered (at (a .rank)) (falling g held),
+              no-forever g Entered (at (a .rank)) (falling g held) (costOf weight close) (λ s t i d. refl),
               no-stranded g Entered (at (a .rank)) (falling g held) (λ s (l, p). let (t, q) = out s l p in (t, departs held q)),
               e,
             )

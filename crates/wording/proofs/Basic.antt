@@ -38,6 +38,11 @@ pub endless-line : line GreatestDelay ENDLESS (0 ∷ []) 0 ≡ octets "greatest 
 unfolding octets leading digits spaced listed nameText figureText heading addedText line
 endless-line = refl
 
+-- an open transition at the end of the walk: j equals k (document 02, E2)
+pub open-line : line GreatestDelay ENDLESS (0 ∷ 1 ∷ []) 2 ≡ octets "greatest delay ENDLESS: 0 1 @2\n"
+unfolding octets leading digits spaced listed nameText figureText heading addedText line
+open-line = refl
+
 -- P3's start alone
 pub stranded-line : line GreatestCount STRANDED [] 0 ≡ octets "greatest count STRANDED:\n"
 unfolding octets leading digits spaced listed nameText figureText heading addedText line

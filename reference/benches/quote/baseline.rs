@@ -2,7 +2,7 @@
 //!
 //! The transitions stand by state in one array. The least figures take states nearest first, with
 //! a 4-ary heap, and stop at the first final state. One depth-first search gives both greatest
-//! figures. Nothing is allocated.
+//! figures, and keeps the walk to the first open transition that it takes. Nothing is allocated.
 
 const STATES: usize = 512;
 const TRANSITIONS: usize = 2048;
@@ -15,6 +15,9 @@ const ENDLESS: u32 = 3;
 const START: u8 = 4;
 const FINAL: u8 = 2;
 const COUNTED: u8 = 1;
+
+/// The high that means no limit.
+const OPEN: u16 = 2047;
 
 /// The four walks, in the record's order.
 pub type Walks = [[u16; STATES]; 4];
@@ -197,17 +200,22 @@ impl Graph {
                 return [[ENDLESS, 0, k as u32, j as u32]; 2];
             }
         }
-        if let Some(k) = search.stranded {
-            for walk in walks {
-                walk[..k].copy_from_slice(&search.stranded_walk[..k]);
-            }
-            return [answer(STRANDED, 0, k); 2];
-        }
         let [delay_walk, count_walk] = walks;
-        [
-            self.best(is_start, &search.delays, delay_walk),
-            self.best(is_start, &search.counts, count_walk),
-        ]
+        let figure = |values, walk: &mut [u16; STATES]| match search.stranded {
+            Some(k) => {
+                walk[..k].copy_from_slice(&search.stranded_walk[..k]);
+                answer(STRANDED, 0, k)
+            }
+            None => self.best(is_start, values, walk),
+        };
+        let delay = match search.open {
+            Some(k) => {
+                delay_walk[..k].copy_from_slice(&search.open_walk[..k]);
+                [ENDLESS, 0, k as u32, k as u32]
+            }
+            None => figure(&search.delays, delay_walk),
+        };
+        [delay, figure(&search.counts, count_walk)]
     }
 
     /// The greatest value of a start, and the walk that its choices make.
@@ -322,12 +330,16 @@ struct Search<'a> {
     path: [u16; STATES],
     /// The transitions between the states of the path.
     walk: [u16; STATES],
-    /// The greatest delay and count from each state on, with the step that begins there.
+    /// The greatest delay and count from each state on, with the step that begins there. The delays
+    /// mean nothing once an open transition was taken.
     delays: [(u32, u16); STATES],
     counts: [(u32, u16); STATES],
     /// The walk to the first dead end.
     stranded: Option<usize>,
     stranded_walk: [u16; STATES],
+    /// The walk that takes the first open transition, which is its last.
+    open: Option<usize>,
+    open_walk: [u16; STATES],
 }
 
 impl Search<'_> {
@@ -348,6 +360,8 @@ impl Search<'_> {
             counts,
             stranded: None,
             stranded_walk: [0; STATES],
+            open: None,
+            open_walk: [0; STATES],
         }
     }
 
@@ -374,11 +388,15 @@ impl Search<'_> {
             self.next[state] = at + 1;
             let step = self.graph.steps[usize::from(at)];
             let to = usize::from(step.to);
+            self.walk[depth] = step.number;
+            if step.high == OPEN && self.open.is_none() {
+                self.open = Some(depth + 1);
+                self.open_walk[..=depth].copy_from_slice(&self.walk[..=depth]);
+            }
             if self.graph.is_final(to) || self.place[to] == LEFT {
                 self.update(state, at);
                 continue;
             }
-            self.walk[depth] = step.number;
             depth += 1;
             if self.place[to] != UNSEEN {
                 return Some((depth, usize::from(self.place[to])));

@@ -34,7 +34,12 @@ fn main() {
     println!("Quoting from an image: microseconds by call, in the quickest of {ROUNDS} rounds of");
     println!("{CALLS} calls, by turns, transitions in random order (seed {SEED:#x}). The chain is");
     println!("filled up with further transitions between its neighbours, the layers with further");
-    println!("ones from each to the next. Growth is from the second size to the third.");
+    println!(
+        "ones from each to the next. Open rings are those to the final state: the greatest delay"
+    );
+    println!(
+        "is ENDLESS, the greatest count a number. Growth is from the second size to the third."
+    );
     print!("{:23}", "");
     for (n, m) in SIZES {
         print!(" {:>24}", format!("{n} states, {m}"));

@@ -1,7 +1,7 @@
-//! The plans that the benchmark times: six shapes, with so many states and transitions.
+//! The plans that the benchmark times: seven shapes, with so many states and transitions.
 
 use reference::rng::Rng;
-use reference::{Plan, Transition, MAX_DURATION};
+use reference::{Plan, Transition, MAX_CLOSED_HIGH, OPEN_HIGH};
 
 pub struct Shape {
     pub name: &'static str,
@@ -9,7 +9,7 @@ pub struct Shape {
     pub plan: fn(&mut Rng, usize, usize) -> Plan,
 }
 
-pub const SHAPES: [Shape; 6] = [
+pub const SHAPES: [Shape; 7] = [
     Shape {
         name: "chain",
         plan: chain,
@@ -34,6 +34,10 @@ pub const SHAPES: [Shape; 6] = [
         name: "cheap chain, shortcuts",
         plan: shortcuts,
     },
+    Shape {
+        name: "acyclic, open rings",
+        plan: open_rings,
+    },
 ];
 
 impl Shape {
@@ -46,9 +50,10 @@ impl Shape {
     }
 }
 
+/// A transition with a closed high.
 fn step(rng: &mut Rng, from: usize, to: usize) -> Transition {
-    let one = rng.below(MAX_DURATION as usize + 1) as u32;
-    let other = rng.below(MAX_DURATION as usize + 1) as u32;
+    let one = rng.below(MAX_CLOSED_HIGH as usize + 1) as u32;
+    let other = rng.below(MAX_CLOSED_HIGH as usize + 1) as u32;
     Transition {
         from,
         to,
@@ -123,6 +128,18 @@ fn acyclic(rng: &mut Rng, n: usize, m: usize) -> Plan {
     )
 }
 
+/// The same, with open transitions to the answer: the greatest delay is ENDLESS, and the greatest count
+/// has to be worked out as ever.
+fn open_rings(rng: &mut Rng, n: usize, m: usize) -> Plan {
+    let mut plan = acyclic(rng, n, m);
+    for transition in &mut plan.transitions {
+        if transition.to == n - 1 {
+            transition.high = OPEN_HIGH;
+        }
+    }
+    plan
+}
+
 /// From each state to any.
 fn loops(rng: &mut Rng, n: usize, m: usize) -> Plan {
     let next = |rng: &mut Rng, _: usize| Some(rng.below(n));
@@ -163,7 +180,7 @@ fn shortcuts(rng: &mut Rng, n: usize, m: usize) -> Plan {
             (transition.low, transition.high) = (1, 1);
         } else {
             let length = (transition.to - transition.from) as u32;
-            let low = (2 * length + 10 * rng.below(50) as u32).min(MAX_DURATION);
+            let low = (2 * length + 10 * rng.below(50) as u32).min(MAX_CLOSED_HIGH);
             (transition.low, transition.high) = (low, low);
         }
     }

@@ -360,8 +360,8 @@ fn unjoin_at_every_place() {
     }
 }
 
-/// The version of the archive, 0.3.0.
+/// The version of the archive, 0.4.0.
 #[test]
 fn the_library_says_its_version() {
-    assert_eq!(reference::proved::version(), 300);
+    assert_eq!(reference::proved::version(), 400);
 }

@@ -19,6 +19,7 @@ fn size(rng: &mut Rng) -> (usize, usize) {
     }
 }
 
+/// A number of seconds, often at an edge: about one high in eight is 2,047, which is open, and one 2,046.
 fn duration(rng: &mut Rng) -> u32 {
     match rng.below(4) {
         0 => rng.pick(&[0, 1, 2046, 2047]),

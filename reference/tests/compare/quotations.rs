@@ -6,7 +6,9 @@ use reference::image::decode;
 use reference::kinds::Kinds;
 use reference::proved::{self, LentPlan, ACCEPTED, COUNTS, FIELDS, MARKS, OUT, SHORT_SLICE, WALKS};
 use reference::rng::{Case, Rng};
-use reference::{rounds, Plan, Refusal, Transition, Value, FIGURES, MAX_STATES, MAX_TRANSITIONS};
+use reference::{
+    rounds, Figure, Plan, Refusal, Transition, Value, FIGURES, MAX_STATES, MAX_TRANSITIONS,
+};
 
 use crate::calls::{run_list, CALLS};
 use crate::edges::{breaks, p1, random};
@@ -45,14 +47,14 @@ fn lists_of_calls_then_quotations() {
     tally.assert_covers(&CALLS);
 }
 
-/// P10, made by calls.
+/// P10, made by calls, and then its transitions open from the last one on.
 #[test]
 fn the_chain_by_calls() {
     let mut rng = Rng::of_test("the_chain_by_calls", SEED);
     let mut pair = Pair::fresh(&mut rng, MAX_STATES);
     assert_eq!(pair.run(&Call::Fresh(513)), Refusal::StateCount.number());
-    let step = |from, high| {
-        let (to, low) = (from + 1, 2047);
+    let step = |from, low, high| {
+        let to = from + 1;
         Call::Join(Transition {
             from,
             to,
@@ -60,20 +62,44 @@ fn the_chain_by_calls() {
             high,
         })
     };
+    let refused = Refusal::Duration.number();
     for from in 0..511 {
-        assert_eq!(pair.run(&step(from, 2048)), Refusal::Duration.number());
-        assert_eq!(pair.run(&step(from, 2047)), ACCEPTED);
+        assert_eq!(pair.run(&step(from, 2046, 2048)), refused);
+        assert_eq!(pair.run(&step(from, 2046, 2046)), ACCEPTED);
     }
     assert_eq!(pair.run(&Call::Mark(0, 4)), ACCEPTED);
     assert_eq!(pair.run(&Call::Mark(511, 2)), ACCEPTED);
-    let delay = Value::Number(1_046_017);
-    let values = [delay, delay, Value::Number(0), Value::Number(0)];
+    let delay = Value::Number(1_045_506);
+    let zero = Value::Number(0);
+    let values = [delay, delay, zero, zero];
     library::compare(&mut rng, pair.lent(), pair.plan(), &values);
     for (figure, value) in FIGURES.into_iter().zip(values) {
         let (mut walk, mut out) = (vec![0; 512], [0; OUT]);
         assert_eq!(pair.lent().quote(figure, &mut walk, &mut out), ACCEPTED);
         assert_eq!(out, [0, value.figure(), 511, 0]);
         assert_eq!(walk[..511], (0..511).collect::<Vec<u16>>());
+    }
+
+    // The last transition open, which all 511 show; then every one.
+    for opened in 1..=511 {
+        let from = 511 - opened;
+        assert_eq!(pair.run(&Call::Unjoin(from)), ACCEPTED);
+        assert_eq!(pair.run(&step(from, 2047, 2048)), refused);
+        assert_eq!(pair.run(&step(from, 2047, 2047)), ACCEPTED);
+        if opened == 1 {
+            let (mut walk, mut out) = (vec![0; 512], [0; OUT]);
+            let answer = pair
+                .lent()
+                .quote(Figure::GreatestDelay, &mut walk, &mut out);
+            assert_eq!(answer, ACCEPTED);
+            assert_eq!(out, [Value::Endless.kind(), 0, 511, 511]);
+            assert_eq!(walk[..511], (0..511).collect::<Vec<u16>>());
+        }
+        if opened % 100 == 11 || opened == 1 {
+            let delay = Value::Number(1_045_506 + opened as u32);
+            let values = [delay, Value::Endless, zero, zero];
+            library::compare(&mut rng, pair.lent(), pair.plan(), &values);
+        }
     }
 }
 

@@ -8,7 +8,7 @@ use crate::random::compare_shape;
 use crate::shapes::SHAPES;
 
 const SEED: u64 = 0x0000_F011;
-const PLANS: u64 = 1040;
+const PLANS: u64 = 1044;
 
 #[test]
 fn full_plans() {

@@ -1,9 +1,14 @@
-//! The plans of document 01 whose figures it gives, and the edges beside them.
+//! The plans of document 01 whose figures it gives, those of our own for E2 of document 02, and the
+//! edges beside them.
 
+use std::fs;
+use std::path::Path;
+
+use reference::check::check;
 use reference::image::{decode, encode};
 use reference::quotation::RECORD_OCTETS;
 use reference::rng::Rng;
-use reference::{text, Plan, Refusal, Transition, Value, FIGURES};
+use reference::{rounds, text, Figure, Plan, Refusal, Transition, Value, FIGURES};
 
 use crate::means::compare;
 use crate::vectors::P1;
@@ -33,8 +38,16 @@ fn plan(marks: &[u8], steps: &[(usize, usize, u32, u32)]) -> Plan {
     }
 }
 
+/// A plan with its name and its figures.
+pub type Row = (&'static str, Plan, [Value; 4]);
+
+/// All plans with known figures but the chains.
+pub fn known() -> Vec<Row> {
+    [closed(), opened()].concat()
+}
+
 /// P1 to P9, and some more that no row of them is like.
-pub fn known() -> Vec<(&'static str, Plan, [Value; 4])> {
+fn closed() -> Vec<Row> {
     let p1 = decode(&P1).unwrap();
     let p5 = Plan {
         marks: vec![0, 1, 1, 2],
@@ -97,13 +110,117 @@ pub fn known() -> Vec<(&'static str, Plan, [Value; 4])> {
     ]
 }
 
-/// 512 states in a chain, each step 2047..2047, the last final.
+/// "A high of 2,047 shall mean no limit" (document 02, E2).
+fn opened() -> Vec<Row> {
+    vec![
+        (
+            "an open transition reached",
+            open_reached(),
+            [Number(2), Endless, Number(1), Number(1)],
+        ),
+        (
+            "one that no start reaches",
+            plan(&[4, 2, 0], &[(0, 1, 2, 3), (2, 1, 1, 2047)]),
+            [Number(2), Number(3), Number(0), Number(0)],
+        ),
+        (
+            "one out of a final state",
+            plan(&[4, 2, 0], &[(0, 1, 1, 2), (1, 2, 5, 2047)]),
+            [Number(1), Number(2), Number(0), Number(0)],
+        ),
+        (
+            "one to a final state at once, with a low of 2,047",
+            plan(&[4, 2], &[(0, 1, 2047, 2047)]),
+            [Number(2047), Endless, Number(0), Number(0)],
+        ),
+        (
+            "one beside a dead end",
+            plan(&[4, 2, 0], &[(0, 1, 1, 2047), (0, 2, 1, 1)]),
+            [Number(1), Endless, Number(0), Stranded],
+        ),
+        (
+            "one to a dead end, and no route",
+            plan(&[4, 0], &[(0, 1, 1, 2047)]),
+            [None, Endless, None, Stranded],
+        ),
+        (
+            "one past a dead end's turning",
+            plan(
+                &[4, 0, 0, 2],
+                &[(0, 1, 1, 1), (0, 2, 1, 1), (2, 3, 1, 2047)],
+            ),
+            [Number(2), Endless, Number(0), Stranded],
+        ),
+        (
+            "one whose low is small",
+            plan(&[4, 2], &[(0, 1, 3, 2047), (0, 1, 5, 9)]),
+            [Number(3), Endless, Number(0), Number(0)],
+        ),
+        (
+            "a second less",
+            plan(&[4, 2], &[(0, 1, 0, 2046)]),
+            [Number(0), Number(2046), Number(0), Number(0)],
+        ),
+        (
+            "one to its own state",
+            plan(&[4, 2], &[(0, 0, 1, 2047), (0, 1, 1, 1)]),
+            [Number(1), Endless, Number(0), Endless],
+        ),
+        (
+            "one back on the walk",
+            plan(&[4, 0, 2], &[(0, 1, 1, 1), (1, 0, 1, 2047), (1, 2, 1, 1)]),
+            [Number(2), Endless, Number(0), Endless],
+        ),
+        (
+            "one beside a loop",
+            plan(&[4, 2], &[(0, 0, 1, 1), (0, 1, 1, 2047)]),
+            [Number(1), Endless, Number(0), Endless],
+        ),
+        (
+            "one to its own state, which is final",
+            plan(&[4, 3], &[(0, 1, 1, 2), (1, 1, 5, 2047)]),
+            [Number(1), Number(2), Number(1), Number(1)],
+        ),
+        (
+            "one out of a start that is final",
+            plan(&[6, 0], &[(0, 1, 1, 2047)]),
+            [Number(0), Number(0), Number(0), Number(0)],
+        ),
+        (
+            "one out of a start that is final, beside a start that is not",
+            plan(&[6, 5], &[(0, 1, 1, 2047), (1, 0, 4, 2046)]),
+            [Number(0), Number(2046), Number(0), Number(1)],
+        ),
+        (
+            "one out of the second start",
+            plan(&[4, 5, 2], &[(0, 2, 1, 1), (1, 2, 7, 2047)]),
+            [Number(1), Endless, Number(0), Number(1)],
+        ),
+        (
+            "one and no start",
+            plan(&[0, 2], &[(0, 1, 1, 2047)]),
+            [None; 4],
+        ),
+    ]
+}
+
+/// The greatest delay is ENDLESS by the walk 0 1, whose last transition is open, beside numbers.
+pub fn open_reached() -> Plan {
+    plan(&[4, 1, 2], &[(0, 1, 1, 1), (1, 2, 1, 2047)])
+}
+
+/// "P10's steps become 2046..2046": 512 states in a chain, the last final.
 pub fn p10() -> Plan {
+    chain(2046)
+}
+
+/// 512 states in a chain, the last final, each step with these seconds for its low and its high.
+pub fn chain(seconds: u32) -> Plan {
     let mut plan = Plan::fresh(512).unwrap();
     plan.mark(0, 4).unwrap();
     plan.mark(511, 2).unwrap();
     for from in 0..511 {
-        let (to, low, high) = (from + 1, 2047, 2047);
+        let (to, low, high) = (from + 1, seconds, seconds);
         plan.join(Transition {
             from,
             to,
@@ -157,6 +274,11 @@ fn lines_of_other_kinds() {
         lines(&known[1].1),
         "least delay 0:\ngreatest delay 0:\nleast count 1:\ngreatest count 1:\n"
     );
+    assert_eq!(
+        lines(&open_reached()),
+        "least delay 2: 0 1\ngreatest delay ENDLESS: 0 1 @2\n\
+         least count 1: 0 1\ngreatest count 1: 0 1\n"
+    );
     assert_eq!(text::quote(&[]), "refused 1\n");
     assert_eq!(text::quote(&P1[..27]), "refused 1\n");
     assert_eq!(text::quote(&[&P1[..], &[0]].concat()), "refused 2\n");
@@ -169,7 +291,7 @@ fn the_chain_of_512_states() {
     let values = compare(&mut rng, &plan);
     assert_eq!(
         values,
-        [Number(1_046_017), Number(1_046_017), Number(0), Number(0)]
+        [Number(1_045_506), Number(1_045_506), Number(0), Number(0)]
     );
     for figure in FIGURES {
         let quotation = plan.quote(figure, &mut [0; 512]).unwrap();
@@ -184,6 +306,22 @@ fn the_chain_of_512_states() {
     };
     assert_eq!(plan.clone().join(step(2047)), Ok(()));
     assert_eq!(plan.clone().join(step(2048)), Err(Refusal::Duration));
+}
+
+/// A chain of 2047..2047: the least delay is the greatest that there is, and the greatest ENDLESS.
+#[test]
+fn the_open_chain() {
+    let mut rng = Rng::of_test("the_open_chain", SEED);
+    let values = [Number(1_046_017), Endless, Number(0), Number(0)];
+    assert_eq!(compare(&mut rng, &chain(2047)), values);
+    // Its last transition alone open: the longest walk that shows one.
+    let mut plan = p10();
+    plan.transitions[510].high = 2047;
+    let values = [Number(1_045_506), Endless, Number(0), Number(0)];
+    assert_eq!(compare(&mut rng, &plan), values);
+    let quotation = plan.quote(Figure::GreatestDelay, &mut [0; 512]).unwrap();
+    assert_eq!(quotation.walk, (0..511).collect::<Vec<_>>());
+    assert_eq!(quotation.j, 511);
 }
 
 #[test]
@@ -202,6 +340,39 @@ fn records() {
     assert_eq!(p4.record(&mut buffer), Ok(11));
     let expected = [0x00, 0x00, 0x07, 0, 0, 0, 0, 0, 0x30, 0, 0];
     assert_eq!(buffer[..11], expected);
+
+    // Kind 3 and figure 0 for the greatest delay, between numbers: 2, 1 and 1.
+    assert_eq!(open_reached().record(&mut buffer), Ok(11));
+    let expected = [0x00, 0x00, 0x0B, 0, 0, 0, 0, 0, 0x40, 0, 0x01];
+    assert_eq!(buffer[..11], expected);
+}
+
+/// The lines stored beside the example images: the values of this calculator, and walks as asked.
+#[test]
+fn stored_lines() {
+    let folder = Path::new(env!("CARGO_MANIFEST_DIR")).join("../examples/plans");
+    let mut quoted = 0;
+    for entry in fs::read_dir(folder).unwrap() {
+        let image = entry.unwrap().path();
+        if image.extension() != Some("image".as_ref()) {
+            continue;
+        }
+        let octets = fs::read(&image).unwrap();
+        let stored = fs::read_to_string(image.with_extension("lines")).unwrap();
+        let Ok(plan) = decode(&octets) else {
+            assert_eq!(stored, text::quote(&octets), "{image:?}");
+            continue;
+        };
+        let lines: Vec<&str> = stored.split_inclusive('\n').collect();
+        assert_eq!(lines.len(), FIGURES.len(), "{image:?}");
+        for (figure, line) in FIGURES.into_iter().zip(lines) {
+            let shown = text::parse(figure, line).expect("a line of the figure");
+            assert_eq!(shown.value, rounds::quote(&plan, figure).value, "{image:?}");
+            assert_eq!(check(&plan, figure, &shown), Ok(()), "{image:?}");
+        }
+        quoted += 1;
+    }
+    assert!(quoted >= 6, "{quoted} plans");
 }
 
 #[test]

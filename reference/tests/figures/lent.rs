@@ -6,7 +6,7 @@ use reference::quotation::RECORD_OCTETS;
 use reference::rng::Rng;
 use reference::{text, Figure, Plan, Value, FIGURES, MAX_STATES};
 
-use crate::known::{known, p10, P1_LINES};
+use crate::known::{known, open_reached, p10, P1_LINES};
 use crate::library;
 use crate::vectors::P1;
 
@@ -53,7 +53,12 @@ fn the_librarys_lines() {
     assert_eq!(lines(&P1, known()[0].2), P1_LINES);
     // These show the whole chain, since there is no other route.
     let octets = encode(&p10());
-    let delay = Value::Number(1_046_017);
+    let delay = Value::Number(1_045_506);
     let values = [delay, delay, Value::Number(0), Value::Number(0)];
+    assert_eq!(lines(&octets, values), text::quote(&octets));
+    // And here no other walk takes the open transition.
+    let octets = encode(&open_reached());
+    let one = Value::Number(1);
+    let values = [Value::Number(2), Value::Endless, one, one];
     assert_eq!(lines(&octets, values), text::quote(&octets));
 }

@@ -10,12 +10,12 @@ use reference::image::{decode, encode};
 use reference::rng::{print, Case};
 use reference::{rounds, text, Plan, FIGURES, MAX_STATES, MAX_TRANSITIONS};
 
-use crate::known::{known, p10, P1_LINES};
+use crate::known::{chain, known, open_reached, p10, P1_LINES};
 use crate::shapes::SHAPES;
 use crate::vectors::P1;
 
 const SEED: u64 = 0x0000_90CE;
-const PLANS: u64 = 260;
+const PLANS: u64 = 270;
 
 /// The program, where `rt ci` builds it or `RT_QUOTE` says.
 fn program() -> PathBuf {
@@ -60,8 +60,12 @@ fn the_program_quotes_known_plans() {
     for (_, plan, _) in known() {
         assert_quoted(&plan);
     }
-    let octets = encode(&p10());
-    assert_eq!(printed(&octets), text::quote(&octets));
+    assert_quoted(&chain(2047));
+    // Of these there is one walk to show.
+    for plan in [p10(), open_reached()] {
+        let octets = encode(&plan);
+        assert_eq!(printed(&octets), text::quote(&octets));
+    }
 }
 
 #[test]

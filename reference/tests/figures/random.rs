@@ -2,7 +2,7 @@
 
 use reference::kinds::Kinds;
 use reference::rng::{Case, Rng};
-use reference::{Plan, Transition, Value};
+use reference::{Plan, Transition, Value, MAX_CLOSED_HIGH, OPEN_HIGH};
 
 use crate::means::compare;
 use crate::shapes::{Greatest, Shape, SHAPES};
@@ -57,42 +57,52 @@ pub fn compare_shape(rng: &mut Rng, shape: &Shape, n: usize, m: usize) -> [Value
     let plan = shape.draw(rng, n, m);
     let values = compare(rng, &plan);
     let is_number = |value: Value| matches!(value, Value::Number(_));
-    for value in [values[1], values[3]] {
-        let holds = match shape.greatest {
+    for (greatest, value) in shape.greatest.into_iter().zip([values[1], values[3]]) {
+        let holds = match greatest {
             Greatest::Number => is_number(value),
             Greatest::Stranded => value == Value::Stranded,
             Greatest::Endless => value == Value::Endless,
-            Greatest::Open => true,
+            Greatest::Any => true,
         };
         assert!(holds, "{}: {value:?} of {plan:?}", shape.name);
     }
-    if shape.greatest != Greatest::Open {
+    if !shape.greatest.contains(&Greatest::Any) {
         let holds = is_number(values[0]) && is_number(values[2]);
         assert!(holds, "{}: {values:?} of {plan:?}", shape.name);
     }
     values
 }
 
+/// One plan in three has loops of all sorts, one those of one state alone, and one none. Three in four
+/// have highs of 2,046 and 2,047, few or many.
 fn small_plan(rng: &mut Rng) -> Plan {
     let n = rng.between(1, 5);
     let m = rng.below(9);
-    let is_acyclic = rng.one_in(2);
+    let loops = rng.below(3);
+    let long = rng.pick(&[usize::MAX, 6, 3, 2]);
     let transitions = (0..m).map(|_| {
         let ends = (rng.below(n), rng.below(n));
         let low = rng.below(4) as u32;
-        let (from, to) = if is_acyclic && ends.0 > ends.1 {
+        let (from, to) = if loops < 2 && ends.0 > ends.1 {
             (ends.1, ends.0)
         } else {
             ends
+        };
+        let high = match rng.one_in(long) {
+            true => rng.pick(&[MAX_CLOSED_HIGH, OPEN_HIGH]),
+            false => low + rng.below(4) as u32,
         };
         Transition {
             from,
             to,
             low,
-            high: low + rng.below(4) as u32,
+            high,
         }
     });
-    let transitions = transitions.collect();
+    let mut transitions: Vec<Transition> = transitions.collect();
+    if loops == 0 {
+        transitions.retain(|transition| transition.from != transition.to);
+    }
     let marks = (0..n).map(|_| rng.below(8) as u8).collect();
     Plan { marks, transitions }
 }

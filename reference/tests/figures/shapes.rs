@@ -1,28 +1,32 @@
 //! Random plans of many shapes. Where the shape decides the kind of a figure, it says which.
 
 use reference::rng::Rng;
-use reference::{Plan, Transition, MAX_DURATION};
+use reference::{Plan, Transition, MAX_CLOSED_HIGH, OPEN_HIGH};
 
-/// What a shape's greatest figures are by the way it is made. The least ones are then numbers.
+/// What a greatest figure of a shape is by the way it is made.
 #[derive(Clone, Copy, Debug, PartialEq, Eq)]
 pub enum Greatest {
     Number,
     Stranded,
     Endless,
-    Open,
+    /// Nothing decides it.
+    Any,
 }
+use Greatest::{Any, Endless, Number, Stranded};
 
 pub struct Shape {
     pub name: &'static str,
     /// A plan of `n` states and `m` transitions, n at least 8 and m at least 2n.
     pub plan: fn(&mut Rng, usize, usize) -> Plan,
-    pub greatest: Greatest,
+    /// The greatest delay and the greatest count. Where they are decided, the least figures are
+    /// numbers.
+    pub greatest: [Greatest; 2],
 }
 
 const fn shape(
     name: &'static str,
     plan: fn(&mut Rng, usize, usize) -> Plan,
-    greatest: Greatest,
+    greatest: [Greatest; 2],
 ) -> Shape {
     Shape {
         name,
@@ -31,20 +35,26 @@ const fn shape(
     }
 }
 
-pub const SHAPES: [Shape; 13] = [
-    shape("chain", chain, Greatest::Number),
-    shape("layers", layers, Greatest::Number),
-    shape("sound", sound, Greatest::Number),
-    shape("loop reached", loop_reached, Greatest::Endless),
-    shape("loop unreached", loop_unreached, Greatest::Number),
-    shape("dead end reached", dead_end_reached, Greatest::Stranded),
-    shape("dead end unreached", dead_end_unreached, Greatest::Number),
-    shape("dense", dense, Greatest::Open),
-    shape("zero durations", zero_durations, Greatest::Open),
-    shape("many starts", many_starts, Greatest::Open),
-    shape("finals that are starts", finals_that_start, Greatest::Open),
-    shape("equal transitions", equal_transitions, Greatest::Open),
-    shape("anything", anything, Greatest::Open),
+/// The shapes. Only those named open have open highs, so in the others loops and dead ends decide.
+pub const SHAPES: [Shape; 18] = [
+    shape("chain", chain, [Number, Number]),
+    shape("layers", layers, [Number, Number]),
+    shape("sound", sound, [Number, Number]),
+    shape("loop reached", loop_reached, [Endless, Endless]),
+    shape("loop unreached", loop_unreached, [Number, Number]),
+    shape("dead end reached", dead_end_reached, [Stranded, Stranded]),
+    shape("dead end unreached", dead_end_unreached, [Number, Number]),
+    shape("open reached", open_reached, [Endless, Number]),
+    shape("open unreached", open_unreached, [Number, Number]),
+    shape("open and dead end", open_and_dead_end, [Endless, Stranded]),
+    shape("open and loop", open_and_loop, [Endless, Endless]),
+    shape("open anywhere", open_anywhere, [Any, Any]),
+    shape("dense", dense, [Any, Any]),
+    shape("zero durations", zero_durations, [Any, Any]),
+    shape("many starts", many_starts, [Any, Any]),
+    shape("finals that are starts", finals_that_start, [Any, Any]),
+    shape("equal transitions", equal_transitions, [Any, Any]),
+    shape("anything", anything, [Any, Any]),
 ];
 
 impl Shape {
@@ -69,16 +79,29 @@ impl Shape {
     }
 }
 
-/// A transition with durations of all sizes.
+/// A transition with durations of all sizes, and a closed high. One in eight has the greatest such.
 fn step(rng: &mut Rng, from: usize, to: usize) -> Transition {
-    let limit = rng.pick(&[0, 1, 3, 20, MAX_DURATION as usize]);
+    let limit = rng.pick(&[0, 1, 3, 20, MAX_CLOSED_HIGH as usize]);
     let one = rng.below(limit + 1) as u32;
     let other = rng.below(limit + 1) as u32;
+    let is_greatest = rng.one_in(8);
     Transition {
         from,
         to,
         low: one.min(other),
-        high: one.max(other),
+        high: if is_greatest {
+            MAX_CLOSED_HIGH
+        } else {
+            one.max(other)
+        },
+    }
+}
+
+/// Makes a transition open. Now and then its low is 2,047 too.
+fn open(rng: &mut Rng, transition: &mut Transition) {
+    transition.high = OPEN_HIGH;
+    if rng.one_in(8) {
+        transition.low = OPEN_HIGH;
     }
 }
 
@@ -151,13 +174,17 @@ fn sound(rng: &mut Rng, n: usize, m: usize) -> Plan {
     Plan { marks, transitions }
 }
 
-/// The states of a walk of a sound plan through unfinished states from state 0.
+/// The states of a walk through unfinished states from state 0, the start of a sound plan and of
+/// those made of one.
 fn unfinished_walk(rng: &mut Rng, plan: &Plan) -> Vec<usize> {
     let mut states = vec![0];
     for _ in 0..rng.below(plan.marks.len()) {
         let state = states[states.len() - 1];
         let steps = plan.transitions.iter().filter(|step| step.from == state);
         let targets: Vec<usize> = steps.map(|step| step.to).collect();
+        if targets.is_empty() {
+            break;
+        }
         let target = rng.pick(&targets);
         if plan.is_final(target) {
             break;
@@ -213,6 +240,85 @@ fn dead_end_unreached(rng: &mut Rng, n: usize, m: usize) -> Plan {
     plan
 }
 
+/// Makes a transition open that an unfinished walk from state 0 can take.
+fn open_one(rng: &mut Rng, plan: &mut Plan) {
+    let states = unfinished_walk(rng, plan);
+    let steps = plan.transitions.iter().enumerate();
+    let steps = steps.filter(|(_, step)| states.contains(&step.from));
+    let numbers: Vec<usize> = steps.map(|(number, _)| number).collect();
+    let number = rng.pick(&numbers);
+    open(rng, &mut plan.transitions[number]);
+}
+
+/// Neither loop nor dead end is reached, and an open transition is: it alone decides. It may leave the
+/// start, lie deep in a chain, and lead to an unfinished state or to a final one.
+fn open_reached(rng: &mut Rng, n: usize, m: usize) -> Plan {
+    let make = rng.pick(&[chain, layers, sound]);
+    let mut plan = make(rng, n, m);
+    for _ in 0..rng.pick(&[1, 1, 3]) {
+        open_one(rng, &mut plan);
+    }
+    plan
+}
+
+/// A sound plan in which no open transition counts: they leave final states, starts among them, and a
+/// state that only a final state leads to. The others are a second below open now and then.
+fn open_unreached(rng: &mut Rng, n: usize, m: usize) -> Plan {
+    let mut plan = sound(rng, n - 1, m - 2);
+    for number in 0..m - 2 {
+        if plan.is_final(plan.transitions[number].from) && !rng.one_in(4) {
+            open(rng, &mut plan.transitions[number]);
+        }
+    }
+    plan.marks.push(marks(rng, false, false));
+    let to = rng.below(n);
+    for (from, to) in [(n - 2, n - 1), (n - 1, to)] {
+        let mut transition = step(rng, from, to);
+        open(rng, &mut transition);
+        plan.transitions.push(transition);
+    }
+    plan
+}
+
+/// A dead end is reached and so is an open transition, which may be the one that leads there. The
+/// delay is ENDLESS, and the count STRANDED.
+fn open_and_dead_end(rng: &mut Rng, n: usize, m: usize) -> Plan {
+    let mut plan = dead_end_reached(rng, n, m);
+    open_one(rng, &mut plan);
+    plan
+}
+
+/// A loop is reached and so is an open transition, half of the time the one that closes the loop:
+/// either may be shown for the delay, the loop alone for the count.
+fn open_and_loop(rng: &mut Rng, n: usize, m: usize) -> Plan {
+    let mut plan = loop_reached(rng, n, m);
+    if rng.one_in(2) {
+        open(rng, &mut plan.transitions[m - 1]);
+    } else {
+        open_one(rng, &mut plan);
+    }
+    plan
+}
+
+/// Plans of other shapes with open highs, and with highs a second below, in all or in few places:
+/// where they count and where they do not.
+fn open_anywhere(rng: &mut Rng, n: usize, m: usize) -> Plan {
+    let make = rng.pick(&[mixed, dense, many_starts, finals_that_start, anything]);
+    let mut plan = make(rng, n, m);
+    let opened = rng.pick(&[1, 4, n, 4 * n]);
+    let closed = rng.pick(&[2, n]);
+    for transition in &mut plan.transitions {
+        if rng.one_in(opened) {
+            open(rng, transition);
+        }
+        if rng.one_in(closed) {
+            transition.low = transition.low.min(MAX_CLOSED_HIGH);
+            transition.high = MAX_CLOSED_HIGH;
+        }
+    }
+    plan
+}
+
 /// A random plan with one state in `starts` a start and one in `finals` final.
 fn random(rng: &mut Rng, n: usize, m: usize, starts: usize, finals: usize) -> Plan {
     let marks = (0..n).map(|_| {
@@ -250,7 +356,7 @@ fn dense(rng: &mut Rng, n: usize, m: usize) -> Plan {
 }
 
 fn zero_durations(rng: &mut Rng, n: usize, m: usize) -> Plan {
-    let mut plan = open(rng, n, m);
+    let mut plan = mixed(rng, n, m);
     let all = rng.one_in(2);
     for transition in &mut plan.transitions {
         if all || rng.one_in(2) {
@@ -262,7 +368,7 @@ fn zero_durations(rng: &mut Rng, n: usize, m: usize) -> Plan {
 }
 
 /// A plan of no special shape, often a sound one with something added.
-fn open(rng: &mut Rng, n: usize, m: usize) -> Plan {
+fn mixed(rng: &mut Rng, n: usize, m: usize) -> Plan {
     match rng.below(6) {
         0 => sound(rng, n, m),
         1 => loop_reached(rng, n, m),
@@ -274,7 +380,7 @@ fn open(rng: &mut Rng, n: usize, m: usize) -> Plan {
 }
 
 fn many_starts(rng: &mut Rng, n: usize, m: usize) -> Plan {
-    let mut plan = open(rng, n, m);
+    let mut plan = mixed(rng, n, m);
     for marks in &mut plan.marks {
         if !rng.one_in(4) {
             *marks |= 4;
@@ -284,7 +390,7 @@ fn many_starts(rng: &mut Rng, n: usize, m: usize) -> Plan {
 }
 
 fn finals_that_start(rng: &mut Rng, n: usize, m: usize) -> Plan {
-    let mut plan = open(rng, n, m);
+    let mut plan = mixed(rng, n, m);
     for marks in &mut plan.marks {
         if *marks & 2 != 0 || rng.one_in(4) {
             *marks |= 6;
@@ -295,7 +401,7 @@ fn finals_that_start(rng: &mut Rng, n: usize, m: usize) -> Plan {
 
 /// Some of the transitions stand in the list several times.
 fn equal_transitions(rng: &mut Rng, n: usize, m: usize) -> Plan {
-    let mut plan = open(rng, n, m);
+    let mut plan = mixed(rng, n, m);
     for _ in 0..m / 2 {
         let (from, to) = (rng.below(m), rng.below(m));
         plan.transitions[to] = plan.transitions[from];

@@ -1,10 +1,11 @@
-//! Every plan with up to 3 states and 3 transitions over a few durations, with all marks.
+//! Every plan with up to 3 states and 3 transitions over a few durations, an open one among them, with
+//! all marks.
 
 use std::thread;
 
 use reference::kinds::Kinds;
 use reference::rng::Case;
-use reference::{Plan, Transition};
+use reference::{Plan, Transition, OPEN_HIGH};
 
 #[cfg(feature = "quotations")]
 use crate::lent::{compare_some, lend};
@@ -13,14 +14,9 @@ use crate::means::agree;
 const SEED: u64 = 0x0000_5A11;
 const WORKERS: usize = 2;
 
-/// The durations by the number of transitions. Among them the smaller low has the greater high.
-fn durations(m: usize) -> &'static [(u32, u32)] {
-    if m < 3 {
-        &[(0, 0), (0, 3), (1, 2)]
-    } else {
-        &[(0, 3), (1, 2)]
-    }
-}
+/// The durations with open highs and closed ones. Among them the smaller low has the greater high.
+const OPEN: (u32, u32) = (0, OPEN_HIGH);
+const CLOSED: [(u32, u32); 3] = [(1, 2), (0, 3), (0, 0)];
 
 #[test]
 fn every_small_plan() {
@@ -38,10 +34,11 @@ fn every_small_plan() {
             kinds.add_all(&worker.join().expect("no comparison failed"));
         }
     });
-    // Of three states, 9 ends with 3 durations in lists of up to 2, and with 2 in lists of 3.
-    let of_1 = 8 * (1 + 3 + 3 * 3 + 2 * 2 * 2);
-    let of_2 = 64 * (1 + 12 + 12 * 12 + 8 * 8 * 8);
-    let of_3 = 512 * (1 + 27 + 27 * 27 + 18 * 18 * 18);
+    // Of three states, 9 ends with 4 durations in lists of up to 2; in lists of 3 with 2, or one of the
+    // three open and the others with 1.
+    let of_1 = 8 * (1 + 4 + 4 * 4 + (2 * 2 * 2 + 3));
+    let of_2 = 64 * (1 + 16 + 16 * 16 + (8 * 8 * 8 + 3 * 4 * 4 * 4));
+    let of_3 = 512 * (1 + 36 + 36 * 36 + (18 * 18 * 18 + 3 * 9 * 9 * 9));
     assert_eq!(kinds.plans(), of_1 + of_2 + of_3);
     kinds.print(&format!(
         "every small plan: seed {SEED:#x}, {} plans",
@@ -78,12 +75,28 @@ fn compare(case: Case, lists: &[(usize, Vec<Transition>)]) -> Kinds {
     kinds
 }
 
-/// Every list of `m` transitions between `n` states.
+/// The lists of `m` transitions between `n` states: with each of the durations at each place where
+/// they are up to 2, else closed ones, or an open one at one place.
 fn lists(n: usize, m: usize) -> Vec<Vec<Transition>> {
+    if m < 3 {
+        let all = [&[OPEN], &CLOSED[..]].concat();
+        return product(&vec![choices(n, &all); m]);
+    }
+    let mut lists = product(&vec![choices(n, &CLOSED[..2]); m]);
+    for place in 0..m {
+        let mut places = vec![choices(n, &CLOSED[..1]); m];
+        places[place] = choices(n, &[OPEN]);
+        lists.extend(product(&places));
+    }
+    lists
+}
+
+/// Every list with one of the choices at each place.
+fn product(places: &[Vec<Transition>]) -> Vec<Vec<Transition>> {
     let mut lists = vec![Vec::new()];
-    for _ in 0..m {
+    for choices in places {
         let longer = lists.iter().flat_map(|list| {
-            choices(n, m).into_iter().map(|transition| {
+            choices.iter().map(|&transition| {
                 let mut list = list.clone();
                 list.push(transition);
                 list
@@ -94,10 +107,11 @@ fn lists(n: usize, m: usize) -> Vec<Vec<Transition>> {
     lists
 }
 
-fn choices(n: usize, m: usize) -> Vec<Transition> {
+/// Every transition between `n` states with one of the durations.
+fn choices(n: usize, durations: &[(u32, u32)]) -> Vec<Transition> {
     let ends = (0..n).flat_map(|from| (0..n).map(move |to| (from, to)));
     let choices = ends.flat_map(|(from, to)| {
-        durations(m).iter().map(move |&(low, high)| Transition {
+        durations.iter().map(move |&(low, high)| Transition {
             from,
             to,
             low,

@@ -36,8 +36,11 @@ pub use refusal::Refusal;
 pub const MAX_STATES: usize = 512;
 /// The most transitions of a plan.
 pub const MAX_TRANSITIONS: usize = 2048;
-/// The longest duration, in seconds.
+/// The greatest low and high, in seconds.
 pub const MAX_DURATION: u32 = 2047;
+/// A high that means no limit: the transition is open, as of a phone that rings until it is picked
+/// up.
+pub const OPEN_HIGH: u32 = 2047;
 /// The most octets of an image.
 pub const MAX_IMAGE_OCTETS: usize = 10756;
 /// The most octets of a text that is exported, or accepted by [`Plan::import`].
@@ -54,12 +57,13 @@ pub const COUNTED: u32 = 1;
 
 /// The version of the archive that this crate is for: 10,000 times the first number, 100 times the
 /// second, and the third.
-pub const VERSION_NUMBER: u32 = 300;
+pub const VERSION_NUMBER: u32 = 400;
 
 /// What the archive answers for accepted. Write, export and record add the octets' number.
 const ACCEPTED: u32 = 256;
 
-/// A transition: it takes from `low` to `high` seconds.
+/// A transition: it takes from `low` to `high` seconds, or `low` or more where `high` is
+/// [`OPEN_HIGH`].
 #[derive(Clone, Copy, Debug, PartialEq, Eq, Hash)]
 #[allow(missing_docs)]
 pub struct Transition {
@@ -72,13 +76,16 @@ pub struct Transition {
 /// A figure: its number or kind.
 #[derive(Clone, Copy, Debug, PartialEq, Eq, Hash)]
 pub enum Figure {
-    /// Seconds, or counted states.
+    /// Seconds, at most 1,046,017 for the least delay and 1,045,506 for the greatest, or counted
+    /// states, at most 512.
     Number(u32),
     /// A least figure of a plan without routes, or a greatest one of a plan without a start.
     None,
     /// A call can end unanswered, in a state that nothing leaves.
     Stranded,
-    /// A call can go on forever unanswered: the walk arrives where it was after `j` transitions.
+    /// A call can go on forever unanswered. Where `j` is below the walk's length, the walk arrives
+    /// where it was after `j` transitions. Where it is the walk's length, which it can be for the
+    /// greatest delay alone, the last transition is open ([`OPEN_HIGH`]).
     #[allow(missing_docs)]
     Endless { j: usize },
 }
@@ -340,7 +347,7 @@ impl Plan {
     /// The first line is `des (INITIAL, TRANSITIONS, STATES)`, with the initial state and the two
     /// counts. Then there is a line `(FROM, "LOW..HIGH", TO)` for each transition, in their order.
     /// Every line is ended by a line feed, and every space is as it stands here. Numbers are decimal,
-    /// of any length and without leading zeros.
+    /// of any length and without leading zeros. A HIGH of 2047 is [`OPEN_HIGH`].
     ///
     /// ```
     /// use callplan::{Plan, Refusal, START};
@@ -395,25 +402,43 @@ impl Plan {
         })
     }
 
-    /// The smallest sum of lows over all routes.
+    /// The smallest sum of lows over all routes. Open highs are of no account.
     #[must_use]
     pub fn least_delay(&self) -> Quotation {
         self.quote(archive::callplan_lent_least_delay)
     }
 
-    /// The largest sum of highs over all routes, unless calls can go unanswered.
+    /// The largest sum of highs over all routes, unless calls can go unanswered. It is
+    /// [`Figure::Endless`] also where a walk of unfinished states from a start can take an open
+    /// transition, which may lead anywhere.
+    ///
+    /// ```
+    /// use callplan::{Figure, Plan, Transition, FINAL, OPEN_HIGH, START};
+    ///
+    /// let mut plan = Plan::fresh(2)?;
+    /// plan.mark(0, START)?;
+    /// plan.mark(1, FINAL)?;
+    /// plan.join(Transition { from: 0, to: 1, low: 5, high: OPEN_HIGH })?;
+    /// let quotation = plan.greatest_delay();
+    /// assert_eq!(quotation.figure(), Figure::Endless { j: 1 });
+    /// assert_eq!(quotation.walk(), [0]);
+    /// assert_eq!(plan.least_delay().figure(), Figure::Number(5));
+    /// # Ok::<(), callplan::Refusal>(())
+    /// ```
     #[must_use]
     pub fn greatest_delay(&self) -> Quotation {
         self.quote(archive::callplan_lent_greatest_delay)
     }
 
-    /// The smallest number of counted states on a route, first and last included.
+    /// The smallest number of counted states on a route, first and last included. Open highs are of
+    /// no account.
     #[must_use]
     pub fn least_count(&self) -> Quotation {
         self.quote(archive::callplan_lent_least_count)
     }
 
-    /// The largest number of counted states on a route, unless calls can go unanswered.
+    /// The largest number of counted states on a route, unless calls can go unanswered. Open highs
+    /// are of no account.
     #[must_use]
     pub fn greatest_count(&self) -> Quotation {
         self.quote(archive::callplan_lent_greatest_count)

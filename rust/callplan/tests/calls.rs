@@ -3,7 +3,9 @@
 use std::hash::{DefaultHasher, Hash, Hasher};
 use std::thread;
 
-use callplan::{Figure, Plan, Refusal, Transition, COUNTED, FINAL, MAX_TRANSITIONS, START};
+use callplan::{
+    Figure, Plan, Refusal, Transition, COUNTED, FINAL, MAX_TRANSITIONS, OPEN_HIGH, START,
+};
 
 /// The image of plan P1 of document 01.
 const P1: [u8; 28] = [
@@ -200,6 +202,38 @@ fn figures_are_quoted_with_their_walks() {
     assert_eq!(plan.greatest_delay().figure(), Figure::Endless { j: 0 });
     assert_eq!(plan.greatest_delay().walk(), [0]);
     assert_eq!(plan.least_delay().walk(), [1]);
+}
+
+/// A high of 2,047 means no limit, for the greatest delay alone.
+#[test]
+fn open_highs_are_endless() {
+    let mut plan = Plan::fresh(3).unwrap();
+    for (state, marks) in [(0, START), (1, COUNTED), (2, FINAL)] {
+        plan.mark(state, marks).unwrap();
+    }
+    plan.join(transition(0, 1, 1, 1)).unwrap();
+    plan.join(transition(1, 2, 1, OPEN_HIGH)).unwrap();
+    let delay = plan.greatest_delay();
+    assert_eq!(delay.figure(), Figure::Endless { j: 2 });
+    assert_eq!(delay.walk(), [0, 1]);
+    assert_eq!(plan.least_delay().figure(), Figure::Number(2));
+    assert_eq!(plan.least_count().figure(), Figure::Number(1));
+    assert_eq!(plan.greatest_count().figure(), Figure::Number(1));
+    let mut record = [0; callplan::RECORD_OCTETS];
+    assert_eq!(plan.record(&mut record), Ok(callplan::RECORD_OCTETS));
+    assert_eq!(record, [0, 0, 0x0B, 0, 0, 0, 0, 0, 0x40, 0, 1]);
+    assert_eq!(callplan::quote(&image(&plan)).unwrap()[1], delay);
+
+    // A second less is a number, and out of a final state an open high is of no account.
+    plan.unjoin(1).unwrap();
+    plan.join(transition(1, 2, 1, OPEN_HIGH - 1)).unwrap();
+    plan.join(transition(2, 0, 0, OPEN_HIGH)).unwrap();
+    assert_eq!(plan.greatest_delay().figure(), Figure::Number(2047));
+    // A low of 2,047 is 2,047 seconds.
+    plan.unjoin(1).unwrap();
+    plan.join(transition(1, 2, OPEN_HIGH, OPEN_HIGH)).unwrap();
+    assert_eq!(plan.least_delay().figure(), Figure::Number(2048));
+    assert_eq!(plan.greatest_delay().figure(), Figure::Endless { j: 2 });
 }
 
 #[test]

@@ -2,26 +2,19 @@
 use native.Mathlib.Nat.{le-refl}
 use native.Mathlib.Omega.{arith}
 use Rattle.costs.specs.Scaled.{scale}
-use Rattle.graph.specs.Graph.{low, high}
 use Rattle.plan.specs.declared.Plan.{Plan}
-use Rattle.plan.specs.View.{view}
 use Rattle.figures.specs.Figures.{planOf}
-use Rattle.figures.proofs.Held.{low-view, high-view, bounded-in, lows-most, highs-most, from-small}
-use Rattle.figures.proofs.Weighed.{delays-weigh, counts-weigh}
+use Rattle.figures.proofs.Held.{bounded-in, lows-most, from-small}
+use Rattle.figures.proofs.Weighed.{lows-weigh, highs-weigh, counts-weigh}
 use borrow.Author.Needs.{needs}
 use Rattle.figures.proofs.weigh.Statement.{statement}
 use Rattle.figures.proofs.weigh.Tie as tie
-use Rattle.figures.proofs.weigh.Reads as reads
-use Rattle.figures.proofs.weigh.Lts as lts
-use Rattle.costs.proofs.fill_closes.Reads as fill-closes-reads
-use Rattle.costs.proofs.fill_durations.Reads as fill-durations-reads
-use Rattle.costs.proofs.fill_leaving.Reads as fill-leaving-reads
 
 enum-told : tie.Need-enum-told
 enum-told c = search needs
 
-fill-durations-requires : tie.Need-fill-durations-requires
-fill-durations-requires c κs =
+fill-lows-requires : tie.Need-fill-lows-requires
+fill-lows-requires c κs =
     let (to, w) = c .before .before .before .pre .0 in
     let p : Plan = planOf (c .before .before .before .args .n) (c .before .before .before .args .m) (c .before .before .before .args .marks .now) (c .before .before .before .args .from .now) to (c .before .before .before .args .low .now) (c .before .before .before .args .high .now) in
     (bounded-in p w .count, le-refl scale, le-refl 1, lows-most p w, c .before .before .before .pre .1 .0)
@@ -29,11 +22,11 @@ fill-durations-requires c κs =
 enum-told-2 : tie.Need-enum-told-2
 enum-told-2 c = search needs
 
-fill-durations-requires-2 : tie.Need-fill-durations-requires-2
-fill-durations-requires-2 c κs =
+fill-highs-requires : tie.Need-fill-highs-requires
+fill-highs-requires c κs =
     let (to, w) = c .before .before .before .pre .0 in
     let p : Plan = planOf (c .before .before .before .args .n) (c .before .before .before .args .m) (c .before .before .before .args .marks .now) (c .before .before .before .args .from .now) to (c .before .before .before .args .low .now) (c .before .before .before .args .high .now) in
-    (bounded-in p w .count, omega arith, omega arith, highs-most p w, c .before .before .before .pre .1 .0)
+    (bounded-in p w .count, c .before .before .before .pre .1 .0)
 
 enum-told-3 : tie.Need-enum-told-3
 enum-told-3 c = search needs
@@ -69,13 +62,13 @@ returns : tie.Need-returns
 returns c =
     λ to w.
     let p : Plan = planOf (c .before .before .before .before .args .n) (c .before .before .before .before .args .m) (c .before .before .before .before .args .marks .now) (c .before .before .before .before .args .from .now) to (c .before .before .before .before .args .low .now) (c .before .before .before .before .args .high .now) in
-    rw (c .before .before .enum-told .given .1) (delays-weigh p w scale 1 (le-refl scale) (le-refl 1) _ (low (view p)) (p .low) (low-view p) (lows-most p w) (c .fill-durations .ensures, c .before .before .before .before .pre .1 .1))
+    rw (c .before .before .enum-told .given .1) (lows-weigh p w _ (c .fill-lows .ensures, c .before .before .before .before .pre .1 .1))
 
 returns-2 : tie.Need-returns-2
 returns-2 c =
     λ to w.
     let p : Plan = planOf (c .before .before .before .before .args .n) (c .before .before .before .before .args .m) (c .before .before .before .before .args .marks .now) (c .before .before .before .before .args .from .now) to (c .before .before .before .before .args .low .now) (c .before .before .before .before .args .high .now) in
-    rw (c .before .before .enum-told2 .given .1) (delays-weigh p w 1 0 (omega arith) (omega arith) _ (high (view p)) (p .high) (high-view p) (highs-most p w) (c .fill-durations2 .ensures, c .before .before .before .before .pre .1 .1))
+    rw (c .before .before .enum-told2 .given .1) (highs-weigh p w _ (c .fill-highs .ensures, c .before .before .before .before .pre .1 .1))
 
 returns-3 : tie.Need-returns-3
 returns-3 c =
@@ -94,9 +87,9 @@ weigh-spec =
     tie.close
     (tie.spec
     enum-told
-    fill-durations-requires
+    fill-lows-requires
     enum-told-2
-    fill-durations-requires-2
+    fill-highs-requires
     enum-told-3
     fill-leaving-requires
     fill-closes-requires

@@ -1,4 +1,5 @@
 -- `greatest_search::greatest` meets its contract, kind by kind: what each of the searches' answers gives (GreatestFigure). Assumes nothing.
+use mathlib.Core.Path.{refl}
 use Prim.Native.Nat.{ℕ}
 use native.Mathlib.Omega.{arith}
 use borrow.Author.Needs.{needs}
@@ -37,7 +38,7 @@ climb-requires c κs =
     let s = c .before .before .before .before .before .before .before in
     let p = s .pre .1 in
     let q = rw (c .before .before .before .before .found2 .given .1) at (p .2) in
-    (s .args .n, p .0, behind s .rank, s .pre .0 .0, climbable {a = behind s} (p .1 .bounded) (q .0 .1) (q .1))
+    (s .args .n, p .0, behind s .rank, s .pre .0 .0, climbable {a = behind s} (p .1 .bounded) (q .0 .1) (q .1 .0) (q .1 .1))
 
 enum-known-found-3 : tie.Need-enum-known-found-3
 enum-known-found-3 c = search needs
@@ -75,8 +76,8 @@ returns-3 c =
     let k = c .before .before .climb in
     λ m w reached g held.
     let q = rw (c .before .before .before .before .before .before .before .found2 .given .1) at reached in
-    dead-end-quoted (w .bounded) {a = behind s} held _ (k .kept .1 .1 .1 .0) (s .pre .0 .0) (q .0 .1) (q .1)
-    (k .ensures .0 (s .args .n) m (behind s .rank) (climbable {a = behind s} (w .bounded) (q .0 .1) (q .1))) (k .ensures .1)
+    dead-end-quoted (w .bounded) {a = behind s} held _ (k .kept .1 .1 .1 .0) (s .pre .0 .0) (λ t. refl) (q .0 .1) (q .1)
+    (k .ensures .0 (s .args .n) m (behind s .rank) (climbable {a = behind s} (w .bounded) (q .0 .1) (q .1 .0) (q .1 .1))) (k .ensures .1)
 
 same-length-3 : tie.Need-same-length-3
 same-length-3 c = search needs

@@ -1,21 +1,21 @@
--- `costs::fill_durations`: the first t weights are filled, and the products fit a word. Assumes nothing.
+-- `costs::fill_lows`: the first t weights are filled, and the products fit a word. Assumes nothing.
 use Prim.Native.Nat.{ℕ, _-_, _≤_}
 use mathlib.Core.Path.{_≡_, refl, sym, ap, _∙_, subst}
 use native.Mathlib.Omega.{arith}
 use borrow.Author.Needs.{needs}
 use lib.ListN.{length, length-set, length-replicate}
-use Rattle.costs.specs.Arrays.{Filled, delayWeight}
+use Rattle.costs.specs.Arrays.{Filled, lowWeight}
 use Rattle.costs.proofs.Filled.{filled-none, filled-more, scaled-le}
-use Rattle.costs.proofs.fill_durations.Statement.{statement}
-use Rattle.costs.proofs.fill_durations.Tie as tie
-use Rattle.costs.proofs.fill_durations.Reads as reads
-use Rattle.costs.proofs.fill_durations.Lts as lts
+use Rattle.costs.proofs.fill_lows.Statement.{statement}
+use Rattle.costs.proofs.fill_lows.Tie as tie
+use Rattle.costs.proofs.fill_lows.Reads as reads
+use Rattle.costs.proofs.fill_lows.Lts as lts
 
 abbrev Inv-loop : tie.InvT-loop
-Inv-loop durations m scale extra weight₀ t₀ weight t = (t ≤ m) × (length weight ≡ 2048) × Filled t (delayWeight scale extra durations) weight
+Inv-loop low m scale extra weight₀ t₀ weight t = (t ≤ m) × (length weight ≡ 2048) × Filled t (lowWeight scale extra low) weight
 
 abbrev μ-loop : tie.MeasureT-loop
-μ-loop durations m scale extra weight₀ t₀ weight t = m - t
+μ-loop low m scale extra weight₀ t₀ weight t = m - t
 
 loop-holds : tie.Need-loop-holds Inv-loop μ-loop
 loop-holds c = (search needs, ap length (c .pre .4) ∙ length-replicate {A = ℕ} 2048 0, subst (Filled 0 _) (sym (c .pre .4)) (filled-none _ 2048))
@@ -66,8 +66,8 @@ returns c =
     let e : c .before .loop .t ≡ c .before .before .args .m = omega arith in
     rw e at (c .before .loop .inv .2)
 
-pub fill-durations-spec : {M : Type 1} → statement M
-fill-durations-spec =
+pub fill-lows-spec : {M : Type 1} → statement M
+fill-lows-spec =
     tie.close
     (tie.spec
     Inv-loop
