@@ -60,9 +60,15 @@ static void edits(void)
     CHECK(callplan_fresh(&plan, 0) == CALLPLAN_REFUSED_STATE_COUNT);
     CHECK(callplan_fresh(&plan, CALLPLAN_MAX_STATES + 1) == CALLPLAN_REFUSED_STATE_COUNT);
     CHECK(callplan_mark(&plan, 4, 8) == CALLPLAN_REFUSED_STATE_NUMBER);
+    CHECK(callplan_mark(&plan, SIZE_MAX, 0) == CALLPLAN_REFUSED_STATE_NUMBER);
     CHECK(callplan_mark(&plan, 3, 8) == CALLPLAN_REFUSED_MARKS_VALUE);
-    CHECK(callplan_join(&plan, 4, 0, 1, 0) == CALLPLAN_REFUSED_STATE_NUMBER);
-    CHECK(callplan_join(&plan, 0, SIZE_MAX, 0, 0) == CALLPLAN_REFUSED_STATE_NUMBER);
+    CHECK(callplan_join(&plan, 4, 0, 0, 0) == CALLPLAN_REFUSED_FROM_STATE);
+    CHECK(callplan_join(&plan, 4, 0, 1, 0) == CALLPLAN_REFUSED_FROM_STATE);
+    CHECK(callplan_join(&plan, 4, 4, 0, 0) == CALLPLAN_REFUSED_FROM_STATE);
+    CHECK(callplan_join(&plan, SIZE_MAX, SIZE_MAX, 1, 0) == CALLPLAN_REFUSED_FROM_STATE);
+    CHECK(callplan_join(&plan, 0, 4, 0, 0) == CALLPLAN_REFUSED_TO_STATE);
+    CHECK(callplan_join(&plan, 0, 4, 1, 0) == CALLPLAN_REFUSED_TO_STATE);
+    CHECK(callplan_join(&plan, 0, SIZE_MAX, 0, CALLPLAN_MAX_DURATION + 1) == CALLPLAN_REFUSED_TO_STATE);
     CHECK(callplan_join(&plan, 0, 0, 1, 0) == CALLPLAN_REFUSED_DURATION);
     CHECK(callplan_join(&plan, 0, 0, 0, CALLPLAN_MAX_DURATION + 1) == CALLPLAN_REFUSED_DURATION);
     CHECK(callplan_unjoin(&plan, 4) == CALLPLAN_REFUSED_TRANSITION_NUMBER);
@@ -84,6 +90,8 @@ static void edits(void)
         }
     }
     CHECK(callplan_join(&plan, 0, 0, 0, 0) == CALLPLAN_REFUSED_LIST_FULL);
+    CHECK(callplan_join(&plan, 512, 0, 0, 0) == CALLPLAN_REFUSED_FROM_STATE);
+    CHECK(callplan_join(&plan, 0, 512, 0, 0) == CALLPLAN_REFUSED_TO_STATE);
     CHECK(callplan_mark(&plan, 511, 7) == CALLPLAN_ACCEPTED);
     CHECK(callplan_marks(&plan, 511) == 7);
     transition = callplan_transition_at(&plan, 2047);
@@ -130,13 +138,53 @@ static void images(void)
     CHECK(callplan_read(&other, octets, 28) == CALLPLAN_REFUSED_SPARE_BITS);
     octets[3] = 0x00;
     octets[8] = 0xFF;
-    CHECK(callplan_read(&other, octets, 28) == CALLPLAN_REFUSED_STATE_NUMBER);
+    CHECK(callplan_read(&other, octets, 28) == CALLPLAN_REFUSED_FROM_STATE);
     octets[8] = 0x00;
+    octets[9] = 0x01;
+    CHECK(callplan_read(&other, octets, 28) == CALLPLAN_REFUSED_TO_STATE);
+    octets[9] = 0x00;
     octets[12] = 0x00;
     CHECK(callplan_read(&other, octets, 28) == CALLPLAN_REFUSED_DURATION);
     CHECK(callplan_states(&other) == 1 && callplan_transitions(&other) == 0);
     CHECK(callplan_read(&other, p1_image, sizeof p1_image) == CALLPLAN_ACCEPTED);
     CHECK(is_same_plan(&other, &plan));
+}
+
+/* What reading P1's image with two octets changed answers. Making a plan of it and quoting it must answer the same. */
+static callplan_answer changed(size_t place, uint8_t octet, size_t other_place, uint8_t other_octet)
+{
+    static callplan_quotations quotations;
+    callplan_plan plan;
+    uint8_t octets[28];
+    callplan_answer answer;
+
+    memcpy(octets, p1_image, 28);
+    octets[place] = octet;
+    octets[other_place] = other_octet;
+    CHECK(callplan_fresh(&plan, 1) == CALLPLAN_ACCEPTED);
+    answer = callplan_read(&plan, octets, 28);
+    CHECK(callplan_states(&plan) == (answer == CALLPLAN_ACCEPTED ? 4 : 1));
+    CHECK(callplan_from_image(&plan, octets, 28) == answer);
+    CHECK(callplan_quote(octets, 28, &quotations) == answer);
+    return answer;
+}
+
+/* A transition is refused by its from, then by its to, then by its durations, and the first wrong one decides. The first has its from
+ * in octet 8, its to in 9 and its high in 12, the last its from in 23 and its to in 24. */
+static void wrong_ends(void)
+{
+    CHECK(changed(8, 0x02, 9, 0x01) == CALLPLAN_REFUSED_FROM_STATE);
+    CHECK(changed(8, 0x02, 12, 0x00) == CALLPLAN_REFUSED_FROM_STATE);
+    CHECK(changed(9, 0x01, 12, 0x00) == CALLPLAN_REFUSED_TO_STATE);
+    CHECK(changed(9, 0x01, 23, 0x02) == CALLPLAN_REFUSED_TO_STATE);
+    CHECK(changed(8, 0x02, 24, 0x01) == CALLPLAN_REFUSED_FROM_STATE);
+    CHECK(changed(12, 0x00, 23, 0x02) == CALLPLAN_REFUSED_DURATION);
+    CHECK(changed(12, 0x00, 24, 0x01) == CALLPLAN_REFUSED_DURATION);
+    CHECK(changed(23, 0x02, 24, 0x01) == CALLPLAN_REFUSED_FROM_STATE);
+    CHECK(changed(24, 0x01, 27, 0x00) == CALLPLAN_REFUSED_TO_STATE);
+    CHECK(changed(7, 0x41, 8, 0x02) == CALLPLAN_REFUSED_SPARE_BITS);
+    CHECK(changed(7, 0x41, 9, 0x01) == CALLPLAN_REFUSED_SPARE_BITS);
+    CHECK(changed(8, 0x00, 9, 0x00) == CALLPLAN_ACCEPTED);
 }
 
 static callplan_answer import_words(callplan_plan *plan, const char *words)
@@ -179,8 +227,17 @@ static void texts(void)
     CHECK(import_words(&other, "des (0, 0, 513)\n") == CALLPLAN_REFUSED_STATE_COUNT);
     CHECK(import_words(&other, "des (0, 0, 18446744073709551617)\n") == CALLPLAN_REFUSED_STATE_COUNT);
     CHECK(import_words(&other, "des (1, 1, 1)\n(0, \"1..0\", 0)\n") == CALLPLAN_REFUSED_STATE_NUMBER);
-    CHECK(import_words(&other, "des (0, 1, 1)\n(0, \"1..0\", 1)\n") == CALLPLAN_REFUSED_STATE_NUMBER);
+    CHECK(import_words(&other, "des (1, 1, 1)\n(1, \"0..0\", 0)\n") == CALLPLAN_REFUSED_STATE_NUMBER);
+    CHECK(import_words(&other, "des (1, 1, 1)\n(0, \"0..0\", 1)\n") == CALLPLAN_REFUSED_STATE_NUMBER);
+    CHECK(import_words(&other, "des (0, 1, 1)\n(1, \"0..0\", 0)\n") == CALLPLAN_REFUSED_FROM_STATE);
+    CHECK(import_words(&other, "des (0, 1, 1)\n(1, \"1..0\", 1)\n") == CALLPLAN_REFUSED_FROM_STATE);
+    CHECK(import_words(&other, "des (0, 1, 1)\n(18446744073709551616, \"0..0\", 0)\n") == CALLPLAN_REFUSED_FROM_STATE);
+    CHECK(import_words(&other, "des (0, 1, 1)\n(0, \"0..0\", 1)\n") == CALLPLAN_REFUSED_TO_STATE);
+    CHECK(import_words(&other, "des (0, 1, 1)\n(0, \"1..0\", 1)\n") == CALLPLAN_REFUSED_TO_STATE);
+    CHECK(import_words(&other, "des (0, 1, 1)\n(0, \"0..0\", 18446744073709551616)\n") == CALLPLAN_REFUSED_TO_STATE);
     CHECK(import_words(&other, "des (0, 1, 1)\n(0, \"1..0\", 0)\n") == CALLPLAN_REFUSED_DURATION);
+    CHECK(import_words(&other, "des (0, 2, 1)\n(0, \"0..0\", 1)\n(1, \"0..0\", 0)\n") == CALLPLAN_REFUSED_TO_STATE);
+    CHECK(import_words(&other, "des (0, 2, 1)\n(0, \"1..0\", 0)\n(1, \"0..0\", 0)\n") == CALLPLAN_REFUSED_DURATION);
     CHECK(is_same_plan(&other, &before));
     CHECK(callplan_import(&other, buffer, P1_TEXT_OCTETS) == CALLPLAN_ACCEPTED);
     CHECK(callplan_states(&other) == 4 && callplan_transitions(&other) == 4);
@@ -413,7 +470,7 @@ static void lists(void)
     CHECK(is_same_plan(&plan, &before) && answers[0] == 9 && memcmp(&quotations, &blank, sizeof blank) == 0);
 
     CHECK(callplan_replay(&plan, 2, kinds, arguments, 5, NULL, 0, answers, &quotations) == CALLPLAN_ACCEPTED);
-    CHECK(answers[0] == CALLPLAN_ACCEPTED && answers[1] == CALLPLAN_REFUSED_STATE_NUMBER && answers[2] == CALLPLAN_ACCEPTED);
+    CHECK(answers[0] == CALLPLAN_ACCEPTED && answers[1] == CALLPLAN_REFUSED_TO_STATE && answers[2] == CALLPLAN_ACCEPTED);
     CHECK(answers[3] == CALLPLAN_ACCEPTED && answers[4] == CALLPLAN_ACCEPTED && answers[5] == 9);
     CHECK(callplan_states(&plan) == 2 && callplan_transitions(&plan) == 0 && callplan_marks(&plan, 1) == CALLPLAN_FINAL);
     CHECK(quotations.figures[CALLPLAN_LEAST_DELAY].kind == CALLPLAN_NONE);
@@ -479,6 +536,8 @@ static void words(void)
     CHECK(callplan_lent_version() == CALLPLAN_VERSION_NUMBER);
     CHECK(strcmp(callplan_answer_text(CALLPLAN_REFUSED_SPARE_BITS), "a pad or spare bit is set") == 0);
     CHECK(strcmp(callplan_answer_text(CALLPLAN_REFUSED_START_COUNT), "not exactly one state is marked start") == 0);
+    CHECK(strcmp(callplan_answer_text(CALLPLAN_REFUSED_FROM_STATE), "a transition's from is not below the state count") == 0);
+    CHECK(strcmp(callplan_answer_text(CALLPLAN_REFUSED_TO_STATE), "a transition's to is not below the state count") == 0);
     CHECK(strcmp(callplan_answer_text(CALLPLAN_ACCEPTED), "accepted") == 0);
 }
 
@@ -490,6 +549,7 @@ int main(void)
     CHECK(CALLPLAN_MAX_IMAGE_OCTETS == 4 + CALLPLAN_MAX_STATES + 5 * CALLPLAN_MAX_TRANSITIONS);
     edits();
     images();
+    wrong_ends();
     texts();
     quotations();
     open_highs();

@@ -1,5 +1,5 @@
 #!/usr/bin/env python3
-"""Compares callplan.h, and the declarations in Rust, with the Rattle sources: functions, refusals, constants, versions.
+"""Compares callplan.h, the declarations in Rust and the documents with the Rattle sources: functions, refusals, constants, versions.
 
 Then damages each text in memory, one damage at a time, and sees that the comparison notices. The last line is 'N passed, M failed'.
 """
@@ -38,6 +38,7 @@ FILES = {
     "launch": "programs/launch",
     "page": "docs/quote.1",
     "import page": "docs/callplan-import.1",
+    "rules page": "docs/RULES.md",
     "changes": "CHANGELOG.md",
 }
 C_TYPES = {"size_t": "usize", "uint8_t": "u8", "uint16_t": "u16", "uint32_t": "u32", "void": "()"}
@@ -135,6 +136,8 @@ def comparisons(t):
     yield "rust/callplan: the refusals by number", table, [(name, int(value)) for name, value, _ in listed]
     said = re.findall(r'case CALLPLAN_REFUSED_(\w+): return "([^"]*)";', t["header"])
     yield "what the refusals say, in C and in Rust", [(constant(name), text) for name, _, text in listed], said
+    page = between(t["rules page"], "\n## The table of refused calls\n", "\n## ")
+    yield "docs/RULES.md: the refusals by number", [value for _, value in table], [int(value) for value in re.findall(r"(?m)^\| (\d+) \|", page)]
     texts = re.findall(r"case CALLPLAN_(\w+): return", t["header"])
     yield "include/callplan.h: every answer says something", [name for name, _ in answers], texts
     yield "rust/callplan: accepted", accepted, number(t["crate"], r"const ACCEPTED: u32 = (\d+)")
@@ -240,7 +243,10 @@ DAMAGES = [
     ("numbers", "Refusal::Duration => 8", "Refusal::Duration => 9"),
     ("numbers", "Refusal::SpareBits => 6,", ""),
     ("numbers", "Refusal::TextForm => 15", "Refusal::TextForm => 14"),
+    ("numbers", "Refusal::FromState => 16", "Refusal::FromState => 17"),
+    ("numbers", "Refusal::ToState => 17", "Refusal::ToState => 7"),
     ("refusal", "number ListFull = 9", "number ListFull = 8"),
+    ("refusal", "number ToState = 17", "number ToState = 16"),
     ("refusal", "code (accepted a) = 256", "code (accepted a) = 512"),
     ("edits", "(r ≡ 255)", "(r ≡ 254)"),
     ("lent", "(r ≡ 255)", "(r ≡ 254)"),
@@ -284,6 +290,8 @@ DAMAGES = [
     ("header", "CALLPLAN_CALL_IMPORT = 4", "CALLPLAN_CALL_IMPORT = 5"),
     ("header", "const uint8_t *text, size_t text_len", "uint8_t *text, size_t text_len"),
     ("header", "CALLPLAN_REFUSED_START_COUNT = 14", "CALLPLAN_REFUSED_START_COUNT = 15"),
+    ("header", "CALLPLAN_REFUSED_FROM_STATE = 16", "CALLPLAN_REFUSED_FROM_STATE = 7"),
+    ("header", "CALLPLAN_REFUSED_TO_STATE = 17", "CALLPLAN_REFUSED_TO = 17"),
     ("header", "const size_t *arguments, size_t arguments_len,", "const size_t *arguments,"),
     ("header", "CALLPLAN_SLICES(plan), walks, 4 * CALLPLAN_MAX_STATES, out, 4 * 4)", "CALLPLAN_SLICES(plan), walks, 4, out, 4 * 4)"),
     ("header", "CALLPLAN_SHORT_SLICE = 255", "CALLPLAN_SHORT_SLICE = 254"),
@@ -321,16 +329,20 @@ DAMAGES = [
     ("archive", "callplan_lent_least_delay(", "callplan_lent_delay("),
     ("refusals", "(Refusal::SpareBits, 6,", "(Refusal::SpareBits, 16,"),
     ("refusals", "    ListFull,", "    Full,"),
+    ("refusals", "    FromState,\n", ""),
+    ("refusals", "Refusal::ToState,\n        17,", "Refusal::ToState,\n        16,"),
     ("refusals", '"a pad or spare bit is set"', '"a spare bit is set"'),
     ("header", 'return "the marks value is above 7"', 'return "the marks value is above 8"'),
+    ("header", "a transition's to is not below the state count\"", "a transition's from is not below the state count\""),
     ("header", '    case CALLPLAN_ACCEPTED: return "accepted";\n', ""),
-    ("header", "CALLPLAN_VERSION_NUMBER 4", "CALLPLAN_VERSION_NUMBER 5"),
-    ("binding", "r ≡ 400 ⌝", "r ≡ 401 ⌝"),
-    ("crate", "VERSION_NUMBER: u32 = 4", "VERSION_NUMBER: u32 = 5"),
+    ("header", "CALLPLAN_VERSION_NUMBER 5", "CALLPLAN_VERSION_NUMBER 6"),
+    ("binding", "r ≡ 500 ⌝", "r ≡ 501 ⌝"),
+    ("crate", "VERSION_NUMBER: u32 = 5", "VERSION_NUMBER: u32 = 6"),
     ("launch", "version=0", "version=1"),
     ("page", '"callplan 0', '"callplan 1'),
     ("import page", '"callplan 0', '"callplan 1'),
-    ("changes", "## 0.4", "## 0.5"),
+    ("rules page", "| 16 | join", "| 18 | join"),
+    ("changes", "## 0.5", "## 0.6"),
     ("proved", "value: u32,\n    ) -> u32", "value: u32,\n    ) -> u16"),
     ("proved", "walk_len: usize", "length: usize"),
     ("proved", "NO_CALLS: u32 = 254", "NO_CALLS: u32 = 253"),

@@ -49,8 +49,8 @@
 extern "C" {
 #endif
 
-#define CALLPLAN_VERSION "0.4.0"
-#define CALLPLAN_VERSION_NUMBER 400 /* 10,000 times the first number, 100 times the second, and the third */
+#define CALLPLAN_VERSION "0.5.0"
+#define CALLPLAN_VERSION_NUMBER 500 /* 10,000 times the first number, 100 times the second, and the third */
 
 #define CALLPLAN_MAX_STATES 512
 #define CALLPLAN_MAX_TRANSITIONS 2048
@@ -69,7 +69,7 @@ typedef enum callplan_answer {
     CALLPLAN_REFUSED_STATE_COUNT = 4,        /* 0, or above 512 */
     CALLPLAN_REFUSED_TRANSITION_COUNT = 5,   /* above 2,048 */
     CALLPLAN_REFUSED_SPARE_BITS = 6,         /* a pad or spare bit is set */
-    CALLPLAN_REFUSED_STATE_NUMBER = 7,       /* not below the state count */
+    CALLPLAN_REFUSED_STATE_NUMBER = 7,       /* of mark, or an initial state: not below the state count */
     CALLPLAN_REFUSED_DURATION = 8,           /* low above high, or high above 2,047 */
     CALLPLAN_REFUSED_LIST_FULL = 9,          /* the plan has 2,048 transitions already */
     CALLPLAN_REFUSED_TRANSITION_NUMBER = 10, /* not below the transition count */
@@ -78,6 +78,8 @@ typedef enum callplan_answer {
     CALLPLAN_REFUSED_FIGURE_SIZE = 13,       /* above 1,048,575: no plan within the limits has such a figure */
     CALLPLAN_REFUSED_START_COUNT = 14,       /* not exactly one state is marked start */
     CALLPLAN_REFUSED_TEXT_FORM = 15,         /* the text is off the form of Aldebaran text */
+    CALLPLAN_REFUSED_FROM_STATE = 16,        /* a transition's from is not below the state count */
+    CALLPLAN_REFUSED_TO_STATE = 17,          /* a transition's to is not below the state count */
     CALLPLAN_NO_CALLS = 254,                 /* of replay alone: an unknown kind, or octets of a read or import outside those that are lent */
     CALLPLAN_SHORT_SLICE = 255,              /* of the callplan_lent_ functions alone: the slices are too short to hold a plan */
     CALLPLAN_ACCEPTED = 256
@@ -222,6 +224,8 @@ static inline const char *callplan_answer_text(callplan_answer answer)
     case CALLPLAN_REFUSED_FIGURE_SIZE: return "a figure of the record is above 1,048,575";
     case CALLPLAN_REFUSED_START_COUNT: return "not exactly one state is marked start";
     case CALLPLAN_REFUSED_TEXT_FORM: return "the text is off the form of Aldebaran text";
+    case CALLPLAN_REFUSED_FROM_STATE: return "a transition's from is not below the state count";
+    case CALLPLAN_REFUSED_TO_STATE: return "a transition's to is not below the state count";
     case CALLPLAN_NO_CALLS: return "the slices are no list of calls";
     case CALLPLAN_SHORT_SLICE: return "the slices are too short to hold a plan";
     case CALLPLAN_ACCEPTED: return "accepted";
@@ -265,7 +269,7 @@ CALLPLAN_ANSWERS callplan_mark(callplan_plan *plan, size_t state, uint32_t value
 }
 
 /* Puts a transition at the end of the list. It takes from low to high seconds, or low or more where high is CALLPLAN_OPEN_HIGH.
- * Refused: PLAN_LIMITS, STATE_NUMBER, DURATION, LIST_FULL. */
+ * Refused: PLAN_LIMITS, FROM_STATE, TO_STATE, DURATION, LIST_FULL. */
 CALLPLAN_ANSWERS callplan_join(callplan_plan *plan, size_t from, size_t to, uint32_t low, uint32_t high)
 {
     return callplan_private_answer(callplan_lent_join(CALLPLAN_SLICES(plan), from, to, low, high));
@@ -282,7 +286,8 @@ CALLPLAN_ANSWERS callplan_unjoin(callplan_plan *plan, size_t number)
 
 /* Makes *plan the plan that the octets are the image of, in place of the one that it holds.
  * Refused: PLAN_LIMITS, of the plan that it holds; IMAGE_SHORT, of fewer than 4 octets; VERSION, STATE_COUNT, TRANSITION_COUNT;
- * SPARE_BITS, of the pad; IMAGE_SHORT, IMAGE_LONG; state by state SPARE_BITS; transition by transition STATE_NUMBER, DURATION. */
+ * SPARE_BITS, of the pad; IMAGE_SHORT, IMAGE_LONG; state by state SPARE_BITS; transition by transition FROM_STATE, TO_STATE,
+ * DURATION. */
 CALLPLAN_ANSWERS callplan_read(callplan_plan *plan, const uint8_t *octets, size_t length)
 {
     const uint8_t none = 0;
@@ -330,7 +335,7 @@ CALLPLAN_ANSWERS callplan_write(const callplan_plan *plan, uint8_t *buffer, size
 /* Makes *plan the plan that the text holds, in place of the one that it holds. The initial state is marked start, and nothing else is
  * marked. Exported, it is the same text again. The text is looked at as octets, and needs no 0 at its end.
  * Refused: PLAN_LIMITS, of the plan that it holds; TEXT_FORM, of the whole text, the number of its lines included; STATE_COUNT,
- * TRANSITION_COUNT; STATE_NUMBER, of the initial state; line by line STATE_NUMBER, DURATION. */
+ * TRANSITION_COUNT; STATE_NUMBER, of the initial state; line by line FROM_STATE, TO_STATE, DURATION. */
 CALLPLAN_ANSWERS callplan_import(callplan_plan *plan, const uint8_t *text, size_t length)
 {
     const uint8_t none = 0;

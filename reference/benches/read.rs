@@ -103,8 +103,11 @@ impl Baseline {
             let bits = u64::from_be_bytes([0, 0, 0, t[0], t[1], t[2], t[3], t[4]]);
             let (from, to) = ((bits >> 31) as u16, (bits >> 22 & 511) as u16);
             let (low, high) = ((bits >> 11 & 2047) as u16, (bits & 2047) as u16);
-            if usize::from(from) >= n || usize::from(to) >= n {
-                return 7;
+            if usize::from(from) >= n {
+                return 16;
+            }
+            if usize::from(to) >= n {
+                return 17;
             }
             if low > high {
                 return 8;

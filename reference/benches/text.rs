@@ -187,8 +187,10 @@ impl Baseline {
         while scanner.at < text.len() {
             let [from, low, high, to] = scanner.line()?;
             if answer == ACCEPTED {
-                if from >= n || to >= n {
-                    answer = 7;
+                if from >= n {
+                    answer = 16;
+                } else if to >= n {
+                    answer = 17;
                 } else if low > high || high > 2047 {
                     answer = 8;
                 }

@@ -6,7 +6,7 @@
 use std::cmp::Ordering;
 use std::str;
 
-use crate::plan::{Plan, Transition, MAX_TRANSITIONS};
+use crate::plan::{require_ends, Plan, Transition, MAX_TRANSITIONS};
 use crate::refusal::{require, Refusal};
 
 const START: u8 = 4;
@@ -51,7 +51,7 @@ pub fn decode(text: &[u8]) -> Result<Plan, Refusal> {
     )?;
     require(holding.initial < n, Refusal::StateNumber)?;
     for line in &holding.lines {
-        require(line.from < n && line.to < n, Refusal::StateNumber)?;
+        require_ends(line.from, line.to, n)?;
         let in_order = line.low <= line.high && line.high <= LONGEST_DURATION;
         require(in_order, Refusal::Duration)?;
     }

@@ -125,10 +125,19 @@ impl Transition {
 
     /// The limits of a transition in a plan of `n` states, in the order of join and read.
     pub(crate) fn require_limits(&self, n: usize) -> Result<(), Refusal> {
-        require(self.from < n && self.to < n, Refusal::StateNumber)?;
+        require_ends(self.from, self.to, n)?;
         require(
             self.low <= self.high && self.high <= MAX_DURATION,
             Refusal::Duration,
         )
+    }
+}
+
+/// "a bad from returns 16, then a bad to 17" (document 02, E3), for numbers of any sort.
+pub(crate) fn require_ends<N: Ord>(from: N, to: N, n: N) -> Result<(), Refusal> {
+    let columns = [(from, Refusal::FromState), (to, Refusal::ToState)];
+    match columns.into_iter().find(|(state, _)| *state >= n) {
+        Some((_, refusal)) => Err(refusal),
+        None => Ok(()),
     }
 }

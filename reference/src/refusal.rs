@@ -17,7 +17,7 @@ pub enum Refusal {
     TransitionCount = 5,
     /// A pad or spare bit is set.
     SpareBit = 6,
-    /// A state number is not below the state count.
+    /// The state to mark, or the initial state of a text, is not below the state count.
     StateNumber = 7,
     /// Low is above high, or high above 2,047.
     Duration = 8,
@@ -35,6 +35,10 @@ pub enum Refusal {
     StartCount = 14,
     /// The text is off the form of Aldebaran text.
     TextForm = 15,
+    /// A transition's from is not below the state count.
+    FromState = 16,
+    /// A transition's to is not below the state count.
+    ToState = 17,
 }
 
 impl Refusal {

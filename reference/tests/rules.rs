@@ -1,6 +1,7 @@
 //! The reference calculator by itself, held to the text of documents 01 and 02. Needs no proved
 //! library.
 
+mod ends;
 mod texts;
 mod vectors;
 
@@ -102,6 +103,8 @@ fn numbers_are_those_of_the_table() {
         Refusal::FigureSize,
         Refusal::StartCount,
         Refusal::TextForm,
+        Refusal::FromState,
+        Refusal::ToState,
     ];
     for (number, refusal) in (0..).zip(table) {
         assert_eq!(refusal.number(), number);
@@ -132,13 +135,19 @@ fn mark_refuses_the_state_before_the_value() {
 }
 
 #[test]
-fn join_refuses_states_then_durations_then_a_full_list() {
+fn join_refuses_from_then_to_then_durations_then_a_full_list() {
     let mut plan = p1();
-    assert_eq!(plan.join(transition(4, 0, 2, 1)), Err(Refusal::StateNumber));
-    assert_eq!(
-        plan.join(transition(0, 4, 0, 2048)),
-        Err(Refusal::StateNumber)
-    );
+    for from in [4, 5, 512, 1 << 16, 1 << 32, usize::MAX] {
+        for (to, low, high) in [(0, 1, 2), (0, 2, 1), (4, 1, 2), (4, 0, 2048)] {
+            let refused = plan.join(transition(from, to, low, high));
+            assert_eq!(refused, Err(Refusal::FromState));
+        }
+        // The same number as the to.
+        for (low, high) in [(1, 2), (2, 1), (0, 2048)] {
+            let refused = plan.join(transition(0, from, low, high));
+            assert_eq!(refused, Err(Refusal::ToState));
+        }
+    }
     assert_eq!(plan.join(transition(0, 0, 2, 1)), Err(Refusal::Duration));
     assert_eq!(plan.join(transition(0, 0, 0, 2048)), Err(Refusal::Duration));
     assert_eq!(plan, p1());
@@ -147,10 +156,48 @@ fn join_refuses_states_then_durations_then_a_full_list() {
         plan.join(transition(3, 3, 2047, 2047)).unwrap();
     }
     let full = plan.clone();
-    assert_eq!(plan.join(transition(0, 4, 2, 1)), Err(Refusal::StateNumber));
+    assert_eq!(plan.join(transition(4, 4, 2, 1)), Err(Refusal::FromState));
+    assert_eq!(plan.join(transition(4, 3, 1, 2)), Err(Refusal::FromState));
+    assert_eq!(plan.join(transition(0, 4, 2, 1)), Err(Refusal::ToState));
+    assert_eq!(plan.join(transition(0, 4, 1, 2)), Err(Refusal::ToState));
     assert_eq!(plan.join(transition(0, 3, 2, 1)), Err(Refusal::Duration));
     assert_eq!(plan.join(transition(0, 3, 1, 2)), Err(Refusal::ListFull));
     assert_eq!(plan, full);
+}
+
+/// "In join, read and import a bad from returns 16, then a bad to 17, both before 8".
+#[test]
+fn a_transition_is_refused_by_its_from_its_to_and_its_durations() {
+    for (transition, number) in ends::TRANSITIONS {
+        let mut plan = p1();
+        let refused = plan.join(transition).err().map(Refusal::number);
+        assert_eq!(refused, number, "{transition:?}");
+        assert_eq!(plan == p1(), number.is_some());
+    }
+}
+
+/// In read and import "transitions by number", whichever of their parts is wrong.
+#[test]
+fn the_first_wrong_transition_is_the_ground() {
+    for (plan, number) in ends::plans() {
+        assert_eq!(plan.within_limits(), number.is_none());
+        let image = encode(&plan);
+        let read = read_over_p1(&image).map_err(Refusal::number);
+        assert_eq!(read.err(), number, "{plan:?}");
+        let text = aldebaran::encode(&plan).unwrap();
+        let imported = aldebaran::decode(text.as_bytes()).map_err(Refusal::number);
+        assert_eq!(imported.err(), number, "{text}");
+
+        // A spare bit of any state comes before all transitions, and so does the initial state.
+        for state in 0..4 {
+            let mut octets = image.clone();
+            octets[4 + state] |= 1;
+            assert_refused(&octets, Refusal::SpareBit);
+        }
+        let text = text.replacen("des (0", "des (4", 1);
+        let imported = aldebaran::decode(text.as_bytes());
+        assert_eq!(imported, Err(Refusal::StateNumber), "{text}");
+    }
 }
 
 /// "A high of 2,047 shall mean no limit": open, whatever the low, and no other high is.
@@ -212,8 +259,8 @@ fn read_refuses_each_fault() {
     assert_refused(&p1_with(&[(4, 0x81)]), Refusal::SpareBit);
     assert_refused(&p1_with(&[(7, 0x50)]), Refusal::SpareBit);
     // The first transition's from becomes 4, the last one's to 7, the first one's high 0.
-    assert_refused(&p1_with(&[(8, 0x02)]), Refusal::StateNumber);
-    assert_refused(&p1_with(&[(24, 0x01), (25, 0xC0)]), Refusal::StateNumber);
+    assert_refused(&p1_with(&[(8, 0x02)]), Refusal::FromState);
+    assert_refused(&p1_with(&[(24, 0x01), (25, 0xC0)]), Refusal::ToState);
     assert_refused(&p1_with(&[(12, 0x00)]), Refusal::Duration);
 }
 
@@ -236,13 +283,22 @@ fn read_keeps_the_order_of_grounds() {
         &[p1_with(&[(4, 0x81)]), vec![0]].concat(),
         Refusal::ImageTooLong,
     );
-    // A spare bit of the last state and a bad state number in the first transition.
+    // A spare bit of the last state and a bad from, or a bad to, in the first transition.
     assert_refused(&p1_with(&[(7, 0x41), (8, 0x02)]), Refusal::SpareBit);
-    // One transition with a bad state number and bad durations.
-    assert_refused(&p1_with(&[(8, 0x02), (12, 0x00)]), Refusal::StateNumber);
-    // Bad durations in the first transition and a bad state number in the last, and the reverse.
+    assert_refused(&p1_with(&[(7, 0x41), (9, 0x01)]), Refusal::SpareBit);
+    // The first transition with a from of 4 and durations of 5..0, with a to of 5 and such
+    // durations, and with both ends bad.
+    assert_refused(&p1_with(&[(8, 0x02), (12, 0x00)]), Refusal::FromState);
+    assert_refused(&p1_with(&[(9, 0x01), (12, 0x00)]), Refusal::ToState);
+    assert_refused(&p1_with(&[(8, 0x02), (9, 0x01)]), Refusal::FromState);
+    // Bad durations in the first transition and a bad from or to in the last, and the reverse.
+    assert_refused(&p1_with(&[(12, 0x00), (23, 0x02)]), Refusal::Duration);
     assert_refused(&p1_with(&[(12, 0x00), (24, 0x01)]), Refusal::Duration);
-    assert_refused(&p1_with(&[(8, 0x02), (27, 0x00)]), Refusal::StateNumber);
+    assert_refused(&p1_with(&[(8, 0x02), (27, 0x00)]), Refusal::FromState);
+    assert_refused(&p1_with(&[(9, 0x01), (27, 0x00)]), Refusal::ToState);
+    // A bad to in the first transition and a bad from in the last, and the reverse.
+    assert_refused(&p1_with(&[(9, 0x01), (23, 0x02)]), Refusal::ToState);
+    assert_refused(&p1_with(&[(8, 0x02), (24, 0x01)]), Refusal::FromState);
 }
 
 #[test]

@@ -1,21 +1,21 @@
 -- The impostors of document 01's acceptance point 2: each one's answer breaks a demand. The figures of P1, and of P2 or P6 beside it, give away
 -- whoever does not look; a shown walk has the count that is quoted; a list of two marks gives away whoever obeys the first; the known octets
--- give away the rest.
+-- give away the rest. Then those of document 02's E3: a bad from, and a bad to, give away whoever tests them in another order, and read's list of numbers whoever still has 7.
 -- Assumes nothing.
-use mathlib.Core.Bool.{Bool, true, false}
+use mathlib.Core.Bool.{Bool, true, false, true≢false}
 use mathlib.Core.List.{List, [], _∷_, _++_}
 use mathlib.Core.Path.{_≡_, refl, sym, ap, ap₂, _∙_, subst}
-use Prim.Native.Nat.{ℕ}
+use Prim.Native.Nat.{ℕ, _≤_, _<_}
 use borrow.Author.Tests.{eqb-true, eqb-false}
 use native.Mathlib.Omega.{arith}
-use lib.Dec.{eqb}
+use lib.Dec.{leb, eqb}
 use lib.ListN.{length, getD, take, drop, replicate}
 use Rattle.field.specs.Field.{Octets}
 use Rattle.graph.specs.declared.Which.{Which}
 use Rattle.graph.specs.declared.Which.the-variants.{LeastDelay, GreatestDelay, LeastCount, GreatestCount}
 use Rattle.graph.specs.Compute.{any, figureFor}
 use Rattle.graph.specs.Figure.{Figure, number, NONE, STRANDED, ENDLESS, kind, value, Shown, costFor}
-use Rattle.graph.specs.Graph.{Graph, state, marksOf, start, final, counted, transition, from, to, low, high}
+use Rattle.graph.specs.Graph.{Graph, Transition, states, count, state, marksOf, start, final, counted, transition, from, to, low, high}
 use Rattle.graph.specs.Known.{Row, plan, join as to-join, P1, P2, P6}
 use Rattle.graph.specs.Route.{Route, number-on}
 use Rattle.graph.proofs.Sentences.{shown-count}
@@ -23,18 +23,21 @@ use Rattle.rules.specs.declared.Answer.the-variants.{Accepted, Refused}
 use Rattle.rules.specs.declared.Quotation.the-variants.{Quoted}
 use Rattle.rules.specs.declared.Quote.{Quote}
 use Rattle.rules.specs.declared.Refusal.{Refusal}
+use Rattle.rules.specs.declared.Refusal.the-variants.{StateNumber, Duration, ListFull, FromState, ToState}
 use Rattle.rules.specs.declared.Written.the-variants.{Length}
 use Rattle.rules.specs.Calls.{Call, mark, join, read, rowsOf, run, runFresh}
-use Rattle.rules.specs.Image.{image}
+use Rattle.rules.specs.Image.{image, transitionRows}
 use Rattle.rules.specs.Limits.{within, all, stateCountOk}
 use Rattle.rules.specs.Quotations.{meant}
-use Rattle.rules.specs.Refusal.{said}
+use Rattle.rules.specs.Refusal.{refused, said, code}
 use Rattle.rules.specs.Rules.{freshGraph}
-use Rattle.rules.specs.Table.{first}
+use Rattle.rules.specs.Table.{Row as TableRow, first}
 use Rattle.rules.proofs.Basic.{octets, image-of-plan, read-known}
+use Rattle.rules.proofs.Grounds.{bad-from, bad-to, holds-among, imageNumbers, read-among}
 use Rattle.rules.proofs.ReadWrite.{image-octets, length-image}
 use Rattle.rules.proofs.Results.{never}
 use Rattle.rules.proofs.Sizes.{figure-said}
+use Rattle.rules.proofs.Tables.{after-refused}
 use Rattle.plan.specs.declared.Edited.{Edited}
 use Rattle.plan.specs.declared.Plan.{Plan}
 use Rattle.plan.specs.View.{view}
@@ -266,3 +269,26 @@ module _ (c : Calculator) where
   pub turns-images-away : Demand1 c → {p : Plan} {e : Edited} (r : Refusal) → view p ≡ freshGraph 1 → c .edits p (read octets) e → e .answer ≡ Refused r → ⊥
   turns-images-away d {p} {e} r v x a =
       never tt r (ap said (sym a) ∙ d .by-number (edit x) ∙ ap (λ (g : Graph). first (rowsOf g (read octets))) v ∙ read-known)
+
+  -- ---- demand 1: which end was wrong (document 02, E3)
+
+  module _ (d : Demand1 c) where
+    -- the answer of a join is that of its transition's rows, where these refuse it
+    joined : {p : Plan} {t : Transition} {e : Edited} (r : Refusal) → within (view p) ≡ true → first (transitionRows (states (view p)) t) ≡ refused r
+        → c .edits p (join t) e → said (e .answer) ≡ refused r
+    joined {p} {t} r w h x =
+        let own : List TableRow = transitionRows (states (view p)) t in
+        d .by-number (edit x) ∙ rw w (after-refused own ((ListFull, leb 2048 (count (view p))) ∷ []) tt r h)
+
+    -- 17 before 16: a bad from, and 17
+    pub joins-17-first : {p : Plan} {t : Transition} {e : Edited} → within (view p) ≡ true → states (view p) ≤ t .from → c .edits p (join t) e → e .answer ≡ Refused ToState → ⊥
+    joins-17-first {p} {t} w h x a = let z : _≡_ {A = ℕ} 17 16 = ap code (ap said (sym a) ∙ joined FromState w (bad-from (states (view p)) t h) x) in omega arith
+
+    -- 8 before 17: a bad to, and 8
+    pub joins-8-first : {p : Plan} {t : Transition} {e : Edited} → within (view p) ≡ true → t .from < states (view p) → states (view p) ≤ t .to → c .edits p (join t) e
+        → e .answer ≡ Refused Duration → ⊥
+    joins-8-first {p} {t} w h k x a = let z : _≡_ {A = ℕ} 8 17 = ap code (ap said (sym a) ∙ joined ToState w (bad-to (states (view p)) t h k) x) in omega arith
+
+    -- a read that still answers 7, whatever it is given
+    pub reads-7 : {p : Plan} {os : List ℕ} {e : Edited} → c .edits p (read os) e → e .answer ≡ Refused StateNumber → ⊥
+    reads-7 {p} {os} x a = true≢false (sym (holds-among (0 ∷ imageNumbers) (rowsOf (view p) (read os)) StateNumber (read-among (view p) os) (d .only-grounds StateNumber (edit x) (ap said a))))

@@ -21,7 +21,7 @@ pub record StatesRead (os : List ℕ) (n : ℕ) (before after : List ℕ) (at : 
   pub all : r ≡ Accepted → at ≡ statePlace n
   pub most : at ≤ statePlace n
 
--- "then transitions by number, 7 before 8"
+-- "then transitions by number", 16, 17, 8
 pub record TransitionsRead (os : List ℕ) (n m : ℕ) (before after : Fields) (at : ℕ) (r : Answer) : Type 0 where
   pub answer : said r ≡ first (byNumber (λ i. transitionRows n (transitionAt os (transitionPlace n i))) 0 m)
   pub transitions : r ≡ Accepted → transitionsOf m (after .from) (after .to) (after .low) (after .high) ≡ tabulate m (λ i. transitionAt os (transitionPlace n i))

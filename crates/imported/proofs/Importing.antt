@@ -11,7 +11,7 @@ use mathlib.Core.Bool.{Bool, true, false, not, true≢false}
 use mathlib.Core.List.{List, [], _∷_, _++_}
 use mathlib.Core.Path.{_≡_, refl, sym, ap, ap₂, _∙_}
 use native.Mathlib.Omega.{arith}
-use borrow.Author.Tests.{ltb-true, ltb-false, leb-true, le-leb}
+use borrow.Author.Tests.{ltb-true, ltb-false, leb-true}
 use lib.Dec.{ltb, leb}
 use lib.ListN.{length, drop, getD, set, replicate, length-append, length-drop}
 use Rattle.text.specs.Text.{octets}
@@ -41,7 +41,7 @@ use Rattle.text_reading.specs.declared.First.{First}
 use Rattle.text_reading.specs.Forms.{firstNumbers}
 use Rattle.text_reading.proofs.Reading.{Told}
 use Rattle.imported.specs.Import.{Marked}
-use Rattle.scan.proofs.Cuts.{cut-below, cut-above, leb-cut, cut-is}
+use Rattle.scan.proofs.Cuts.{cut-below, cut-above, leb-cut, leb-not-cut, cut-is}
 
 -- ---- 1
 
@@ -57,16 +57,6 @@ count-cut n = go (ltb n many) refl
         let k = ltb-false n many e in
         let above : leb n 512 ≡ false = sym (leb-cut n 512 (omega arith)) ∙ ap (λ (x : ℕ). leb x 512) (cut-above n k) in
         ap stateCountOk (cut-above n k) ∙ sym (and-false (leb 1 n) (leb n 512) above)
-
--- against a number that is not cut off
-leb-not-cut : (a b : ℕ) → a < many → leb a (cut b) ≡ leb a b
-leb-not-cut a b h = go (ltb b many) refl
-  where
-    go : (c : Bool) → ltb b many ≡ c → leb a (cut b) ≡ leb a b
-    go true e = ap (leb a) (cut-below b (ltb-true b many e))
-    go false e =
-        let k = ltb-false b many e in
-        ap (leb a) (cut-above b k) ∙ le-leb a many (omega (arith, h)) ∙ sym (le-leb a b (omega (arith, h, k)))
 
 pub first-cut : (initial m n : ℕ) → first (firstRows (cut initial) (cut m) (cut n)) ≡ first (firstRows initial m n)
 first-cut initial m n =

@@ -51,5 +51,7 @@ pub fn number(refusal: Refusal) -> u32
         Refusal::FigureSize => 13,
         Refusal::StartCount => 14,
         Refusal::TextForm => 15,
+        Refusal::FromState => 16,
+        Refusal::ToState => 17,
     }
 }

@@ -98,6 +98,13 @@ pub run-in-turn : map code (runFresh 2 (join one-way ∷ unjoin 0 ∷ unjoin 0 �
 unfolding run within all
 run-in-turn = refl
 
+-- "number 7 remains for mark and for an import's initial state" (document 02, E3): in one list, a mark, three joins, a read and two imports
+pub run-ends : map code (runFresh 1 (mark 1 0 ∷ join (to-join 1 1 5 3) ∷ join (to-join 0 1 5 3) ∷ join (to-join 0 0 5 3) ∷ read (image (plan (4 ∷ []) (to-join 0 1 5 3 ∷ [])))
+    ∷ import (textOctets "des (1, 1, 1)\n(1, \"5..3\", 1)\n") ∷ import (textOctets "des (0, 1, 1)\n(1, \"5..3\", 1)\n") ∷ []) .answers)
+    ≡ 7 ∷ 16 ∷ 17 ∷ 8 ∷ 17 ∷ 7 ∷ 16 ∷ []
+unfolding run within all imageRows headerRows byNumber image imageFields fieldsOfEach pack octetsOf bitsOf bitsOfAll widthOfAll number fieldAt bits textOctets valueAfter value andThen readWord isDigit front isNumeral readNumber readForm firstForm lineForm readLines whole readText textRows holdingRows each
+run-ends = refl
+
 -- "and returns its length"
 pub write-length : writeRule (P1 .plan) (replicate 30 0) ≡ accepted 28
 unfolding writeRule within all
@@ -137,19 +144,21 @@ pub mark-7-12 : (answer (mark 1 8) ≡ 7) × (answer (mark 0 8) ≡ 12) × (answ
 unfolding within all
 mark-7-12 = (refl, refl, refl)
 
--- "In join: 7, 8, 9."
-pub join-7-8 : (answer (join (to-join 0 1 5 3)) ≡ 7) × (answer (join (to-join 0 0 5 3)) ≡ 8) × (answer (join (to-join 0 0 3 2048)) ≡ 8)
+-- "a bad from returns 16, then a bad to 17, both before 8" (document 02, E3): both ends bad, the from alone, the to alone, each with a low above its high; then that
+-- alone, and a high of 2,048
+pub join-16-17-8 : (answer (join (to-join 1 1 5 3)) ≡ 16) × (answer (join (to-join 1 0 5 3)) ≡ 16) × (answer (join (to-join 0 1 5 3)) ≡ 17)
+    × (answer (join (to-join 0 0 5 3)) ≡ 8) × (answer (join (to-join 0 0 3 2048)) ≡ 8)
 unfolding within all
-join-7-8 = (refl, refl, refl)
+join-16-17-8 = (refl, refl, refl, refl, refl)
 
--- a full list, and a transition from no state; a full list, and a low above its high; a full list alone
+-- "In join": 9 last. A full list, and a transition from no state; to no state; with a low above its high; and a full list alone
 abbrev full : Graph
 full = record { stateList = freshGraph 1 .stateList; transitions = replicate 2048 (to-join 0 0 1 1) }
 
-pub join-9 : (code (first (rowsOf full (join (to-join 1 0 1 1)))) ≡ 7) × (code (first (rowsOf full (join (to-join 0 0 5 3)))) ≡ 8)
-    × (code (first (rowsOf full (join (to-join 0 0 1 1)))) ≡ 9)
+pub join-9 : (code (first (rowsOf full (join (to-join 1 0 1 1)))) ≡ 16) × (code (first (rowsOf full (join (to-join 0 1 1 1)))) ≡ 17)
+    × (code (first (rowsOf full (join (to-join 0 0 5 3)))) ≡ 8) × (code (first (rowsOf full (join (to-join 0 0 1 1)))) ≡ 9)
 unfolding within all
-join-9 = (refl, refl, refl)
+join-9 = (refl, refl, refl, refl)
 
 pub unjoin-10 : answer (unjoin 0) ≡ 10
 unfolding within all
@@ -186,18 +195,22 @@ unfolding within all imageRows headerRows fieldAt bits bitsOf number
 read-2-6 = refl
 
 -- "then states by number, 6; then transitions": a spare bit of the state, and a transition to no state
-pub read-6-7 : answer (read (0x10 ∷ 0x04 ∷ 0x00 ∷ 0x40 ∷ 0x01 ∷ 0x00 ∷ 0x00 ∷ 0x40 ∷ 0x00 ∷ 0x00 ∷ [])) ≡ 6
+pub read-6-17 : answer (read (0x10 ∷ 0x04 ∷ 0x00 ∷ 0x40 ∷ 0x01 ∷ 0x00 ∷ 0x00 ∷ 0x40 ∷ 0x00 ∷ 0x00 ∷ [])) ≡ 6
 unfolding within all imageRows headerRows byNumber fieldAt bits bitsOf number
-read-6-7 = refl
+read-6-17 = refl
 
--- "transitions by number, 7 before 8": of one transition; and the first one's low above its high, the second one from no state
-pub read-7-8 : answer (read (image (plan (4 ∷ []) (to-join 0 1 5 3 ∷ [])))) ≡ 7
-unfolding within all imageRows headerRows byNumber image imageFields fieldsOfEach pack octetsOf bitsOf bitsOfAll widthOfAll number fieldAt bits
-read-7-8 = refl
+-- the number that an image of two states answers, by its transitions: "In .. read .. a bad from returns 16, then a bad to 17, both before 8", in the same four cases
+abbrev reads : List Transition → ℕ
+reads ts = answer (read (image (plan (4 ∷ 2 ∷ []) ts)))
 
-pub read-by-number : answer (read (image (plan (4 ∷ 2 ∷ []) (to-join 0 1 5 3 ∷ to-join 2 1 1 1 ∷ [])))) ≡ 8
+pub read-16-17-8 : (reads (to-join 2 2 5 3 ∷ []) ≡ 16) × (reads (to-join 2 1 5 3 ∷ []) ≡ 16) × (reads (to-join 0 2 5 3 ∷ []) ≡ 17) × (reads (to-join 0 1 5 3 ∷ []) ≡ 8)
 unfolding within all imageRows headerRows byNumber image imageFields fieldsOfEach pack octetsOf bitsOf bitsOfAll widthOfAll number fieldAt bits
-read-by-number = refl
+read-16-17-8 = (refl, refl, refl, refl)
+
+-- "transitions by number": the first one's low above its high, or the first one to no state, and the second one from no state
+pub read-by-number : (reads (to-join 0 1 5 3 ∷ to-join 2 1 1 1 ∷ []) ≡ 8) × (reads (to-join 0 2 1 1 ∷ to-join 2 1 1 1 ∷ []) ≡ 17)
+unfolding within all imageRows headerRows byNumber image imageFields fieldsOfEach pack octetsOf bitsOf bitsOfAll widthOfAll number fieldAt bits
+read-by-number = (refl, refl)
 
 -- ---- texts
 
@@ -221,19 +234,27 @@ pub import-15-count : (imports "des (0, 2, 2)\n(0, \"5..20\", 1)\n" ≡ 15) × (
 unfolding within all textOctets valueAfter value andThen readWord isDigit front isNumeral readNumber readForm firstForm lineForm readLines whole readText textRows holdingRows each
 import-15-count = (refl, refl, refl)
 
--- "4, 5, 7 for the initial state, and then 7 and 8 line by line": no state, too many lines and an initial state that is none; then without the first; then without the first two
+-- "4, 5, 7 for the initial state, and then" the lines': no state, too many lines and an initial state that is none, with lines from no state; then without the first; then
+-- without the first two; then the lines alone
 abbrev holding : ℕ → ℕ → List Transition → Holding
 holding initial n ts = record { initial = initial; states = n; transitions = ts }
 
-pub import-4-5-7 : (code (first (holdingRows (holding 1 0 (replicate 2049 (to-join 0 0 5 3))))) ≡ 4)
-    × (code (first (holdingRows (holding 1 1 (replicate 2049 (to-join 0 0 5 3))))) ≡ 5)
-    × (code (first (holdingRows (holding 1 1 (replicate 2048 (to-join 0 0 5 3))))) ≡ 7)
-    × (code (first (holdingRows (holding 0 1 (replicate 2048 (to-join 0 0 5 3))))) ≡ 8)
+pub import-4-5-7 : (code (first (holdingRows (holding 1 0 (replicate 2049 (to-join 1 1 5 3))))) ≡ 4)
+    × (code (first (holdingRows (holding 1 1 (replicate 2049 (to-join 1 1 5 3))))) ≡ 5)
+    × (code (first (holdingRows (holding 1 1 (replicate 2048 (to-join 1 1 5 3))))) ≡ 7)
+    × (code (first (holdingRows (holding 0 1 (replicate 2048 (to-join 1 1 5 3))))) ≡ 16)
 unfolding holdingRows each
 import-4-5-7 = (refl, refl, refl, refl)
 
--- of one line, 7 before 8; and the first line's low above its high, the second one from no state
-pub import-by-line : (code (first (holdingRows (holding 0 2 (to-join 2 0 5 3 ∷ [])))) ≡ 7) × (code (first (holdingRows (holding 0 2 (to-join 0 1 5 3 ∷ to-join 2 0 1 1 ∷ [])))) ≡ 8)
+-- the number that a text of two states answers, by its lines, in the same cases; and "line by line"
+abbrev lines : List Transition → ℕ
+lines ts = code (first (holdingRows (holding 0 2 ts)))
+
+pub import-16-17-8 : (lines (to-join 2 2 5 3 ∷ []) ≡ 16) × (lines (to-join 2 1 5 3 ∷ []) ≡ 16) × (lines (to-join 0 2 5 3 ∷ []) ≡ 17) × (lines (to-join 0 1 5 3 ∷ []) ≡ 8)
+unfolding holdingRows each
+import-16-17-8 = (refl, refl, refl, refl)
+
+pub import-by-line : (lines (to-join 0 1 5 3 ∷ to-join 2 0 1 1 ∷ []) ≡ 8) × (lines (to-join 0 2 1 1 ∷ to-join 2 1 1 1 ∷ []) ≡ 17)
 unfolding holdingRows each
 import-by-line = (refl, refl)
 

@@ -10,15 +10,16 @@ use lib.Dec.{leb}
 use lib.ListN.{length, take, drop, set, replicate, length-append, length-take, length-drop, length-set, length-replicate}
 use borrow.Author.Tests.{leb-true, leb-false}
 use Rattle.graph.specs.Graph.{Graph, Transition, marked, states, count}
+use Rattle.rules.specs.declared.Refusal.the-variants.{ListFull}
 use Rattle.rules.specs.Refusal.{Result, accepted, refused}
 use Rattle.rules.specs.Limits.{all, within, stateCountOk, marksOk, stateOk, transitionOk}
-use Rattle.rules.specs.Image.{imageRows, graphIn, readImage}
+use Rattle.rules.specs.Image.{transitionRows, imageRows, graphIn, readImage}
 use Rattle.rules.specs.Rules.{freshGraph, withMark, withTransition, without, next}
 use Rattle.rules.specs.Table.{NoneHolds}
 use Rattle.rules.specs.Aldebaran.{textRows, graphInText, importText}
 use Rattle.rules.specs.Calls.{Call, mark, join, unjoin, read, import, rowsOf, effectOf, step, run}
 use Rattle.rules.proofs.Results.{not-false, and-true, all-append, all-take, all-drop, all-set, all-replicate}
-use Rattle.rules.proofs.Tables.{accepted-where, accepted-only}
+use Rattle.rules.proofs.Tables.{accepted-where, accepted-only, none-append}
 use Rattle.rules.proofs.ReadWrite.{limited, within-limits, rows-ok, read-within}
 use Rattle.rules.proofs.ImportExport.{import-within}
 
@@ -52,9 +53,10 @@ effect-within g (mark state value) (w, (s, (v, u))) =
       each-state = all-set stateOk (g .stateList) state (marked value) (l .each-state) (not-false (marksOk value) v);
       each-transition = ap (λ (n : ℕ). all (transitionOk n) (g .transitions)) k ∙ l .each-transition;
     })
-effect-within g (join t) (w, (e, (d, (f, u)))) =
+effect-within g (join t) (w, grounds) =
     let l = limited g (not-false (within g) w) in
-    let room : count g < 2048 = leb-false 2048 (count g) f in
+    let (own, full) = none-append (transitionRows (states g) t) ((ListFull, leb 2048 (count g)) ∷ []) grounds in
+    let room : count g < 2048 = leb-false 2048 (count g) (full .0) in
     let k : length (g .transitions ++ (t ∷ [])) ≡ count g + 1 = length-append (g .transitions) (t ∷ []) in
     within-limits (withTransition g t)
     (record {
@@ -64,7 +66,7 @@ effect-within g (join t) (w, (e, (d, (f, u)))) =
       each-state = l .each-state;
       each-transition =
           all-append (transitionOk (states g)) (g .transitions) (t ∷ []) (l .each-transition)
-          (rw (rows-ok (states g) t (e, (d, tt))) refl);
+          (rw (rows-ok (states g) t own) refl);
     })
 effect-within g (unjoin number) (w, r) =
     let l = limited g (not-false (within g) w) in

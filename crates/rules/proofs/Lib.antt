@@ -10,6 +10,8 @@ pub mod ReadWrite
 pub mod Vectors
 -- A plan's text, both ways.
 pub mod ImportExport
+-- The grounds of a transition, and the numbers that calls given transitions can answer.
+pub mod Grounds
 -- What every call keeps, the figures of a plan within the limits, and the record.
 pub mod Kept
 pub mod Figures

@@ -13,7 +13,7 @@ use native.Mathlib.Omega.{arith}
 use lib.Dec.{leb, ltb, eqb}
 use lib.ListN.{length, getD, take, drop, take-append-drop, length-drop}
 use lib.Seq.{take-all, drop-drop, drop-at}
-use borrow.Author.Tests.{leb-true, ltb-true, ltb-false, eqb-true, le-leb, le-ltb}
+use borrow.Author.Tests.{leb-true, leb-false, ltb-true, ltb-false, eqb-true, le-leb, lt-leb, lt-ltb, le-ltb}
 use Rattle.graph.specs.Graph.{Graph, State, Transition, marked, states, count}
 use Rattle.field.specs.Field.{Field, AllFit, Octets, fieldAt, bits, bitsOfAll, widthOfAll, unpack, putAll}
 use Rattle.field.proofs.Bits.{length-bits}
@@ -179,11 +179,14 @@ bounded n t h =
 -- and so do its rows
 pub ok-rows : (n : ℕ) (t : Transition) → transitionOk n t ≡ true → NoneHolds (transitionRows n t)
 ok-rows n t h =
-    let p = and-true (endsOk n t) (durationsOk t) h in
-    (ap not (p .0), (ap not (p .1), tt))
+    let b = bounded n t h in
+    (lt-leb n (t .from) (b .from), (lt-leb n (t .to) (b .to), (ap not (and-true (endsOk n t) (durationsOk t) h .1), tt)))
 
 pub rows-ok : (n : ℕ) (t : Transition) → NoneHolds (transitionRows n t) → transitionOk n t ≡ true
-rows-ok n t h = both-true (endsOk n t) (durationsOk t) (not-false (endsOk n t) (h .0)) (not-false (durationsOk t) (h .1 .0))
+rows-ok n t (source, (target, (durations, u))) =
+    both-true (endsOk n t) (durationsOk t)
+    (both-true (ltb (t .from) n) (ltb (t .to) n) (lt-ltb (t .from) n (leb-false n (t .from) source)) (lt-ltb (t .to) n (leb-false n (t .to) target)))
+    (not-false (durationsOk t) durations)
 
 -- its fields fit their widths
 pub transition-fits : (n : ℕ) (t : Transition) → n ≤ 512 → transitionOk n t ≡ true → AllFit (transitionFields t)

@@ -28,7 +28,7 @@ planOf h = record { stateList = statesFrom (h .states) (h .initial); transitions
 abbrev pub firstRows : ℕ → ℕ → ℕ → List Row
 firstRows initial m n = (StateCount, not (stateCountOk n)) ∷ (TransitionCount, not (transitionCountOk m)) ∷ (StateNumber, leb n initial) ∷ []
 
--- those, "and then 7 and 8 line by line"
+-- those, "and then" the transitions' "line by line", 16, 17, 8
 unfoldable pub holdingRows : Holding → List Row
 holdingRows h =
     firstRows (h .initial) (length (h .transitions)) (h .states) ++ each (transitionRows (h .states)) (h .transitions)

@@ -2,15 +2,15 @@
 use mathlib.Core.Bool.{not}
 use mathlib.Core.List.{List, [], _∷_, _++_}
 use Prim.Native.Nat.{ℕ, zero, suc, _+_, _*_}
-use lib.Dec.{ltb, eqb}
+use lib.Dec.{leb, ltb, eqb}
 use lib.ListN.{length}
 use Rattle.graph.specs.Graph.{Graph, State, Transition, marked, states, count, startBit, finalBit, countedBit, marksFrom}
 use Rattle.field.specs.Field.{Field, fieldAt, pack}
 use Rattle.rules.specs.declared.Refusal.the-variants.{ImageShort, ImageLong, Version, StateCount, TransitionCount}
-use Rattle.rules.specs.declared.Refusal.the-variants.{SpareBits, StateNumber, Duration}
+use Rattle.rules.specs.declared.Refusal.the-variants.{SpareBits, Duration, FromState, ToState}
 use Rattle.rules.specs.Refusal.{Result}
 use Rattle.rules.specs.Table.{Row, byTable, byNumber}
-use Rattle.rules.specs.Limits.{stateCountOk, transitionCountOk, endsOk, durationsOk}
+use Rattle.rules.specs.Limits.{stateCountOk, transitionCountOk, durationsOk}
 
 -- the list of f 0 up to f (n - 1)
 unfoldable pub tabulate : {A : Type 0} → ℕ → (ℕ → A) → List A
@@ -151,11 +151,11 @@ headerRows os =
 abbrev pub stateRows : List ℕ → ℕ → List Row
 stateRows os i = (SpareBits, not (eqb (spareAt os (statePlace i)) 0)) ∷ []
 
--- a transition of a plan with n states: "7 before 8"
+-- a transition of a plan with n states: "In join, read and import a bad from returns 16, then a bad to 17, both before 8" (document 02, E3)
 abbrev pub transitionRows : ℕ → Transition → List Row
-transitionRows n t = (StateNumber, not (endsOk n t)) ∷ (Duration, not (durationsOk t)) ∷ []
+transitionRows n t = (FromState, leb n (t .from)) ∷ (ToState, leb n (t .to)) ∷ (Duration, not (durationsOk t)) ∷ []
 
--- the header, "then states by number, 6; then transitions by number, 7 before 8"
+-- the header, "then states by number, 6; then transitions by number", 16, 17, 8
 unfoldable pub imageRows : List ℕ → List Row
 imageRows os =
     headerRows os

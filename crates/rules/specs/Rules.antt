@@ -51,14 +51,14 @@ freshRows n = (StateCount, not (stateCountOk n)) ∷ []
 unfoldable pub freshRule : ℕ → Result Graph
 freshRule n = byTable (freshRows n) (freshGraph n)
 
--- "In mark: 7, 12", of n states
+-- "In mark: 7, 12", of n states; "number 7 remains for mark and for an import's initial state" (document 02, E3)
 abbrev pub markGrounds : ℕ → ℕ → ℕ → List Row
 markGrounds n state value = (StateNumber, leb n state) ∷ (MarksValue, not (marksOk value)) ∷ []
 
 abbrev pub markRows : Graph → ℕ → ℕ → List Row
 markRows g state value = limitRow g ∷ markGrounds (states g) state value
 
--- "In join: 7, 8, 9", of n states and m transitions
+-- "In join": the transition's, 16, 17, 8, and then 9, of n states and m transitions
 abbrev pub joinGrounds : ℕ → ℕ → Transition → List Row
 joinGrounds n m t = transitionRows n t ++ ((ListFull, leb 2048 m) ∷ [])
 

@@ -16,7 +16,7 @@ pub enum Refusal {
     TransitionCount,
     // a pad or spare bit set
     SpareBits,
-    // a state number not below n
+    // a state number not below n: of mark, or an initial state
     StateNumber,
     // low above high, or high above 2,047
     Duration,
@@ -34,6 +34,10 @@ pub enum Refusal {
     StartCount,
     // text off the form
     TextForm,
+    // a transition's from not below n
+    FromState,
+    // a transition's to not below n
+    ToState,
 }
 
 // What the octets that replace a plan are: its image, which is read, or its text, which is imported.

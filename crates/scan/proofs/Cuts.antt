@@ -4,7 +4,7 @@ use Prim.Native.Nat.{ℕ, _≤_, _<_}
 use mathlib.Core.Bool.{Bool, true, false}
 use mathlib.Core.Path.{_≡_, refl, sym, ap, _∙_}
 use native.Mathlib.Omega.{arith}
-use borrow.Author.Tests.{ltb-true, ltb-false, lt-ltb, le-ltb, lt-leb}
+use borrow.Author.Tests.{ltb-true, ltb-false, lt-ltb, le-ltb, le-leb, lt-leb}
 use lib.Dec.{ltb, leb}
 use Rattle.scan.specs.Places.{many, cut}
 
@@ -21,15 +21,6 @@ cut-is v h = go (ltb v many) refl
     go true e = cut-below v (ltb-true v many e)
     go false e = absurd (omega (arith, h, cut-above v (ltb-false v many e)))
 
-pub ltb-cut : (v n : ℕ) → n ≤ many → ltb (cut v) n ≡ ltb v n
-ltb-cut v n h = go (ltb v many) refl
-  where
-    go : (b : Bool) → ltb v many ≡ b → ltb (cut v) n ≡ ltb v n
-    go true e = ap (λ (x : ℕ). ltb x n) (cut-below v (ltb-true v many e))
-    go false e =
-        let k = ltb-false v many e in
-        ap (λ (x : ℕ). ltb x n) (cut-above v k) ∙ le-ltb many n h ∙ sym (le-ltb v n (omega arith))
-
 pub leb-cut : (v n : ℕ) → n < many → leb (cut v) n ≡ leb v n
 leb-cut v n h = go (ltb v many) refl
   where
@@ -38,3 +29,13 @@ leb-cut v n h = go (ltb v many) refl
     go false e =
         let k = ltb-false v many e in
         ap (λ (x : ℕ). leb x n) (cut-above v k) ∙ lt-leb many n h ∙ sym (lt-leb v n (omega arith))
+
+-- and so does one of a smaller number against it
+pub leb-not-cut : (n v : ℕ) → n ≤ many → leb n (cut v) ≡ leb n v
+leb-not-cut n v h = go (ltb v many) refl
+  where
+    go : (b : Bool) → ltb v many ≡ b → leb n (cut v) ≡ leb n v
+    go true e = ap (leb n) (cut-below v (ltb-true v many e))
+    go false e =
+        let k = ltb-false v many e in
+        ap (leb n) (cut-above v k) ∙ le-leb n many h ∙ sym (le-leb n v (omega arith))

@@ -22,10 +22,10 @@ use Rattle.scan.specs.Places.{Sound, cut}
 use Rattle.rules.specs.declared.Answer.{Answer}
 use Rattle.rules.specs.declared.Answer.the-variants.{Accepted, Refused}
 use Rattle.rules.specs.Image.{tabulate, transitionRows}
-use Rattle.rules.specs.Limits.{endsOk, durationsOk}
+use Rattle.rules.specs.Limits.{durationsOk}
 use Rattle.rules.specs.Refusal.{Result, accepted, refused, said}
 use Rattle.rules.specs.Table.{Row, first, each}
-use Rattle.scan.proofs.Cuts.{cut-below, cut-is, ltb-cut, leb-cut}
+use Rattle.scan.proofs.Cuts.{cut-below, cut-is, leb-cut, leb-not-cut}
 use Rattle.rules.proofs.Results.{never, and-false, accepted-answer}
 use Rattle.rules.proofs.ReadWrite.{bounded, rows-ok}
 use Rattle.rules.proofs.Tables.{accepted-only}
@@ -84,8 +84,7 @@ durations-cut t = go (leb (t .high) 2047) refl
 
 pub rows-cut : (n : ℕ) (t : Transition) → n ≤ 512 → transitionRows n (cutAll t) ≡ transitionRows n t
 rows-cut n t h =
-    let ends : endsOk n (cutAll t) ≡ endsOk n t = ap₂ _&&_ (ltb-cut (t .from) n (omega arith)) (ltb-cut (t .to) n (omega arith)) in
-    rw (ends, durations-cut t) refl
+    rw (leb-not-cut n (t .from) (omega arith), leb-not-cut n (t .to) (omega arith), durations-cut t) refl
 
 pub not-cut : (n : ℕ) (t : Transition) → n ≤ 512 → first (transitionRows n (cutAll t)) ≡ accepted tt → cutAll t ≡ t
 not-cut n t h e =

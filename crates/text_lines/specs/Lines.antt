@@ -1,4 +1,4 @@
--- What reading lines promises. Document 02, E1: "and then 7 and 8 line by line". Assumes nothing.
+-- What reading lines promises. Document 02, E1: the grounds "line by line", which E3 numbers 16, 17, 8. Assumes nothing.
 use Prim.Native.Nat.{ℕ, _≤_}
 use mathlib.Core.Bool.{true, false}
 use mathlib.Core.List.{List}

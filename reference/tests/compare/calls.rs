@@ -41,8 +41,9 @@ pub fn run_list(rng: &mut Rng, tally: &mut Tally) -> Pair {
     let mut pair = Pair::fresh(rng, n);
     let step = |rng: &mut Rng, pair: &mut Pair, tally: &mut Tally| {
         let call = generate::call(rng, pair);
+        let n = pair.plan().marks.len();
         let answer = pair.run(&call);
-        tally.add(call.name(), answer);
+        tally.add_call(&call, n, answer);
     };
 
     // Some lists go on from an almost full plan, so that joins meet the end of the list.

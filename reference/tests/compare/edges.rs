@@ -5,6 +5,7 @@ use reference::proved::{LentPlan, ACCEPTED, COUNTS, FIELDS, MARKS, SHORT_SLICE};
 use reference::rng::Rng;
 use reference::{Plan, Transition, MAX_STATES, MAX_TRANSITIONS};
 
+use crate::ends;
 use crate::generate::{self, put};
 use crate::pair::{Call, Pair};
 use crate::texts::P1_TEXT;
@@ -70,8 +71,10 @@ fn state_counts() {
         assert_eq!(pair.run(&Call::Mark(n - 1, 7)), ACCEPTED);
         assert_eq!(pair.run(&Call::Mark(n, 7)), 7);
         assert_eq!(pair.run(&join(n - 1, 0, 0, 0)), ACCEPTED);
-        assert_eq!(pair.run(&join(n, 0, 0, 0)), 7);
-        assert_eq!(pair.run(&join(0, n, 0, 0)), 7);
+        assert_eq!(pair.run(&join(0, n - 1, 0, 0)), ACCEPTED);
+        assert_eq!(pair.run(&join(n, 0, 0, 0)), 16);
+        assert_eq!(pair.run(&join(0, n, 0, 0)), 17);
+        assert_eq!(pair.run(&join(n, n, 0, 0)), 16);
     }
 
     // The same in an image: 512 states, and 513 of the right length.
@@ -96,8 +99,10 @@ fn transition_counts() {
         );
     }
     assert_eq!(pair.run(&join(0, 0, 0, 0)), 9);
-    assert_eq!(pair.run(&join(512, 0, 0, 0)), 7);
-    assert_eq!(pair.run(&join(0, 512, 0, 0)), 7);
+    assert_eq!(pair.run(&join(512, 0, 0, 0)), 16);
+    assert_eq!(pair.run(&join(512, 512, 1, 0)), 16);
+    assert_eq!(pair.run(&join(0, 512, 0, 0)), 17);
+    assert_eq!(pair.run(&join(0, 512, 1, 0)), 17);
     assert_eq!(pair.run(&join(0, 0, 1, 0)), 8);
 
     // The largest image, and one with a transition more.
@@ -122,6 +127,31 @@ fn transition_counts() {
         assert_eq!(pair.run(&Call::Unjoin(number)), ACCEPTED);
     }
     assert_eq!(pair.run(&Call::Unjoin(0)), 10);
+}
+
+/// A join with a wrong from, a wrong to, wrong durations, or several of these. Some of the states are
+/// good ones in fewer bits.
+#[test]
+fn ends_and_durations() {
+    let mut rng = Rng::of_test("ends_and_durations", SEED);
+    let mut pair = p1(&mut rng);
+    let few_bits = [1 << 9, 1 << 16, 1 << 32, (1 << 32) + 1, 1 << 63];
+    for state in few_bits.into_iter().chain([4, 5, 511, usize::MAX]) {
+        for (low, high) in [(3, 5), (5, 3), (0, 2048), (u32::MAX, 0)] {
+            for other in [0, 3, 4, state, usize::MAX] {
+                let answer = pair.run(&join(state, other, low, high));
+                assert_eq!(answer, 16, "{state} to {other}, {low}..{high}");
+            }
+            for from in [0, 3] {
+                let answer = pair.run(&join(from, state, low, high));
+                assert_eq!(answer, 17, "{from} to {state}, {low}..{high}");
+            }
+        }
+    }
+    for (transition, number) in ends::TRANSITIONS {
+        let answer = pair.run(&Call::Join(transition));
+        assert_eq!(answer, number.unwrap_or(ACCEPTED), "{transition:?}");
+    }
 }
 
 #[test]
@@ -267,7 +297,8 @@ fn values_past_the_counts() {
         (Call::Mark(3, 7), ACCEPTED),
         (Call::Mark(4, 7), 7),
         (join(3, 3, 0, 0), ACCEPTED),
-        (join(3, 4, 0, 0), 7),
+        (join(4, 3, 0, 0), 16),
+        (join(3, 4, 0, 0), 17),
         (Call::Unjoin(3), ACCEPTED),
         (Call::Unjoin(4), 10),
         (Call::Read(P1.to_vec()), ACCEPTED),
@@ -360,8 +391,8 @@ fn unjoin_at_every_place() {
     }
 }
 
-/// The version of the archive, 0.4.0.
+/// The version of the archive, 0.5.0.
 #[test]
 fn the_library_says_its_version() {
-    assert_eq!(reference::proved::version(), 400);
+    assert_eq!(reference::proved::version(), 500);
 }

@@ -7,6 +7,7 @@ use reference::{Plan, Transition, MAX_STATES, MAX_TRANSITIONS};
 
 use crate::pair::{Call, Pair};
 use crate::texts::Numerals;
+use crate::wrong::WAYS;
 
 /// A number of states and a number of transitions, mostly small, sometimes at the limits.
 fn size(rng: &mut Rng) -> (usize, usize) {
@@ -159,15 +160,18 @@ fn damage(rng: &mut Rng, octets: &mut Vec<u8>) {
             let state = rng.below(n);
             put(octets, spare_at(state) + rng.below(5), 1, 1);
         }
-        // Transitions: a bad from or to, or a low above the high.
-        7..=8 if whole && m > 0 => {
-            let at = transition_at(n, rng.below(m)) + rng.pick(&[0, 9]);
-            put(octets, at, 9, rng.pick(&[n, n + 1, 511]));
-        }
-        9 if whole && m > 0 => {
+        7..=9 if whole && m > 0 => {
             let at = transition_at(n, rng.below(m));
-            let high = get(octets, at + 29, 11);
-            put(octets, at + 18, 11, rng.pick(&[high + 1, 2047]));
+            let [from, to, durations] = rng.pick(&WAYS);
+            for (end, is_wrong) in [(at, from), (at + 9, to)] {
+                if is_wrong {
+                    put(octets, end, 9, rng.pick(&[n, n + 1, 511]));
+                }
+            }
+            if durations {
+                let high = get(octets, at + 29, 11);
+                put(octets, at + 18, 11, rng.pick(&[high + 1, 2047]));
+            }
         }
         10 => truncate(rng, octets),
         _ => extend(rng, octets),
@@ -193,7 +197,10 @@ pub fn text(rng: &mut Rng) -> Vec<u8> {
         1..=3 => numerals.text().into_bytes(),
         4..=6 => {
             for _ in 0..rng.between(1, 2) {
-                alter_numeral(rng, &mut numerals);
+                match rng.below(3) {
+                    0 => spoil_line(rng, &mut numerals),
+                    _ => alter_numeral(rng, &mut numerals),
+                }
             }
             numerals.text().into_bytes()
         }
@@ -264,6 +271,26 @@ fn alter_numeral(rng: &mut Rng, numerals: &mut Numerals) {
     }
 }
 
+/// Makes a line wrong in its from, in its to, in its durations, or in several of these.
+fn spoil_line(rng: &mut Rng, numerals: &mut Numerals) {
+    let n = numerals.states.parse().unwrap_or(1).min(MAX_STATES + 1);
+    let number = rng.below(numerals.lines.len().max(1));
+    let Some([from, low, high, to]) = numerals.lines.get_mut(number) else {
+        return;
+    };
+    let wrong = rng.pick(&WAYS);
+    for (end, is_wrong) in [(from, wrong[0]), (to, wrong[1])] {
+        match rng.below(4) {
+            _ if !is_wrong => {}
+            0 => *end = long_numeral(rng),
+            _ => *end = past(rng, n).to_string(),
+        }
+    }
+    if wrong[2] {
+        [*low, *high] = wrong_durations(rng).map(|seconds| seconds.to_string());
+    }
+}
+
 /// A numeral of up to 400 digits that a word does not hold, or just holds.
 fn long_numeral(rng: &mut Rng) -> String {
     let power: u128 = 1 << rng.pick(&[16, 32, 63, 64, 127]);
@@ -321,7 +348,7 @@ fn spare_at(state: usize) -> usize {
     8 * (4 + state) + 3
 }
 
-fn transition_at(n: usize, number: usize) -> usize {
+pub fn transition_at(n: usize, number: usize) -> usize {
     8 * (4 + n) + 40 * number
 }
 
@@ -334,7 +361,7 @@ fn put_transition(octets: &mut [u8], n: usize, number: usize, transition: Transi
 }
 
 /// The field of `width` bits at bit position `at`.
-fn get(octets: &[u8], at: usize, width: usize) -> usize {
+pub fn get(octets: &[u8], at: usize, width: usize) -> usize {
     (at..at + width).fold(0, |value, bit| {
         2 * value + usize::from(octets[bit / 8] >> (7 - bit % 8) & 1)
     })
@@ -367,6 +394,25 @@ fn about(rng: &mut Rng, bound: usize) -> usize {
     }
 }
 
+/// A number that is not below `bound`, which is small. Some are below it in fewer bits.
+fn past(rng: &mut Rng, bound: usize) -> usize {
+    match rng.below(4) {
+        0 => bound,
+        1 => bound + 1 + rng.below(3),
+        2 => (1 << rng.pick(&[16, 32, 63])) + rng.below(bound.max(1)),
+        _ => usize::MAX,
+    }
+}
+
+/// A low above its high, or a high above 2,047.
+fn wrong_durations(rng: &mut Rng) -> [usize; 2] {
+    let seconds = rng.below(2048);
+    match rng.below(2) {
+        0 => [seconds + 1, seconds],
+        _ => [seconds, past(rng, 2048)],
+    }
+}
+
 fn about_32(rng: &mut Rng, bound: usize) -> u32 {
     about(rng, bound).min(u32::MAX as usize) as u32
 }
@@ -389,6 +435,20 @@ pub fn call(rng: &mut Rng, pair: &Pair) -> Call {
 
 fn join(rng: &mut Rng, n: usize) -> Transition {
     let mut transition = transition(rng, n.max(1));
+    if rng.one_in(8) {
+        let [from, to, durations] = rng.pick(&WAYS);
+        if from {
+            transition.from = past(rng, n);
+        }
+        if to {
+            transition.to = past(rng, n);
+        }
+        if durations {
+            let seconds = wrong_durations(rng).map(|seconds| seconds.min(u32::MAX as usize) as u32);
+            [transition.low, transition.high] = seconds;
+        }
+        return transition;
+    }
     if rng.one_in(4) {
         transition.from = about(rng, n);
     }

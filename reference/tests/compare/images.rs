@@ -4,6 +4,7 @@ use reference::image::{decode, encode};
 use reference::proved::ACCEPTED;
 use reference::rng::{Case, Rng};
 
+use crate::ends;
 use crate::generate::{self, put};
 use crate::pair::{Call, Pair};
 use crate::tally::Tally;
@@ -36,10 +37,12 @@ fn random_images() {
 /// Reads the image on both, and makes a plan of it alone. An accepted one must be written back as it
 /// was.
 fn read(pair: &mut Pair, octets: &[u8], tally: &mut Tally) {
-    let made = pair.clone().run(&Call::FromImage(octets.to_vec()));
-    tally.add("from_image", made);
-    let answer = pair.run(&Call::Read(octets.to_vec()));
-    tally.add("read", answer);
+    let n = pair.plan().marks.len();
+    let make = Call::FromImage(octets.to_vec());
+    tally.add_call(&make, n, pair.clone().run(&make));
+    let read = Call::Read(octets.to_vec());
+    let answer = pair.run(&read);
+    tally.add_call(&read, n, answer);
     if answer == ACCEPTED {
         assert!(encode(pair.plan()) == octets, "{octets:02X?}");
         let written = pair.run(&Call::Write(vec![0xAA; octets.len() + 2]));
@@ -92,6 +95,25 @@ fn every_value_of_each_body_field() {
             let answer = pair.run(&Call::Read(octets));
             assert_eq!(answer == ACCEPTED, accepted);
         }
+    }
+}
+
+/// Images with one or two wrong transitions, each wrong in every way.
+#[test]
+fn wrong_transitions() {
+    let mut rng = Rng::of_test("wrong_transitions", SEED);
+    for (plan, number) in ends::plans() {
+        let octets = encode(&plan);
+        let answer = number.unwrap_or(ACCEPTED);
+        for call in [Call::Read(octets.clone()), Call::FromImage(octets.clone())] {
+            let mut pair = Pair::fresh(&mut rng, 5);
+            assert_eq!(pair.run(&call), answer, "{plan:?}");
+        }
+        // A spare bit of the last state comes before.
+        let mut octets = octets;
+        octets[7] |= 1;
+        let mut pair = Pair::fresh(&mut rng, 5);
+        assert_eq!(pair.run(&Call::Read(octets)), 6, "{plan:?}");
     }
 }
 

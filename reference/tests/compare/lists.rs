@@ -75,8 +75,9 @@ fn make(rng: &mut Rng, n: usize, tally: &mut Tally) -> Made {
             continue;
         }
         push(rng, &mut calls, &call);
+        let n = pair.plan().marks.len();
         let answer = pair.run(&call);
-        tally.add(call.name(), answer);
+        tally.add_call(&call, n, answer);
         answers.push(answer);
         lent.hold(pair.plan());
     }
@@ -129,7 +130,7 @@ fn whole_lists_of_calls() {
     answers.remove(&Refusal::ListFull.number());
     assert!(answers
         .into_iter()
-        .eq([1, 2, 3, 4, 5, 6, 7, 8, 10, 12, 15, ACCEPTED]));
+        .eq([1, 2, 3, 4, 5, 6, 7, 8, 10, 12, 15, 16, 17, ACCEPTED]));
 }
 
 /// Every text at the edges, imported in one list: first without its last octet, which is a part of

@@ -2,6 +2,8 @@
 
 mod calls;
 mod edges;
+#[path = "../ends/mod.rs"]
+mod ends;
 mod generate;
 mod images;
 #[cfg(feature = "quotations")]
@@ -18,3 +20,4 @@ mod text;
 mod texts;
 #[path = "../vectors/mod.rs"]
 mod vectors;
+mod wrong;

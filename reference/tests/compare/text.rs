@@ -7,6 +7,7 @@ use reference::rng::{Case, Rng};
 use reference::{Plan, Refusal, MAX_STATES, MAX_TRANSITIONS};
 
 use crate::edges::p1;
+use crate::ends;
 use crate::generate;
 use crate::pair::{Call, Pair};
 use crate::tally::Tally;
@@ -33,6 +34,13 @@ fn import_and_back(pair: &mut Pair, text: &[u8]) -> u32 {
     answer
 }
 
+/// The same, counted.
+fn import_and_count(pair: &mut Pair, text: &[u8], tally: &mut Tally) {
+    let n = pair.plan().marks.len();
+    let answer = import_and_back(pair, text);
+    tally.add_call(&Call::Import(text.to_vec()), n, answer);
+}
+
 #[test]
 fn texts_at_the_edges() {
     let mut rng = Rng::of_test("texts_at_the_edges", SEED);
@@ -41,6 +49,21 @@ fn texts_at_the_edges() {
         let shown = String::from_utf8_lossy(&text[..text.len().min(120)]);
         let answered = import_and_back(&mut good.clone(), &text);
         assert_eq!(answered, answer, "{shown:?}");
+    }
+}
+
+/// Texts with one or two wrong lines, each wrong in every way.
+#[test]
+fn wrong_lines() {
+    let mut rng = Rng::of_test("wrong_lines", SEED);
+    for (plan, number) in ends::plans() {
+        let text = encode(&plan).expect("it has one start");
+        let mut pair = p1(&mut rng);
+        let answer = import_and_back(&mut pair, text.as_bytes());
+        assert_eq!(answer, number.unwrap_or(ACCEPTED), "{text}");
+        // The initial state comes before.
+        let text = text.replacen("des (0", "des (4", 1);
+        assert_eq!(import(&mut pair, text.as_bytes()), 7, "{text}");
     }
 }
 
@@ -53,7 +76,7 @@ fn every_change_of_an_octet() {
     let text = b"des (2, 3, 12)\n(0, \"5..20\", 1)\n(1, \"0..2047\", 11)\n(10, \"9..9\", 0)\n";
     assert_eq!(import_and_back(&mut pair, text), ACCEPTED);
     let mut tally = Tally::default();
-    let mut try_text = |text: &[u8]| tally.add("import", import_and_back(&mut pair, text));
+    let mut try_text = |text: &[u8]| import_and_count(&mut pair, text, &mut tally);
     for place in 0..=text.len() {
         let (before, after) = text.split_at(place);
         for octet in 0..=255 {
@@ -83,9 +106,9 @@ fn random_texts() {
             // The same text over an old plan altered by hand.
             let mut altered = pair.clone();
             generate::alter(&mut rng, &mut altered);
-            tally.add("import", import_and_back(&mut altered, &text));
+            import_and_count(&mut altered, &text, &mut tally);
         }
-        tally.add("import", import_and_back(&mut pair, &text));
+        import_and_count(&mut pair, &text, &mut tally);
     }
     tally.print(&format!(
         "texts: {TEXTS}, and some again over an altered plan"

@@ -92,8 +92,8 @@ fn the_program_refuses() {
         inputs.push([&full[..], &vec![0; more]].concat());
     }
     inputs.push(full[..full.len() - 1].to_vec());
-    // 513 states, a version of 2, no states, 2,049 transitions, a pad bit, a spare bit, a bad
-    // state number and a low above its high.
+    // 513 states, a version of 2, no states, 2,049 transitions, a pad bit, a spare bit, a bad from,
+    // a bad to, both, and a low above its high.
     inputs.push([&[0x18, 0x04, 0x00, 0x00], &[0; 513][..]].concat());
     inputs.push([&[0x20], &P1[1..]].concat());
     inputs.push(vec![0x10, 0x00, 0x00, 0x00]);
@@ -101,6 +101,8 @@ fn the_program_refuses() {
     inputs.push([&P1[..3], &[0x01], &P1[4..]].concat());
     inputs.push([&P1[..4], &[0x81], &P1[5..]].concat());
     inputs.push([&P1[..8], &[0x02], &P1[9..]].concat());
+    inputs.push([&P1[..9], &[0x01], &P1[10..]].concat());
+    inputs.push([&P1[..8], &[0x02, 0x01], &P1[10..]].concat());
     inputs.push([&P1[..12], &[0x00], &P1[13..]].concat());
     let mut numbers: Vec<u32> = Vec::new();
     for octets in inputs {
@@ -111,5 +113,5 @@ fn the_program_refuses() {
     }
     numbers.sort_unstable();
     numbers.dedup();
-    assert_eq!(numbers, [1, 2, 3, 4, 5, 6, 7, 8]);
+    assert_eq!(numbers, [1, 2, 3, 4, 5, 6, 8, 16, 17]);
 }

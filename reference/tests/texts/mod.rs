@@ -1,4 +1,5 @@
-//! Texts at the edges of the form and of each limit, with what import answers: document 02, E1.
+//! Texts at the edges of the form and of each limit, with what import answers: document 02, E1 and
+//! E3.
 
 /// What import answers where it is accepted, as the proved library has it.
 pub const ACCEPTED: u32 = 256;
@@ -103,22 +104,39 @@ pub fn edges() -> Vec<(Vec<u8>, u32)> {
         add(text(initial, 1, states, 1), answer);
     }
 
-    // The order: 15 over the whole text, 4, 5, 7 of the initial state, then line by line 7 and 8.
+    // The order: 15 over the whole text, 4, 5, 7 of the initial state, then line by line 16 of the
+    // from, 17 of the to and 8.
     let last = "(2, \"4..25\", 3)";
+    let (bad_from, bad_to) = (("(0, \"5", "(4, \"5"), (" 1)", " 4)"));
     for (changes, answer) in [
         (&[("4, 4)", "4, 513)"), (last, "(2, \"4..25\",3)")][..], 15),
         (&[("4, 4)", "4, 0)"), (last, "(2, \"4..025\", 3)")], 15),
         (&[("4, 4)", "3, 513)")], 15),
+        (&[bad_from, (last, "(2, \"4..25\", 03)")], 15),
+        (&[bad_to, (last, "(02, \"4..25\", 3)")], 15),
         (&[("4, 4)", "4, 513)"), ("(0, \"5", "(600, \"5")], 4),
+        (&[("4, 4)", "4, 513)"), (" 1)", " 600)")], 4),
         (&[("des (0", "des (4"), ("5..20", "5..4")], 7),
+        (&[("des (0", "des (4"), bad_from], 7),
+        (&[("des (0", "des (4"), bad_to], 7),
+        (&[("des (0", "des (4"), (last, "(4, \"4..3\", 4)")], 7),
         (&[("des (0", "des (4"), (last, "(2, \"4..25\", 3")], 15),
+        // Two lines, the first of which decides.
         (&[("5..20", "5..4"), (last, "(4, \"4..25\", 3)")], 8),
-        (&[("(0, \"5", "(4, \"5"), (last, "(2, \"4..3\", 3)")], 7),
-        (&[(last, "(4, \"4..3\", 3)")], 7),
-        (&[(last, "(2, \"4..3\", 4)")], 7),
+        (&[("5..20", "5..4"), (last, "(2, \"4..25\", 4)")], 8),
+        (&[bad_from, (last, "(2, \"4..3\", 3)")], 16),
+        (&[bad_from, (last, "(2, \"4..25\", 4)")], 16),
+        (&[bad_to, (last, "(2, \"4..3\", 3)")], 17),
+        (&[bad_to, (last, "(4, \"4..25\", 3)")], 17),
+        // One line.
+        (&[(last, "(4, \"4..3\", 3)")], 16),
+        (&[(last, "(4, \"4..3\", 4)")], 16),
+        (&[(last, "(4, \"4..25\", 4)")], 16),
+        (&[(last, "(2, \"4..3\", 4)")], 17),
+        (&[(last, "(2, \"0..2048\", 4)")], 17),
         (&[(last, "(3, \"0..0\", 0)")], ACCEPTED),
-        (&[(last, "(4, \"4..25\", 3)")], 7),
-        (&[(last, "(2, \"4..25\", 4)")], 7),
+        (&[(last, "(4, \"4..25\", 3)")], 16),
+        (&[(last, "(2, \"4..25\", 4)")], 17),
         (&[(last, "(2, \"4..4\", 3)")], ACCEPTED),
         (&[(last, "(2, \"4..3\", 3)")], 8),
         (&[(last, "(2, \"2047..2047\", 3)")], ACCEPTED),
@@ -131,14 +149,30 @@ pub fn edges() -> Vec<(Vec<u8>, u32)> {
     add(text(0, 2049, 513, 2049), 4);
     add(text(9, 2049, 4, 2049), 5);
     add(text(0, 2049, 4, 2049).replace("2047", "2048"), 5);
+    add(text(0, 2049, 4, 2049).replace("(0, \"", "(4, \""), 5);
+    add(text(0, 2049, 4, 2049).replace("\", 0)", "\", 4)"), 5);
+
+    // The greatest state in each column, and one more, whatever the state count.
+    for n in [1, 9, 10, 11, 99, 100, 101, 511, 512] {
+        let line = |from: usize, high: u32, to: usize| {
+            format!("des (0, 1, {n})\n({from}, \"5..{high}\", {to})\n")
+        };
+        add(line(n - 1, 20, n - 1), ACCEPTED);
+        add(line(n - 1, 4, n - 1), 8);
+        for high in [20, 4] {
+            add(line(n, high, n - 1), 16);
+            add(line(n, high, n), 16);
+            add(line(n - 1, high, n), 17);
+        }
+    }
 
     // Numbers that a machine word does not hold, in each place. Some are small ones modulo it.
     for number in long_numbers() {
         add(p1_with(&[("des (0", &format!("des ({number}"))]), 7);
         add(p1_with(&[("(0, 4", &format!("(0, {number}"))]), 15);
         add(p1_with(&[("4, 4)", &format!("4, {number})"))]), 4);
-        add(p1_with(&[("(2, ", &format!("({number}, "))]), 7);
-        add(p1_with(&[(" 1)", &format!(" {number})"))]), 7);
+        add(p1_with(&[("(2, ", &format!("({number}, "))]), 16);
+        add(p1_with(&[(" 1)", &format!(" {number})"))]), 17);
         add(p1_with(&[("\"4..", &format!("\"{number}.."))]), 8);
         add(p1_with(&[("..25", &format!("..{number}"))]), 8);
         add(p1_with(&[("4..25", &format!("{number}..{number}"))]), 8);
@@ -146,11 +180,20 @@ pub fn edges() -> Vec<(Vec<u8>, u32)> {
         let initial = ("des (0", &*format!("des ({number}"));
         let states = ("4, 4)", &*format!("4, {number})"));
         let from = ("(2, ", &*format!("({number}, "));
+        let to = ("25\", 3)", &*format!("25\", {number})"));
         let high = ("..25", &*format!("..{number}"));
         add(p1_with(&[initial, states]), 4);
         add(p1_with(&[states, from]), 4);
-        add(p1_with(&[from, high]), 7);
+        add(p1_with(&[states, to]), 4);
+        add(p1_with(&[initial, from]), 7);
+        add(p1_with(&[initial, to]), 7);
+        add(p1_with(&[to, from]), 16);
+        add(p1_with(&[from, high]), 16);
+        add(p1_with(&[to, high]), 17);
+        add(p1_with(&[from, bad_to]), 17);
+        add(p1_with(&[to, bad_from]), 16);
         add(p1_with(&[("5..20", "5..4"), from]), 8);
+        add(p1_with(&[("5..20", "5..4"), to]), 8);
         // On form or not, whatever is too large.
         let number_off = format!("0{number}");
         add(p1_with(&[("des (0", &format!("des ({number_off}"))]), 15);

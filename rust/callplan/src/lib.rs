@@ -57,7 +57,7 @@ pub const COUNTED: u32 = 1;
 
 /// The version of the archive that this crate is for: 10,000 times the first number, 100 times the
 /// second, and the third.
-pub const VERSION_NUMBER: u32 = 400;
+pub const VERSION_NUMBER: u32 = 500;
 
 /// What the archive answers for accepted. Write, export and record add the octets' number.
 const ACCEPTED: u32 = 256;
@@ -216,7 +216,7 @@ impl Plan {
     /// [`Refusal::ImageShort`] of fewer than 4 octets, [`Refusal::Version`],
     /// [`Refusal::StateCount`], [`Refusal::TransitionCount`], [`Refusal::SpareBits`] of the pad,
     /// [`Refusal::ImageShort`], [`Refusal::ImageLong`]; state by state [`Refusal::SpareBits`];
-    /// transition by transition [`Refusal::StateNumber`], [`Refusal::Duration`].
+    /// transition by transition [`Refusal::FromState`], [`Refusal::ToState`], [`Refusal::Duration`].
     pub fn from_image(octets: &[u8]) -> Result<Plan, Refusal> {
         check_version();
         let mut plan = NO_PLAN;
@@ -261,7 +261,7 @@ impl Plan {
     ///
     /// # Errors
     ///
-    /// [`Refusal::StateNumber`], [`Refusal::Duration`], [`Refusal::ListFull`].
+    /// [`Refusal::FromState`], [`Refusal::ToState`], [`Refusal::Duration`], [`Refusal::ListFull`].
     pub fn join(&mut self, transition: Transition) -> Result<(), Refusal> {
         let answer = unsafe {
             archive::callplan_lent_join(
@@ -363,8 +363,8 @@ impl Plan {
     ///
     /// [`Refusal::TextForm`] of the whole text, the number of its lines included;
     /// [`Refusal::StateCount`], [`Refusal::TransitionCount`]; [`Refusal::StateNumber`] of the initial
-    /// state; line by line [`Refusal::StateNumber`], [`Refusal::Duration`]. The plan then stays as it
-    /// was.
+    /// state; line by line [`Refusal::FromState`], [`Refusal::ToState`], [`Refusal::Duration`]. The
+    /// plan then stays as it was.
     pub fn import(&mut self, text: &[u8]) -> Result<(), Refusal> {
         let answer = unsafe {
             archive::callplan_lent_import(

@@ -21,7 +21,8 @@ pub enum Refusal {
     TransitionCount,
     /// A pad or spare bit is set.
     SpareBits,
-    /// A state number is not below the state count.
+    /// A state number is not below the state count: of [`Plan::mark`](crate::Plan::mark), or the
+    /// initial state of [`Plan::import`](crate::Plan::import).
     StateNumber,
     /// Low is above high, or high above 2,047.
     Duration,
@@ -39,12 +40,16 @@ pub enum Refusal {
     StartCount,
     /// The text is off the form of Aldebaran text.
     TextForm,
+    /// A transition's from is not below the state count.
+    FromState,
+    /// A transition's to is not below the state count.
+    ToState,
     /// A number that this version of the crate does not know.
     Other(u32),
 }
 
 /// Each refusal with its number, and what it says.
-const REFUSALS: [(Refusal, u32, &str); 16] = [
+const REFUSALS: [(Refusal, u32, &str); 18] = [
     (Refusal::PlanLimits, 0, "the plan breaks a limit of a plan"),
     (
         Refusal::ImageShort,
@@ -105,6 +110,16 @@ const REFUSALS: [(Refusal, u32, &str); 16] = [
         15,
         "the text is off the form of Aldebaran text",
     ),
+    (
+        Refusal::FromState,
+        16,
+        "a transition's from is not below the state count",
+    ),
+    (
+        Refusal::ToState,
+        17,
+        "a transition's to is not below the state count",
+    ),
 ];
 
 impl Refusal {
@@ -153,6 +168,12 @@ mod tests {
     #[test]
     fn a_refusal_says_what_it_is() {
         assert_eq!(Refusal::SpareBits.to_string(), "a pad or spare bit is set");
+        assert_eq!(Refusal::FromState.number(), 16);
+        assert_eq!(Refusal::ToState.number(), 17);
+        assert_eq!(
+            Refusal::ToState.to_string(),
+            "a transition's to is not below the state count"
+        );
         assert_eq!(Refusal::of(255).to_string(), "an unknown answer");
     }
 }

@@ -74,10 +74,19 @@ fn edits_are_refused_and_change_nothing() {
     assert_eq!(Plan::fresh(513).unwrap_err(), Refusal::StateCount);
     assert_eq!(plan.mark(4, 8), Err(Refusal::StateNumber));
     assert_eq!(plan.mark(3, 8), Err(Refusal::MarksValue));
-    assert_eq!(
-        plan.join(transition(0, usize::MAX, 0, 0)),
-        Err(Refusal::StateNumber)
-    );
+    for (from, to, low, high, refusal) in [
+        (4, 0, 0, 0, Refusal::FromState),
+        (usize::MAX, 0, 1, 0, Refusal::FromState),
+        (4, 4, 0, 0, Refusal::FromState),
+        (4, 4, 1, 0, Refusal::FromState),
+        (0, 4, 0, 0, Refusal::ToState),
+        (0, usize::MAX, 0, 0, Refusal::ToState),
+        (0, 4, 1, 0, Refusal::ToState),
+        (0, 4, 0, 2048, Refusal::ToState),
+        (0, 0, 1, 0, Refusal::Duration),
+    ] {
+        assert_eq!(plan.join(transition(from, to, low, high)), Err(refusal));
+    }
     assert_eq!(plan.join(transition(0, 1, 2, 1)), Err(Refusal::Duration));
     assert_eq!(plan.join(transition(0, 1, 0, 2048)), Err(Refusal::Duration));
     assert_eq!(plan.unjoin(4), Err(Refusal::TransitionNumber));
@@ -87,6 +96,8 @@ fn edits_are_refused_and_change_nothing() {
         plan.join(transition(0, 1, 0, 2047)).unwrap();
     }
     assert_eq!(plan.join(transition(0, 1, 0, 0)), Err(Refusal::ListFull));
+    assert_eq!(plan.join(transition(4, 1, 0, 0)), Err(Refusal::FromState));
+    assert_eq!(plan.join(transition(0, 4, 0, 0)), Err(Refusal::ToState));
     assert_eq!(
         image(&plan).len(),
         callplan::MAX_IMAGE_OCTETS - (callplan::MAX_STATES - 4)
@@ -119,7 +130,8 @@ fn images_are_written_and_read() {
         (1, 0x13, Refusal::TransitionCount),
         (3, 0x01, Refusal::SpareBits),
         (4, 0x81, Refusal::SpareBits),
-        (8, 0xFF, Refusal::StateNumber),
+        (8, 0xFF, Refusal::FromState),
+        (9, 0x01, Refusal::ToState),
         (12, 0x00, Refusal::Duration),
     ] {
         let mut octets = P1;
@@ -128,6 +140,34 @@ fn images_are_written_and_read() {
             octets[2] = 0xFF;
         }
         assert_eq!(plan.read(&octets), Err(refusal));
+    }
+    assert_eq!((plan.states(), plan.transitions()), (1, 0));
+}
+
+/// The first wrong transition decides, by its from, then its to, then its durations.
+#[test]
+fn images_are_refused_by_the_end_that_is_wrong() {
+    let mut plan = Plan::fresh(1).unwrap();
+    let (from, to, high) = ((8, 0x02), (9, 0x01), (12, 0x00)); // of the first transition
+    let (last_from, last_to) = ((23, 0x02), (24, 0x01));
+    for (changes, refusal) in [
+        ([from, to], Refusal::FromState),
+        ([from, high], Refusal::FromState),
+        ([to, high], Refusal::ToState),
+        ([from, last_to], Refusal::FromState),
+        ([to, last_from], Refusal::ToState),
+        ([high, last_from], Refusal::Duration),
+        ([high, last_to], Refusal::Duration),
+        ([(7, 0x41), from], Refusal::SpareBits),
+        ([(7, 0x41), to], Refusal::SpareBits),
+    ] {
+        let mut octets = P1;
+        for (place, octet) in changes {
+            octets[place] = octet;
+        }
+        assert_eq!(plan.read(&octets), Err(refusal));
+        assert_eq!(Plan::from_image(&octets).unwrap_err(), refusal);
+        assert_eq!(callplan::quote(&octets).unwrap_err(), refusal);
     }
     assert_eq!((plan.states(), plan.transitions()), (1, 0));
 }
@@ -158,7 +198,19 @@ fn texts_are_exported_and_imported() {
         ("des (0, 1, 513)\n", Refusal::TextForm),
         ("des (0, 0, 513)\n", Refusal::StateCount),
         ("des (1, 1, 1)\n(0, \"1..0\", 0)\n", Refusal::StateNumber),
-        ("des (0, 1, 1)\n(0, \"1..0\", 1)\n", Refusal::StateNumber),
+        ("des (1, 1, 1)\n(1, \"1..0\", 1)\n", Refusal::StateNumber),
+        ("des (0, 1, 1)\n(1, \"1..0\", 1)\n", Refusal::FromState),
+        ("des (0, 1, 1)\n(1, \"0..0\", 0)\n", Refusal::FromState),
+        ("des (0, 1, 1)\n(0, \"1..0\", 1)\n", Refusal::ToState),
+        ("des (0, 1, 1)\n(0, \"0..0\", 1)\n", Refusal::ToState),
+        (
+            "des (0, 2, 1)\n(0, \"0..0\", 1)\n(1, \"0..0\", 0)\n",
+            Refusal::ToState,
+        ),
+        (
+            "des (0, 2, 1)\n(0, \"1..0\", 0)\n(1, \"0..0\", 0)\n",
+            Refusal::Duration,
+        ),
         ("des (0, 1, 1)\n(0, \"1..0\", 0)\n", Refusal::Duration),
         ("des (0, 1, 1)\n(0, \"0..2048\", 0)\n", Refusal::Duration),
     ] {
