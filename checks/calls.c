@@ -18,9 +18,12 @@ static void check(int holds, int line, const char *text)
     }
 }
 
-/* Plan P1 of document 01: its image, its record, and the plan made by edits. */
+/* Plan P1 of document 01: its image, of version 1, the image of version 2 that is written of it, its record, and the plan made by
+ * edits. */
 static const uint8_t p1_image[28] = {0x10, 0x10, 0x01, 0x00, 0x80, 0x20, 0x20, 0x40, 0x00, 0x00, 0x40, 0x28, 0x14, 0x00,
                                      0x80, 0x80, 0x18, 0x0F, 0x00, 0x80, 0xC0, 0x10, 0x1E, 0x01, 0x00, 0xC0, 0x20, 0x19};
+static const uint8_t p1_written[28] = {0x20, 0x10, 0x01, 0x00, 0x80, 0x20, 0x20, 0x40, 0x00, 0x00, 0x40, 0x28, 0x14, 0x00,
+                                       0x80, 0x80, 0x18, 0x0F, 0x00, 0x80, 0xC0, 0x10, 0x1E, 0x01, 0x00, 0xC0, 0x20, 0x19};
 static const uint8_t p1_record[CALLPLAN_RECORD_OCTETS] = {0x00, 0x00, 0x1C, 0x00, 0x03, 0xC0, 0x00, 0x00, 0x40, 0x00, 0x02};
 
 /* Its text. */
@@ -62,6 +65,11 @@ static void edits(void)
     CHECK(callplan_mark(&plan, 4, 8) == CALLPLAN_REFUSED_STATE_NUMBER);
     CHECK(callplan_mark(&plan, SIZE_MAX, 0) == CALLPLAN_REFUSED_STATE_NUMBER);
     CHECK(callplan_mark(&plan, 3, 8) == CALLPLAN_REFUSED_MARKS_VALUE);
+    CHECK(callplan_team(&plan, 4, CALLPLAN_MAX_TEAM + 1) == CALLPLAN_REFUSED_STATE_NUMBER);
+    CHECK(callplan_team(&plan, SIZE_MAX, 0) == CALLPLAN_REFUSED_STATE_NUMBER);
+    CHECK(callplan_team(&plan, 3, CALLPLAN_MAX_TEAM + 1) == CALLPLAN_REFUSED_TEAM_NUMBER);
+    CHECK(callplan_team(&plan, 3, 259) == CALLPLAN_REFUSED_TEAM_NUMBER);
+    CHECK(callplan_team(&plan, 3, UINT32_MAX) == CALLPLAN_REFUSED_TEAM_NUMBER);
     CHECK(callplan_join(&plan, 4, 0, 0, 0) == CALLPLAN_REFUSED_FROM_STATE);
     CHECK(callplan_join(&plan, 4, 0, 1, 0) == CALLPLAN_REFUSED_FROM_STATE);
     CHECK(callplan_join(&plan, 4, 4, 0, 0) == CALLPLAN_REFUSED_FROM_STATE);
@@ -114,7 +122,7 @@ static void images(void)
     CHECK(callplan_write(&plan, buffer, 27, &written) == CALLPLAN_REFUSED_BUFFER_LENGTH);
     CHECK(written == 77 && buffer[0] == 0xAA && buffer[26] == 0xAA);
     CHECK(callplan_write(&plan, buffer, sizeof buffer, &written) == CALLPLAN_ACCEPTED);
-    CHECK(written == 28 && memcmp(buffer, p1_image, 28) == 0 && buffer[28] == 0xAA);
+    CHECK(written == 28 && memcmp(buffer, p1_written, 28) == 0 && buffer[28] == 0xAA);
     CHECK(callplan_write(&plan, buffer, 28, NULL) == CALLPLAN_ACCEPTED);
 
     CHECK(callplan_fresh(&other, 1) == CALLPLAN_ACCEPTED);
@@ -124,7 +132,11 @@ static void images(void)
     memcpy(octets, p1_image, 28);
     octets[28] = 0;
     CHECK(callplan_read(&other, octets, 29) == CALLPLAN_REFUSED_IMAGE_LONG);
-    octets[0] = 0x20;
+    octets[0] = 0x00;
+    CHECK(callplan_read(&other, octets, 28) == CALLPLAN_REFUSED_VERSION);
+    octets[0] = 0x30;
+    CHECK(callplan_read(&other, octets, 28) == CALLPLAN_REFUSED_VERSION);
+    octets[0] = 0xF0;
     CHECK(callplan_read(&other, octets, 28) == CALLPLAN_REFUSED_VERSION);
     octets[0] = 0x1F;
     CHECK(callplan_read(&other, octets, 28) == CALLPLAN_REFUSED_STATE_COUNT);
@@ -148,6 +160,67 @@ static void images(void)
     CHECK(callplan_states(&other) == 1 && callplan_transitions(&other) == 0);
     CHECK(callplan_read(&other, p1_image, sizeof p1_image) == CALLPLAN_ACCEPTED);
     CHECK(is_same_plan(&other, &plan));
+    CHECK(callplan_read(&other, p1_written, sizeof p1_written) == CALLPLAN_ACCEPTED);
+    CHECK(is_same_plan(&other, &plan));
+}
+
+static int has_teams(const callplan_plan *plan, uint8_t first, uint8_t second, uint8_t third, uint8_t fourth)
+{
+    return callplan_team_of(plan, 0) == first && callplan_team_of(plan, 1) == second && callplan_team_of(plan, 2) == third &&
+           callplan_team_of(plan, 3) == fourth;
+}
+
+/* Teams by their own call, in images of both versions and in texts. */
+static void teams(void)
+{
+    callplan_plan plan = p1();
+    callplan_plan other = p1();
+    callplan_plan before;
+    uint8_t octets[28];
+    uint8_t buffer[200];
+    size_t written = 77;
+
+    CHECK(has_teams(&plan, 0, 0, 0, 0));
+    CHECK(callplan_team(&plan, 0, 31) == CALLPLAN_ACCEPTED);
+    CHECK(callplan_team(&plan, 1, 9) == CALLPLAN_ACCEPTED);
+    CHECK(callplan_team(&plan, 2, 10) == CALLPLAN_ACCEPTED);
+    CHECK(has_teams(&plan, 31, 9, 10, 0) && callplan_marks(&plan, 1) == CALLPLAN_COUNTED);
+    CHECK(callplan_equal(&plan, &other) == 0 && callplan_equal(&plan, &plan) == 1);
+    CHECK(callplan_mark(&plan, 1, 7) == CALLPLAN_ACCEPTED);
+    CHECK(has_teams(&plan, 31, 9, 10, 0) && callplan_marks(&plan, 1) == 7);
+    CHECK(callplan_mark(&plan, 1, CALLPLAN_COUNTED) == CALLPLAN_ACCEPTED);
+    CHECK(callplan_team_of(&plan, 4) == 0 && callplan_team_of(&plan, SIZE_MAX) == 0);
+
+    /* Every team in an image of version 2; in version 1 the same bits are spare. */
+    for (uint8_t team = 0; team <= CALLPLAN_MAX_TEAM; team++) {
+        memcpy(octets, p1_written, 28);
+        octets[7] = (uint8_t)(octets[7] + team);
+        CHECK(callplan_read(&other, octets, 28) == CALLPLAN_ACCEPTED && has_teams(&other, 0, 0, 0, team));
+        CHECK(callplan_write(&other, buffer, sizeof buffer, &written) == CALLPLAN_ACCEPTED);
+        CHECK(written == 28 && memcmp(buffer, octets, 28) == 0);
+        octets[0] = 0x10;
+        before = other;
+        if (team != 0) {
+            CHECK(callplan_read(&other, octets, 28) == CALLPLAN_REFUSED_SPARE_BITS && is_same_plan(&other, &before));
+        }
+    }
+
+    /* A version 1 image, a text and a fresh plan leave none. */
+    other = plan;
+    CHECK(callplan_read(&other, p1_image, 28) == CALLPLAN_ACCEPTED && has_teams(&other, 0, 0, 0, 0));
+    other = plan;
+    CHECK(callplan_from_image(&other, p1_image, 28) == CALLPLAN_ACCEPTED && has_teams(&other, 0, 0, 0, 0));
+    other = plan;
+    CHECK(callplan_export(&other, buffer, sizeof buffer, &written) == CALLPLAN_ACCEPTED);
+    CHECK(written == P1_TEXT_OCTETS && memcmp(buffer, p1_words, P1_TEXT_OCTETS) == 0);
+    CHECK(callplan_import(&other, buffer, written) == CALLPLAN_ACCEPTED && has_teams(&other, 0, 0, 0, 0));
+    other = plan;
+    CHECK(callplan_fresh(&other, 4) == CALLPLAN_ACCEPTED && has_teams(&other, 0, 0, 0, 0));
+
+    /* Two plans that differ in a team past their states are equal. */
+    other = plan;
+    other.teams[4] = 255;
+    CHECK(callplan_equal(&plan, &other) == 1);
 }
 
 /* What reading P1's image with two octets changed answers. Making a plan of it and quoting it must answer the same. */
@@ -310,6 +383,64 @@ static void quotations(void)
     CHECK(is_figure(&figure, CALLPLAN_NONE, 0, 0, 0));
 }
 
+/* Counts for a class: every number of a class names it, and 32 and wider numbers name none. P1's routes visit states 0, 1, 3 and 0, 1,
+ * 2, 3. */
+static void counts_for_a_class(void)
+{
+    static const uint8_t of_states[4] = {0, 9, 10, 31};
+    /* By class: the first and the last team, the least and the greatest count. */
+    static const uint32_t classes[5][4] = {{0, 0, 1, 1}, {1, 9, 1, 1}, {10, 19, 0, 1}, {20, 29, 0, 0}, {30, 31, 1, 1}};
+    callplan_plan plan = p1();
+    callplan_plan broken;
+    callplan_figure figure;
+    callplan_figure before;
+    uint8_t buffer[CALLPLAN_RECORD_OCTETS];
+
+    for (size_t state = 0; state < 4; state++) {
+        CHECK(callplan_team(&plan, state, of_states[state]) == CALLPLAN_ACCEPTED);
+    }
+    memset(&figure, 0xAA, sizeof figure);
+    for (size_t i = 0; i < 5; i++) {
+        for (uint32_t team = classes[i][0]; team <= classes[i][1]; team++) {
+            CHECK(callplan_least_count_for(&plan, team, &figure) == CALLPLAN_ACCEPTED);
+            CHECK(figure.kind == CALLPLAN_NUMBER && figure.value == classes[i][2] && figure.j == 0);
+            CHECK(callplan_greatest_count_for(&plan, team, &figure) == CALLPLAN_ACCEPTED);
+            CHECK(figure.kind == CALLPLAN_NUMBER && figure.value == classes[i][3] && figure.j == 0);
+        }
+    }
+    CHECK(callplan_greatest_count_for(&plan, 15, &figure) == CALLPLAN_ACCEPTED);
+    CHECK(is_figure(&figure, CALLPLAN_NUMBER, 1, 3, 0) && figure.walk[1] == 1 && figure.walk[2] == 3 && figure.walk[3] == 0xAAAA);
+    CHECK(callplan_least_count_for(&plan, 15, &figure) == CALLPLAN_ACCEPTED);
+    CHECK(is_figure(&figure, CALLPLAN_NUMBER, 0, 2, 0) && figure.walk[1] == 2);
+
+    /* The counts and the record stay with the counted mark. */
+    CHECK(callplan_greatest_count(&plan, &figure) == CALLPLAN_ACCEPTED && is_figure(&figure, CALLPLAN_NUMBER, 2, 3, 0));
+    CHECK(callplan_record(&plan, buffer, sizeof buffer, NULL) == CALLPLAN_ACCEPTED);
+    CHECK(memcmp(buffer, p1_record, sizeof p1_record) == 0);
+
+    before = figure;
+    broken = plan;
+    broken.teams[3] = CALLPLAN_MAX_TEAM + 1;
+    CHECK(callplan_least_count_for(&plan, 32, &figure) == CALLPLAN_REFUSED_TEAM_NUMBER);
+    CHECK(callplan_greatest_count_for(&plan, 259, &figure) == CALLPLAN_REFUSED_TEAM_NUMBER);
+    CHECK(callplan_greatest_count_for(&plan, UINT32_MAX, &figure) == CALLPLAN_REFUSED_TEAM_NUMBER);
+    CHECK(callplan_least_count_for(&broken, 32, &figure) == CALLPLAN_REFUSED_PLAN_LIMITS);
+    CHECK(callplan_greatest_count_for(&broken, 0, &figure) == CALLPLAN_REFUSED_PLAN_LIMITS);
+    CHECK(callplan_least_count(&broken, &figure) == CALLPLAN_REFUSED_PLAN_LIMITS);
+    CHECK(memcmp(&figure, &before, sizeof figure) == 0);
+
+    /* P3, P4 and no start: the kinds of the counts. */
+    CHECK(callplan_fresh(&plan, 2) == CALLPLAN_ACCEPTED);
+    CHECK(callplan_greatest_count_for(&plan, 0, &figure) == CALLPLAN_ACCEPTED && is_figure(&figure, CALLPLAN_NONE, 0, 0, 0));
+    CHECK(callplan_mark(&plan, 0, CALLPLAN_START) == CALLPLAN_ACCEPTED);
+    CHECK(callplan_mark(&plan, 1, CALLPLAN_FINAL) == CALLPLAN_ACCEPTED);
+    CHECK(callplan_least_count_for(&plan, 31, &figure) == CALLPLAN_ACCEPTED && is_figure(&figure, CALLPLAN_NONE, 0, 0, 0));
+    CHECK(callplan_greatest_count_for(&plan, 31, &figure) == CALLPLAN_ACCEPTED && is_figure(&figure, CALLPLAN_STRANDED, 0, 0, 0));
+    CHECK(callplan_join(&plan, 0, 0, 0, 0) == CALLPLAN_ACCEPTED);
+    CHECK(callplan_join(&plan, 0, 1, 1, 1) == CALLPLAN_ACCEPTED);
+    CHECK(callplan_greatest_count_for(&plan, 1, &figure) == CALLPLAN_ACCEPTED && is_figure(&figure, CALLPLAN_ENDLESS, 0, 1, 0));
+}
+
 /* A high of 2,047 means no limit: the greatest delay, its walk with j at k, and the record. */
 static void open_highs(void)
 {
@@ -397,6 +528,10 @@ static void broken_plan(void)
     memset(&figure, 0, sizeof figure);
     blank = figure;
     CHECK(callplan_mark(&plan, 0, 0) == CALLPLAN_REFUSED_PLAN_LIMITS);
+    CHECK(callplan_team(&plan, 0, 0) == CALLPLAN_REFUSED_PLAN_LIMITS);
+    CHECK(callplan_team(&plan, SIZE_MAX, 32) == CALLPLAN_REFUSED_PLAN_LIMITS);
+    CHECK(callplan_least_count_for(&plan, 32, &figure) == CALLPLAN_REFUSED_PLAN_LIMITS);
+    CHECK(callplan_greatest_count_for(&plan, 0, &figure) == CALLPLAN_REFUSED_PLAN_LIMITS);
     CHECK(callplan_join(&plan, 0, 0, 0, 0) == CALLPLAN_REFUSED_PLAN_LIMITS);
     CHECK(callplan_unjoin(&plan, 0) == CALLPLAN_REFUSED_PLAN_LIMITS);
     CHECK(callplan_read(&plan, p1_image, sizeof p1_image) == CALLPLAN_REFUSED_PLAN_LIMITS);
@@ -412,7 +547,26 @@ static void broken_plan(void)
     CHECK(is_same_plan(&plan, &before) && written == 77 && memcmp(&figure, &blank, sizeof figure) == 0);
     CHECK(callplan_fresh(&plan, 1) == CALLPLAN_ACCEPTED);
     CHECK(callplan_mark(&plan, 0, 7) == CALLPLAN_ACCEPTED);
+
+    /* A team above 31 breaks a limit too, but not past the states. */
+    plan = p1();
+    plan.teams[4] = 255;
+    CHECK(callplan_mark(&plan, 3, CALLPLAN_FINAL) == CALLPLAN_ACCEPTED);
+    plan.teams[3] = 32;
+    CHECK(callplan_mark(&plan, 0, 0) == CALLPLAN_REFUSED_PLAN_LIMITS);
+    CHECK(callplan_team(&plan, 3, 0) == CALLPLAN_REFUSED_PLAN_LIMITS);
+    CHECK(callplan_write(&plan, buffer, sizeof buffer, &written) == CALLPLAN_REFUSED_PLAN_LIMITS);
+    CHECK(callplan_read(&plan, p1_image, sizeof p1_image) == CALLPLAN_REFUSED_PLAN_LIMITS);
+    CHECK(plan.teams[3] == 32 && written == 77);
+    CHECK(callplan_from_image(&plan, p1_image, sizeof p1_image) == CALLPLAN_ACCEPTED && plan.teams[3] == 0);
 }
+
+/* The slice of the marks and the teams: a pointer to the whole plan, and the place of its marks. */
+#ifdef __cplusplus
+#define STATES(plan) (reinterpret_cast<uint8_t *>(&(plan)) + offsetof(callplan_plan, marks))
+#else
+#define STATES(plan) ((uint8_t *)&(plan) + offsetof(callplan_plan, marks))
+#endif
 
 /* The archive's own functions, lent too few places. */
 static void short_slices(void)
@@ -429,29 +583,52 @@ static void short_slices(void)
     CHECK(callplan_lent_quote(p1_image, 3, walks, 2047, outs, 15) == CALLPLAN_REFUSED_IMAGE_SHORT);
     CHECK(callplan_lent_quote(p1_image, 28, walks, 2048, outs, 16) == CALLPLAN_ACCEPTED);
     CHECK(outs[1] == 7 && outs[5] == 60 && outs[9] == 1 && outs[13] == 2 && walks[1] == 2 && walks[512 + 2] == 3);
-    CHECK(callplan_lent_fresh(1, plan.counts, 1, plan.marks, 512, plan.fields, 8192) == CALLPLAN_SHORT_SLICE);
-    CHECK(callplan_lent_fresh(1, plan.counts, 2, plan.marks, 511, plan.fields, 8192) == CALLPLAN_SHORT_SLICE);
-    CHECK(callplan_lent_fresh(1, plan.counts, 2, plan.marks, 512, plan.fields, 8191) == CALLPLAN_SHORT_SLICE);
-    CHECK(callplan_lent_import(plan.counts, 1, plan.marks, 512, plan.fields, 8192, p1_image, 28) == CALLPLAN_SHORT_SLICE);
-    CHECK(callplan_lent_import(plan.counts, 2, plan.marks, 512, plan.fields, 8192, p1_image, 28) == CALLPLAN_REFUSED_TEXT_FORM);
-    CHECK(callplan_lent_export(plan.counts, 2, plan.marks, 511, plan.fields, 8192, text, sizeof text) == CALLPLAN_SHORT_SLICE);
-    CHECK(callplan_lent_export(plan.counts, 2, plan.marks, 512, plan.fields, 8192, text, sizeof text) ==
+    CHECK(callplan_lent_fresh(1, plan.counts, 1, STATES(plan), 1024, plan.fields, 8192) == CALLPLAN_SHORT_SLICE);
+    CHECK(callplan_lent_fresh(1, plan.counts, 2, STATES(plan), 1023, plan.fields, 8192) == CALLPLAN_SHORT_SLICE);
+    CHECK(callplan_lent_fresh(1, plan.counts, 2, STATES(plan), 1024, plan.fields, 8191) == CALLPLAN_SHORT_SLICE);
+    CHECK(callplan_lent_import(plan.counts, 1, STATES(plan), 1024, plan.fields, 8192, p1_image, 28) == CALLPLAN_SHORT_SLICE);
+    CHECK(callplan_lent_import(plan.counts, 2, STATES(plan), 1024, plan.fields, 8192, p1_image, 28) == CALLPLAN_REFUSED_TEXT_FORM);
+    CHECK(callplan_lent_export(plan.counts, 2, STATES(plan), 1023, plan.fields, 8192, text, sizeof text) == CALLPLAN_SHORT_SLICE);
+    CHECK(callplan_lent_export(plan.counts, 2, STATES(plan), 1024, plan.fields, 8192, text, sizeof text) ==
           CALLPLAN_ACCEPTED + P1_TEXT_OCTETS);
-    CHECK(callplan_lent_least_delay(plan.counts, 2, plan.marks, 512, plan.fields, 8192, walk, 4, out, 3) ==
+    CHECK(callplan_lent_least_delay(plan.counts, 2, STATES(plan), 1024, plan.fields, 8192, walk, 4, out, 3) ==
           CALLPLAN_REFUSED_BUFFER_LENGTH);
-    CHECK(callplan_lent_least_delay(plan.counts, 2, plan.marks, 512, plan.fields, 8192, walk, 3, out, 4) ==
+    CHECK(callplan_lent_least_delay(plan.counts, 2, STATES(plan), 1024, plan.fields, 8192, walk, 3, out, 4) ==
           CALLPLAN_REFUSED_BUFFER_LENGTH);
-    CHECK(callplan_lent_least_delay(plan.counts, 2, plan.marks, 512, plan.fields, 8192, walk, 4, out, 4) == CALLPLAN_ACCEPTED);
+    CHECK(callplan_lent_least_delay(plan.counts, 2, STATES(plan), 1024, plan.fields, 8192, walk, 4, out, 4) == CALLPLAN_ACCEPTED);
     CHECK(out[0] == 0 && out[1] == 7 && out[2] == 2 && out[3] == 0 && walk[1] == 2);
+
+    CHECK(callplan_lent_team(plan.counts, 2, STATES(plan), 512, plan.fields, 8192, 0, 0) == CALLPLAN_SHORT_SLICE);
+    CHECK(callplan_lent_team(plan.counts, 2, STATES(plan), 1023, plan.fields, 8192, 0, 32) == CALLPLAN_SHORT_SLICE);
+    CHECK(callplan_lent_team(plan.counts, 2, STATES(plan), 1024, plan.fields, 8192, 1, 12) == CALLPLAN_ACCEPTED);
+    CHECK(plan.teams[1] == 12 && plan.marks[1] == CALLPLAN_COUNTED);
+    CHECK(callplan_lent_least_count_for(plan.counts, 2, STATES(plan), 1023, plan.fields, 8192, 32, walk, 3, out, 3) ==
+          CALLPLAN_SHORT_SLICE);
+    CHECK(callplan_lent_least_count_for(plan.counts, 2, STATES(plan), 1024, plan.fields, 8192, 32, walk, 3, out, 3) ==
+          CALLPLAN_REFUSED_TEAM_NUMBER);
+    CHECK(callplan_lent_least_count_for(plan.counts, 2, STATES(plan), 1024, plan.fields, 8192, 19, walk, 3, out, 4) ==
+          CALLPLAN_REFUSED_BUFFER_LENGTH);
+    CHECK(callplan_lent_least_count_for(plan.counts, 2, STATES(plan), 1024, plan.fields, 8192, 19, walk, 4, out, 3) ==
+          CALLPLAN_REFUSED_BUFFER_LENGTH);
+    CHECK(callplan_lent_greatest_count_for(plan.counts, 2, STATES(plan), 1024, plan.fields, 8192, 259, walk, 4, out, 4) ==
+          CALLPLAN_REFUSED_TEAM_NUMBER);
+    CHECK(out[1] == 7);
+    CHECK(callplan_lent_greatest_count_for(plan.counts, 2, STATES(plan), 1024, plan.fields, 8192, 19, walk, 4, out, 4) ==
+          CALLPLAN_ACCEPTED);
+    CHECK(out[0] == 0 && out[1] == 1 && out[3] == 0);
 }
 
 /* P1 by a list of calls, a refused one and one that is undone among them; then lists that are none. */
 static void lists(void)
 {
     enum { M = CALLPLAN_CALL_MARK, J = CALLPLAN_CALL_JOIN, U = CALLPLAN_CALL_UNJOIN, R = CALLPLAN_CALL_READ, I = CALLPLAN_CALL_IMPORT };
+    enum { T = CALLPLAN_CALL_TEAM };
     const uint8_t kinds[] = {M, J, J, M, U, R};
     const size_t arguments[] = {0, 4, 0, 0, 0, 9, 1, 1, 0, 1, 1, 9, 1, 2, 0, 0, 0, 0, 0, 0, 0, 28, 0, 0};
-    const uint8_t unknown[] = {5};
+    const uint8_t unknown[] = {6};
+    /* A team above 31 in 32 bits and in 64, a state that is none, and a mark after a team. */
+    const uint8_t team_kinds[] = {T, T, T, T, M, T};
+    const size_t team_arguments[] = {1, 31, 9, 9, 0, 259, 9, 9, 0, ((size_t)1 << 32) + 3, 9, 9, 2, 32, 9, 9, 1, 4, 9, 9, 0, 10, 9, 9};
     const uint8_t imports[] = {I, M, I};
     const size_t parts[] = {0, P1_TEXT_OCTETS, 0, 0, 3, CALLPLAN_FINAL, 0, 0, 1, P1_TEXT_OCTETS, 0, 0};
     uint8_t text[P1_TEXT_OCTETS];
@@ -487,6 +664,11 @@ static void lists(void)
     CHECK(answers[0] == CALLPLAN_ACCEPTED && answers[1] == CALLPLAN_ACCEPTED && answers[2] == CALLPLAN_REFUSED_TEXT_FORM);
     CHECK(callplan_states(&plan) == 4 && callplan_marks(&plan, 1) == 0 && callplan_marks(&plan, 3) == CALLPLAN_FINAL);
     CHECK(quotations.figures[CALLPLAN_GREATEST_DELAY].value == 60 && quotations.figures[CALLPLAN_GREATEST_COUNT].value == 0);
+    CHECK(callplan_replay(&plan, 2, team_kinds, team_arguments, 6, NULL, 0, answers, &quotations) == CALLPLAN_ACCEPTED);
+    CHECK(answers[0] == CALLPLAN_ACCEPTED && answers[1] == CALLPLAN_REFUSED_TEAM_NUMBER);
+    CHECK(answers[2] == CALLPLAN_REFUSED_TEAM_NUMBER && answers[3] == CALLPLAN_REFUSED_STATE_NUMBER);
+    CHECK(answers[4] == CALLPLAN_ACCEPTED && answers[5] == CALLPLAN_ACCEPTED && answers[6] == 9);
+    CHECK(callplan_team_of(&plan, 0) == 10 && callplan_team_of(&plan, 1) == 31 && callplan_marks(&plan, 1) == CALLPLAN_START);
     CHECK(callplan_replay(&plan, 1, NULL, NULL, 0, NULL, 0, NULL, &quotations) == CALLPLAN_ACCEPTED);
     CHECK(callplan_states(&plan) == 1 && quotations.figures[CALLPLAN_LEAST_COUNT].kind == CALLPLAN_NONE);
 }
@@ -534,7 +716,9 @@ static void plan_of_an_image(void)
 static void words(void)
 {
     CHECK(callplan_lent_version() == CALLPLAN_VERSION_NUMBER);
-    CHECK(strcmp(callplan_answer_text(CALLPLAN_REFUSED_SPARE_BITS), "a pad or spare bit is set") == 0);
+    CHECK(strcmp(callplan_answer_text(CALLPLAN_REFUSED_SPARE_BITS), "a pad bit is set, or a spare bit of version 1") == 0);
+    CHECK(strcmp(callplan_answer_text(CALLPLAN_REFUSED_VERSION), "the image's version is neither 1 nor 2") == 0);
+    CHECK(strcmp(callplan_answer_text(CALLPLAN_REFUSED_TEAM_NUMBER), "the team is above 31") == 0);
     CHECK(strcmp(callplan_answer_text(CALLPLAN_REFUSED_START_COUNT), "not exactly one state is marked start") == 0);
     CHECK(strcmp(callplan_answer_text(CALLPLAN_REFUSED_FROM_STATE), "a transition's from is not below the state count") == 0);
     CHECK(strcmp(callplan_answer_text(CALLPLAN_REFUSED_TO_STATE), "a transition's to is not below the state count") == 0);
@@ -543,15 +727,17 @@ static void words(void)
 
 int main(void)
 {
-    CHECK(sizeof(callplan_plan) == 2 * sizeof(size_t) + 512 + 2 * 8192);
+    CHECK(sizeof(callplan_plan) == 2 * sizeof(size_t) + 2 * 512 + 2 * 8192);
     CHECK(sizeof(callplan_figure) == 24 + 2 * 512);
     CHECK(sizeof(callplan_quotations) == 4 * sizeof(callplan_figure));
     CHECK(CALLPLAN_MAX_IMAGE_OCTETS == 4 + CALLPLAN_MAX_STATES + 5 * CALLPLAN_MAX_TRANSITIONS);
     edits();
     images();
+    teams();
     wrong_ends();
     texts();
     quotations();
+    counts_for_a_class();
     open_highs();
     quotations_of_an_image();
     broken_plan();

@@ -1,5 +1,5 @@
 #!/usr/bin/env python3
-"""Compares callplan.h, the declarations in Rust and the documents with the Rattle sources: functions, refusals, constants, versions.
+"""Compares callplan.h, the declarations in Rust and the documents with the Rattle sources: functions, refusals, constants, classes, versions.
 
 Then damages each text in memory, one damage at a time, and sees that the comparison notices. The last line is 'N passed, M failed'.
 """
@@ -22,6 +22,7 @@ FILES = {
     "figure": "crates/graph/specs/Figure.antt",
     "route": "crates/graph/specs/Route.antt",
     "graph": "crates/graph/specs/Graph.antt",
+    "class": "crates/graph/specs/Class.antt",
     "numbers": "crates/numbers/src/lib.rt",
     "refusal": "crates/rules/specs/Refusal.antt",
     "limits": "crates/rules/specs/Limits.antt",
@@ -157,6 +158,7 @@ def comparisons(t):
         "MAX_STATES": states,
         "MAX_TRANSITIONS": transitions,
         "MAX_DURATION": duration,
+        "MAX_TEAM": number(t["class"], r"teamOk team = leb team (\d+)"),
         "OPEN_HIGH": number(t["route"], r"limit high = cond \(eqb high (\d+)\) Open"),
         "MAX_IMAGE_OCTETS": octets,
         "MAX_TEXT_OCTETS": text,
@@ -168,6 +170,16 @@ def comparisons(t):
         "FINAL": number(t["graph"], r"finalBit v = v / (\d) % 2"),
         "COUNTED": 1 if "countedBit v = v % 2" in t["graph"] else None,
     }
+    # Each class by its name in words, with its first and its last team.
+    firsts, lasts = (dict(numbers(t["class"], rf"(?m)^{place} (\w+) = (\d+)$")) for place in ("firstTeam", "lastTeam"))
+    classes = [(constant(name).replace("_", " ").lower(), first, lasts.get(name)) for name, first in firsts.items()]
+    yield "the last team of the last class", constants["MAX_TEAM"], classes[-1][2] if classes else None
+    for place, marker, pattern in (
+        ("header", "Every team is in one of five classes:", r"(?m)^ \* {5}(\d+)(?: to (\d+))? +(\w[\w ]*)$"),
+        ("rules page", "\n| team | class |\n", r"(?m)^\| (\d+)(?: to (\d+))? \| (\w[\w ]*) \|$"),
+    ):
+        listed = re.findall(pattern, between(t[place], marker, "\n\n"))
+        yield f"{FILES[place]}: the classes of teams", classes, [(name, int(first), int(last or first)) for first, last, name in listed]
     kinds = [("NUMBER" if k == "(number k)" else k, v) for k, v in numbers(t["figure"], r"(?m)^kind (.*) = (\d)$")]
     for name, value in constants.items():
         yield f"include/callplan.h: {name}", value, number(t["header"], rf"#define CALLPLAN_{name} (\d+)")
@@ -181,14 +193,16 @@ def comparisons(t):
     declared = between(t["header"], "typedef enum callplan_kind {", "} callplan_kind;")
     yield "include/callplan.h: the kinds", kinds, numbers(declared, r"CALLPLAN_(\w+) = (\d)")
 
-    room = re.findall(r"= leb (\d+) counts && \(leb (\d+) marks && leb (\d+) fields\)", t["room"])
+    room = re.findall(r"= leb (\d+) counts && \(leb (\d+) states && leb (\d+) fields\)", t["room"])
     room = [tuple(map(int, r)) for r in room]
-    yield "the places of a plan", [(2, states, 4 * transitions)], room
-    slices = between(t["header"], "#define CALLPLAN_SLICES(plan)", "\n\n")
-    given = "(plan)->counts, 2, (plan)->marks, CALLPLAN_MAX_STATES, (plan)->fields, 4 * CALLPLAN_MAX_TRANSITIONS"
-    yield "include/callplan.h: the slices", given, slices.replace("\\", "").strip()
-    out = number(t["quotations"], r"lentQuoteRows g walk out = .*bufferRow out (\d+) ∷")
-    yield "include/callplan.h: the places of an answer", out, number(t["header"], r"figure->walk, CALLPLAN_MAX_STATES, out, (\d+)\)")
+    yield "the places of a plan", [(2, 2 * states, 4 * transitions)], room
+    for name, lent in ("SLICES", "states"), ("CONST_SLICES", "const_states"):
+        slices = between(t["header"], f"#define CALLPLAN_{name}(plan) \\\n", "\n")
+        given = f"(plan)->counts, 2, callplan_private_{lent}(plan), 2 * CALLPLAN_MAX_STATES, (plan)->fields, 4 * CALLPLAN_MAX_TRANSITIONS"
+        yield f"include/callplan.h: the slices, {name}", given, slices.strip()
+    out = number(t["quotations"], r"lentQuoteRows asked g walk out = .*bufferRow out (\d+) ∷")
+    yield "include/callplan.h: the places of an answer", [str(out)] * 2, re.findall(r"figure->walk, CALLPLAN_MAX_STATES, out, (\d+)\)", t["header"])
+    yield "reference: the places of a plan's states", 1, t["proved"].count("const STATES: usize = 2 * MAX_STATES;")
     room = re.findall(r"(?s)\nheldRows image walks = [^\n]*bufferRow walks (\d+) ∷.*\nlentHeldRows image walks out = heldRows [^\n]*bufferRow out (\d+) ∷", t["quotations"])
     yield "the places of four answers", [(str(4 * states), str(4 * out))], room
     yield "include/callplan.h: the places of four answers", 1, t["header"].count("length, walks, 4 * CALLPLAN_MAX_STATES, out, 4 * 4)")
@@ -235,7 +249,9 @@ DAMAGES = [
     ("binding", "callplan_lent_unjoin(", "callplan_lent_remove("),
     ("binding", "    n: usize,", "    n: u32,"),
     ("binding", "    octets: &[u8],\n) -> u32", "    octets: &mut [u8],\n) -> u32"),
-    ("binding", "least_delay(\n    counts: &[usize],\n    marks: &[u8],\n    fields: &[u16],\n    walk: &mut [u16],", "least_delay(\n    counts: &[usize],\n    marks: &[u8],\n    fields: &[u16],\n    walk: &mut [u32],"),
+    ("binding", "least_delay(\n    counts: &[usize],\n    states: &[u8],\n    fields: &[u16],\n    walk: &mut [u16],", "least_delay(\n    counts: &[usize],\n    states: &[u8],\n    fields: &[u16],\n    walk: &mut [u32],"),
+    ("binding", "    team: u32,\n    walk: &mut [u16],", "    walk: &mut [u16],\n    team: u32,"),
+    ("binding", "    state: usize,\n    team: u32,\n) -> u32", "    state: usize,\n    team: u8,\n) -> u32"),
     ("binding", "    from: usize,\n    to: usize,\n    low: u32,", "    to: usize,\n    from: usize,\n    low: u32,"),
     ("binding", "    value: u32,\n) -> u32", "    value: u32,\n) -> u64"),
     ("binding", "#[no_mangle]\n", "#[no_mangle]\npub extern \"C\" fn callplan_lent_more(n: usize) -> u32\n{ 0 }\n\n#[no_mangle]\n"),
@@ -245,6 +261,8 @@ DAMAGES = [
     ("numbers", "Refusal::TextForm => 15", "Refusal::TextForm => 14"),
     ("numbers", "Refusal::FromState => 16", "Refusal::FromState => 17"),
     ("numbers", "Refusal::ToState => 17", "Refusal::ToState => 7"),
+    ("numbers", "Refusal::TeamNumber => 18", "Refusal::TeamNumber => 19"),
+    ("refusal", "number TeamNumber = 18", "number TeamNumber = 17"),
     ("refusal", "number ListFull = 9", "number ListFull = 8"),
     ("refusal", "number ToState = 17", "number ToState = 16"),
     ("refusal", "code (accepted a) = 256", "code (accepted a) = 512"),
@@ -256,7 +274,12 @@ DAMAGES = [
     ("rows", "bufferRow walks 2048", "bufferRow walks 2047"),
     ("rows", "bufferRow out 16", "bufferRow out 4"),
     ("calls", "a b c d = unjoin a", "a b c d = mark a b"),
+    ("calls", "a b c d = team a b", "a b c d = mark a b"),
     ("room", "leb 8192 fields", "leb 8191 fields"),
+    ("room", "leb 1024 states", "leb 512 states"),
+    ("class", "teamOk team = leb team 31", "teamOk team = leb team 32"),
+    ("class", "firstTeam Clinics = 10", "firstTeam Clinics = 9"),
+    ("class", "lastTeam Switchboards = 29", "lastTeam Switchboards = 30"),
     ("answered", "inTurn (λ which.", "inTurn (λ other."),
     ("which", "place GreatestDelay = 1", "place GreatestDelay = 2"),
     ("which", "inTurn f = f LeastDelay", "inTurn f = f LeastCount"),
@@ -288,6 +311,16 @@ DAMAGES = [
     ("header", "CALLPLAN_NO_CALLS = 254", "CALLPLAN_NO_CALLS = 253"),
     ("header", "CALLPLAN_CALL_JOIN = 1", "CALLPLAN_CALL_JOIN = 2"),
     ("header", "CALLPLAN_CALL_IMPORT = 4", "CALLPLAN_CALL_IMPORT = 5"),
+    ("header", "CALLPLAN_CALL_TEAM = 5", "CALLPLAN_CALL_TEAM = 6"),
+    ("header", "CALLPLAN_REFUSED_TEAM_NUMBER = 18", "CALLPLAN_REFUSED_TEAM_NUMBER = 19"),
+    ("header", "CALLPLAN_MAX_TEAM 31", "CALLPLAN_MAX_TEAM 32"),
+    ("header", "10 to 19    clinics", "10 to 20    clinics"),
+    ("header", "30 to 31    outside lines", "30 to 31    lines"),
+    ("header", "size_t state, uint32_t team);", "size_t state, uint8_t team);"),
+    ("header", "uint32_t team, uint16_t *walk, size_t walk_len,", "uint16_t *walk, size_t walk_len, uint32_t team,"),
+    ("header", "callplan_private_states(plan), 2 * CALLPLAN_MAX_STATES", "callplan_private_states(plan), CALLPLAN_MAX_STATES"),
+    ("header", "callplan_private_const_states(plan), 2 * CALLPLAN_MAX_STATES", "callplan_private_states(plan), 2 * CALLPLAN_MAX_STATES"),
+    ("header", "call(CALLPLAN_CONST_SLICES(plan), team, figure->walk, CALLPLAN_MAX_STATES, out, 4)", "call(CALLPLAN_CONST_SLICES(plan), team, figure->walk, CALLPLAN_MAX_STATES, out, 3)"),
     ("header", "const uint8_t *text, size_t text_len", "uint8_t *text, size_t text_len"),
     ("header", "CALLPLAN_REFUSED_START_COUNT = 14", "CALLPLAN_REFUSED_START_COUNT = 15"),
     ("header", "CALLPLAN_REFUSED_FROM_STATE = 16", "CALLPLAN_REFUSED_FROM_STATE = 7"),
@@ -319,6 +352,7 @@ DAMAGES = [
     ("crate", "MAX_STATES: usize = 512", "MAX_STATES: usize = 1024"),
     ("crate", "MAX_TRANSITIONS: usize = 2048", "MAX_TRANSITIONS: usize = 1024"),
     ("crate", "MAX_IMAGE_OCTETS: usize = 10756", "MAX_IMAGE_OCTETS: usize = 10757"),
+    ("crate", "MAX_TEAM: u32 = 31", "MAX_TEAM: u32 = 30"),
     ("crate", "OPEN_HIGH: u32 = 2047", "OPEN_HIGH: u32 = 2046"),
     ("crate", "MAX_TEXT_OCTETS: usize = 51221", "MAX_TEXT_OCTETS: usize = 51222"),
     ("crate", "ACCEPTED: u32 = 256", "ACCEPTED: u32 = 255"),
@@ -326,25 +360,32 @@ DAMAGES = [
     ("archive", "fields: *mut u16", "fields: *mut u32"),
     ("archive", "octets: *const u8", "octets: *mut u8"),
     ("archive", "        number: usize,\n", ""),
+    ("archive", "        team: u32,\n        walk: *mut u16,", "        team: u16,\n        walk: *mut u16,"),
     ("archive", "callplan_lent_least_delay(", "callplan_lent_delay("),
-    ("refusals", "(Refusal::SpareBits, 6,", "(Refusal::SpareBits, 16,"),
+    ("refusals", "Refusal::SpareBits,\n        6,", "Refusal::SpareBits,\n        16,"),
     ("refusals", "    ListFull,", "    Full,"),
     ("refusals", "    FromState,\n", ""),
     ("refusals", "Refusal::ToState,\n        17,", "Refusal::ToState,\n        16,"),
-    ("refusals", '"a pad or spare bit is set"', '"a spare bit is set"'),
+    ("refusals", "    TeamNumber,\n", ""),
+    ("refusals", '"a pad bit is set, or a spare bit of version 1"', '"a pad or spare bit is set"'),
+    ("refusals", '(Refusal::TeamNumber, 18, "the team is above 31")', '(Refusal::TeamNumber, 18, "the team is above 30")'),
     ("header", 'return "the marks value is above 7"', 'return "the marks value is above 8"'),
     ("header", "a transition's to is not below the state count\"", "a transition's from is not below the state count\""),
     ("header", '    case CALLPLAN_ACCEPTED: return "accepted";\n', ""),
-    ("header", "CALLPLAN_VERSION_NUMBER 5", "CALLPLAN_VERSION_NUMBER 6"),
-    ("binding", "r ≡ 500 ⌝", "r ≡ 501 ⌝"),
-    ("crate", "VERSION_NUMBER: u32 = 5", "VERSION_NUMBER: u32 = 6"),
+    ("header", "CALLPLAN_VERSION_NUMBER 6", "CALLPLAN_VERSION_NUMBER 7"),
+    ("binding", "r ≡ 600 ⌝", "r ≡ 601 ⌝"),
+    ("crate", "VERSION_NUMBER: u32 = 6", "VERSION_NUMBER: u32 = 7"),
     ("launch", "version=0", "version=1"),
     ("page", '"callplan 0', '"callplan 1'),
     ("import page", '"callplan 0', '"callplan 1'),
     ("rules page", "| 16 | join", "| 18 | join"),
-    ("changes", "## 0.5", "## 0.6"),
+    ("rules page", "| 18 | team", "| 19 | team"),
+    ("rules page", "| 1 to 9 | wards |", "| 1 to 10 | wards |"),
+    ("changes", "## 0.6", "## 0.7"),
     ("proved", "value: u32,\n    ) -> u32", "value: u32,\n    ) -> u16"),
     ("proved", "walk_len: usize", "length: usize"),
+    ("proved", "STATES: usize = 2 * MAX_STATES", "STATES: usize = MAX_STATES"),
+    ("proved", "        state: usize,\n        team: u32,\n    ) -> u32", "        state: usize,\n        team: u8,\n    ) -> u32"),
     ("proved", "NO_CALLS: u32 = 254", "NO_CALLS: u32 = 253"),
     ("proved", "SHORT_SLICE: u32 = 255", "SHORT_SLICE: u32 = 254"),
     ("proved", "ACCEPTED: u32 = 256", "ACCEPTED: u32 = 257"),

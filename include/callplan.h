@@ -49,12 +49,13 @@
 extern "C" {
 #endif
 
-#define CALLPLAN_VERSION "0.5.0"
-#define CALLPLAN_VERSION_NUMBER 500 /* 10,000 times the first number, 100 times the second, and the third */
+#define CALLPLAN_VERSION "0.6.0"
+#define CALLPLAN_VERSION_NUMBER 600 /* 10,000 times the first number, 100 times the second, and the third */
 
 #define CALLPLAN_MAX_STATES 512
 #define CALLPLAN_MAX_TRANSITIONS 2048
 #define CALLPLAN_MAX_DURATION 2047      /* seconds */
+#define CALLPLAN_MAX_TEAM 31            /* teams are numbered from 0 */
 #define CALLPLAN_OPEN_HIGH 2047         /* a high that means no limit: open, as of a phone that rings until it is picked up */
 #define CALLPLAN_MAX_IMAGE_OCTETS 10756 /* 4, 1 for each state and 5 for each transition */
 #define CALLPLAN_MAX_TEXT_OCTETS 51221  /* of a text that is exported or accepted: 21, and 25 for each transition */
@@ -65,11 +66,11 @@ typedef enum callplan_answer {
     CALLPLAN_REFUSED_PLAN_LIMITS = 0,        /* the plan that was lent breaks a limit, as one filled in by hand may */
     CALLPLAN_REFUSED_IMAGE_SHORT = 1,        /* fewer than 4 octets, or fewer than the counts give */
     CALLPLAN_REFUSED_IMAGE_LONG = 2,         /* more octets than the counts give */
-    CALLPLAN_REFUSED_VERSION = 3,            /* the image's version is not 1 */
+    CALLPLAN_REFUSED_VERSION = 3,            /* the image's version is neither 1 nor 2 */
     CALLPLAN_REFUSED_STATE_COUNT = 4,        /* 0, or above 512 */
     CALLPLAN_REFUSED_TRANSITION_COUNT = 5,   /* above 2,048 */
-    CALLPLAN_REFUSED_SPARE_BITS = 6,         /* a pad or spare bit is set */
-    CALLPLAN_REFUSED_STATE_NUMBER = 7,       /* of mark, or an initial state: not below the state count */
+    CALLPLAN_REFUSED_SPARE_BITS = 6,         /* a pad bit is set, or a spare bit of version 1 */
+    CALLPLAN_REFUSED_STATE_NUMBER = 7,       /* of mark or team, or an initial state: not below the state count */
     CALLPLAN_REFUSED_DURATION = 8,           /* low above high, or high above 2,047 */
     CALLPLAN_REFUSED_LIST_FULL = 9,          /* the plan has 2,048 transitions already */
     CALLPLAN_REFUSED_TRANSITION_NUMBER = 10, /* not below the transition count */
@@ -80,6 +81,7 @@ typedef enum callplan_answer {
     CALLPLAN_REFUSED_TEXT_FORM = 15,         /* the text is off the form of Aldebaran text */
     CALLPLAN_REFUSED_FROM_STATE = 16,        /* a transition's from is not below the state count */
     CALLPLAN_REFUSED_TO_STATE = 17,          /* a transition's to is not below the state count */
+    CALLPLAN_REFUSED_TEAM_NUMBER = 18,       /* of team, or of a count for a class: above 31 */
     CALLPLAN_NO_CALLS = 254,                 /* of replay alone: an unknown kind, or octets of a read or import outside those that are lent */
     CALLPLAN_SHORT_SLICE = 255,              /* of the callplan_lent_ functions alone: the slices are too short to hold a plan */
     CALLPLAN_ACCEPTED = 256
@@ -92,12 +94,25 @@ enum {
     CALLPLAN_START = 4
 };
 
+/* A state has a team, a number from 0 to CALLPLAN_MAX_TEAM. Every team is in one of five classes:
+ *     0           none
+ *     1 to 9      wards
+ *     10 to 19    clinics
+ *     20 to 29    switchboards
+ *     30 to 31    outside lines
+ * A class is named by the number of any team in it. */
+
 /* A plan. callplan_fresh makes one; before that it may hold anything. Copy it by assignment. */
 typedef struct callplan_plan {
     size_t counts[2];                              /* states, transitions */
     uint8_t marks[CALLPLAN_MAX_STATES];            /* a marks value for each state */
+    uint8_t teams[CALLPLAN_MAX_STATES];            /* a team for each state */
     uint16_t fields[4 * CALLPLAN_MAX_TRANSITIONS]; /* every from, then every to, every low and every high */
 } callplan_plan;
+
+/* Marks and teams are lent as one slice: no compiler puts anything between them. */
+typedef char callplan_private_teams_follow_marks
+    [offsetof(callplan_plan, teams) == offsetof(callplan_plan, marks) + CALLPLAN_MAX_STATES ? 1 : -1];
 
 typedef struct callplan_transition {
     uint16_t from; /* a state */
@@ -143,13 +158,15 @@ enum {
     CALLPLAN_CALL_JOIN = 1,   /* from, to, low, high */
     CALLPLAN_CALL_UNJOIN = 2, /* number */
     CALLPLAN_CALL_READ = 3,   /* the places where its octets start and end among those that are lent */
-    CALLPLAN_CALL_IMPORT = 4  /* the same, of its text */
+    CALLPLAN_CALL_IMPORT = 4, /* the same, of its text */
+    CALLPLAN_CALL_TEAM = 5    /* state, team */
 };
 
 /* ---- The functions of the archive, for programs that keep the arrays of a plan apart. The inline functions after them call them.
  *
  * A lent slice is a pointer, aligned and never null, and its number of places:
- *     counts, marks, fields   the arrays of a callplan_plan, with 2, 512 and 8,192 places at least
+ *     counts, states, fields  the arrays of a callplan_plan, with 2, 1,024 and 8,192 places at least: states are the 512 marks values and
+ *                             then the 512 teams
  *     octets                  the image that is read
  *     text                    the text that is imported
  *     buffer                  where write puts the image, export the text, and record the record
@@ -158,50 +175,58 @@ enum {
  *     walks, out              of quote and replay: four of either, one after another, with 2,048 and 16 places
  *     kinds, arguments        of replay: a list of calls, with four arguments for each kind
  *     answers                 of replay: where the answer of each call is put, with a place for each kind
- * With fewer places in counts, marks or fields there is no plan to look at: a function answers CALLPLAN_SHORT_SLICE, before all else,
+ * With fewer places in counts, states or fields there is no plan to look at: a function answers CALLPLAN_SHORT_SLICE, before all else,
  * and changes nothing. With fewer in a walk, walks, out or answers a call is refused by CALLPLAN_REFUSED_BUFFER_LENGTH, after the
- * refusals of the plan, of the image or of n. With fewer arguments there is no list of calls to look at: CALLPLAN_NO_CALLS.
+ * refusals of the plan, of the team, of the image or of n. With fewer arguments there is no list of calls to look at: CALLPLAN_NO_CALLS.
  * Otherwise it answers as the inline function of its name does; write, export and record answer CALLPLAN_ACCEPTED plus the octets'
  * number. Later places stay. The other arguments are those of the inline functions. */
 
 uint32_t callplan_lent_version(void);
-uint32_t callplan_lent_fresh(size_t n, size_t *counts, size_t counts_len, uint8_t *marks, size_t marks_len,
+uint32_t callplan_lent_fresh(size_t n, size_t *counts, size_t counts_len, uint8_t *states, size_t states_len,
                              uint16_t *fields, size_t fields_len);
 uint32_t callplan_lent_from_image(const uint8_t *octets, size_t octets_len, size_t *counts, size_t counts_len,
-                                  uint8_t *marks, size_t marks_len, uint16_t *fields, size_t fields_len);
-uint32_t callplan_lent_mark(size_t *counts, size_t counts_len, uint8_t *marks, size_t marks_len, uint16_t *fields,
+                                  uint8_t *states, size_t states_len, uint16_t *fields, size_t fields_len);
+uint32_t callplan_lent_mark(size_t *counts, size_t counts_len, uint8_t *states, size_t states_len, uint16_t *fields,
                             size_t fields_len, size_t state, uint32_t value);
-uint32_t callplan_lent_join(size_t *counts, size_t counts_len, uint8_t *marks, size_t marks_len, uint16_t *fields,
+uint32_t callplan_lent_team(size_t *counts, size_t counts_len, uint8_t *states, size_t states_len, uint16_t *fields,
+                            size_t fields_len, size_t state, uint32_t team);
+uint32_t callplan_lent_join(size_t *counts, size_t counts_len, uint8_t *states, size_t states_len, uint16_t *fields,
                             size_t fields_len, size_t from, size_t to, uint32_t low, uint32_t high);
-uint32_t callplan_lent_unjoin(size_t *counts, size_t counts_len, uint8_t *marks, size_t marks_len, uint16_t *fields,
+uint32_t callplan_lent_unjoin(size_t *counts, size_t counts_len, uint8_t *states, size_t states_len, uint16_t *fields,
                               size_t fields_len, size_t number);
-uint32_t callplan_lent_read(size_t *counts, size_t counts_len, uint8_t *marks, size_t marks_len, uint16_t *fields,
+uint32_t callplan_lent_read(size_t *counts, size_t counts_len, uint8_t *states, size_t states_len, uint16_t *fields,
                             size_t fields_len, const uint8_t *octets, size_t octets_len);
-uint32_t callplan_lent_write(const size_t *counts, size_t counts_len, const uint8_t *marks, size_t marks_len,
+uint32_t callplan_lent_write(const size_t *counts, size_t counts_len, const uint8_t *states, size_t states_len,
                              const uint16_t *fields, size_t fields_len, uint8_t *buffer, size_t buffer_len);
-uint32_t callplan_lent_import(size_t *counts, size_t counts_len, uint8_t *marks, size_t marks_len, uint16_t *fields,
+uint32_t callplan_lent_import(size_t *counts, size_t counts_len, uint8_t *states, size_t states_len, uint16_t *fields,
                               size_t fields_len, const uint8_t *text, size_t text_len);
-uint32_t callplan_lent_export(const size_t *counts, size_t counts_len, const uint8_t *marks, size_t marks_len,
+uint32_t callplan_lent_export(const size_t *counts, size_t counts_len, const uint8_t *states, size_t states_len,
                               const uint16_t *fields, size_t fields_len, uint8_t *buffer, size_t buffer_len);
-uint32_t callplan_lent_least_delay(const size_t *counts, size_t counts_len, const uint8_t *marks, size_t marks_len,
+uint32_t callplan_lent_least_delay(const size_t *counts, size_t counts_len, const uint8_t *states, size_t states_len,
                                    const uint16_t *fields, size_t fields_len, uint16_t *walk, size_t walk_len,
                                    uint32_t *out, size_t out_len);
-uint32_t callplan_lent_greatest_delay(const size_t *counts, size_t counts_len, const uint8_t *marks, size_t marks_len,
+uint32_t callplan_lent_greatest_delay(const size_t *counts, size_t counts_len, const uint8_t *states, size_t states_len,
                                       const uint16_t *fields, size_t fields_len, uint16_t *walk, size_t walk_len,
                                       uint32_t *out, size_t out_len);
-uint32_t callplan_lent_least_count(const size_t *counts, size_t counts_len, const uint8_t *marks, size_t marks_len,
+uint32_t callplan_lent_least_count(const size_t *counts, size_t counts_len, const uint8_t *states, size_t states_len,
                                    const uint16_t *fields, size_t fields_len, uint16_t *walk, size_t walk_len,
                                    uint32_t *out, size_t out_len);
-uint32_t callplan_lent_greatest_count(const size_t *counts, size_t counts_len, const uint8_t *marks, size_t marks_len,
+uint32_t callplan_lent_greatest_count(const size_t *counts, size_t counts_len, const uint8_t *states, size_t states_len,
                                       const uint16_t *fields, size_t fields_len, uint16_t *walk, size_t walk_len,
                                       uint32_t *out, size_t out_len);
-uint32_t callplan_lent_record(const size_t *counts, size_t counts_len, const uint8_t *marks, size_t marks_len,
+uint32_t callplan_lent_least_count_for(const size_t *counts, size_t counts_len, const uint8_t *states, size_t states_len,
+                                       const uint16_t *fields, size_t fields_len, uint32_t team, uint16_t *walk, size_t walk_len,
+                                       uint32_t *out, size_t out_len);
+uint32_t callplan_lent_greatest_count_for(const size_t *counts, size_t counts_len, const uint8_t *states, size_t states_len,
+                                          const uint16_t *fields, size_t fields_len, uint32_t team, uint16_t *walk,
+                                          size_t walk_len, uint32_t *out, size_t out_len);
+uint32_t callplan_lent_record(const size_t *counts, size_t counts_len, const uint8_t *states, size_t states_len,
                               const uint16_t *fields, size_t fields_len, uint8_t *buffer, size_t buffer_len);
 uint32_t callplan_lent_quote(const uint8_t *octets, size_t octets_len, uint16_t *walks, size_t walks_len, uint32_t *out,
                              size_t out_len);
 uint32_t callplan_lent_replay(size_t n, const uint8_t *kinds, size_t kinds_len, const size_t *arguments, size_t arguments_len,
                               const uint8_t *octets, size_t octets_len, uint32_t *answers, size_t answers_len, size_t *counts,
-                              size_t counts_len, uint8_t *marks, size_t marks_len, uint16_t *fields, size_t fields_len,
+                              size_t counts_len, uint8_t *states, size_t states_len, uint16_t *fields, size_t fields_len,
                               uint16_t *walks, size_t walks_len, uint32_t *out, size_t out_len);
 
 /* What an answer says, in a few words of English. */
@@ -211,10 +236,10 @@ static inline const char *callplan_answer_text(callplan_answer answer)
     case CALLPLAN_REFUSED_PLAN_LIMITS: return "the plan breaks a limit of a plan";
     case CALLPLAN_REFUSED_IMAGE_SHORT: return "the image has fewer than 4 octets, or fewer than its counts give";
     case CALLPLAN_REFUSED_IMAGE_LONG: return "the image has more octets than its counts give";
-    case CALLPLAN_REFUSED_VERSION: return "the image's version is not 1";
+    case CALLPLAN_REFUSED_VERSION: return "the image's version is neither 1 nor 2";
     case CALLPLAN_REFUSED_STATE_COUNT: return "the state count is 0 or above 512";
     case CALLPLAN_REFUSED_TRANSITION_COUNT: return "the transition count is above 2,048";
-    case CALLPLAN_REFUSED_SPARE_BITS: return "a pad or spare bit is set";
+    case CALLPLAN_REFUSED_SPARE_BITS: return "a pad bit is set, or a spare bit of version 1";
     case CALLPLAN_REFUSED_STATE_NUMBER: return "a state number is not below the state count";
     case CALLPLAN_REFUSED_DURATION: return "low is above high, or high above 2,047";
     case CALLPLAN_REFUSED_LIST_FULL: return "the plan has 2,048 transitions already";
@@ -226,6 +251,7 @@ static inline const char *callplan_answer_text(callplan_answer answer)
     case CALLPLAN_REFUSED_TEXT_FORM: return "the text is off the form of Aldebaran text";
     case CALLPLAN_REFUSED_FROM_STATE: return "a transition's from is not below the state count";
     case CALLPLAN_REFUSED_TO_STATE: return "a transition's to is not below the state count";
+    case CALLPLAN_REFUSED_TEAM_NUMBER: return "the team is above 31";
     case CALLPLAN_NO_CALLS: return "the slices are no list of calls";
     case CALLPLAN_SHORT_SLICE: return "the slices are too short to hold a plan";
     case CALLPLAN_ACCEPTED: return "accepted";
@@ -233,9 +259,22 @@ static inline const char *callplan_answer_text(callplan_answer answer)
     return "an unknown answer";
 }
 
-/* The three slices of a plan, as arguments. */
+/* The marks and the teams of a plan as one slice. Its pointer is made from that to the plan, so that it reaches over both arrays. */
+static inline uint8_t *callplan_private_states(callplan_plan *plan)
+{
+    return CALLPLAN_CAST(uint8_t *, CALLPLAN_CAST(void *, plan)) + offsetof(callplan_plan, marks);
+}
+
+static inline const uint8_t *callplan_private_const_states(const callplan_plan *plan)
+{
+    return CALLPLAN_CAST(const uint8_t *, CALLPLAN_CAST(const void *, plan)) + offsetof(callplan_plan, marks);
+}
+
+/* The three slices of a plan, as arguments, and those of a plan that is not changed. */
 #define CALLPLAN_SLICES(plan) \
-    (plan)->counts, 2, (plan)->marks, CALLPLAN_MAX_STATES, (plan)->fields, 4 * CALLPLAN_MAX_TRANSITIONS
+    (plan)->counts, 2, callplan_private_states(plan), 2 * CALLPLAN_MAX_STATES, (plan)->fields, 4 * CALLPLAN_MAX_TRANSITIONS
+#define CALLPLAN_CONST_SLICES(plan) \
+    (plan)->counts, 2, callplan_private_const_states(plan), 2 * CALLPLAN_MAX_STATES, (plan)->fields, 4 * CALLPLAN_MAX_TRANSITIONS
 
 /* The number that a function of the archive answers, by its name. */
 static inline callplan_answer callplan_private_answer(uint32_t number)
@@ -253,7 +292,7 @@ static inline void callplan_private_check_version(void)
 
 /* ---- Edits. */
 
-/* Makes *plan a plan with n states, all marks 0 and no transitions, whatever it held before.
+/* Makes *plan a plan with n states, all marks and teams 0 and no transitions, whatever it held before.
  * Refused: STATE_COUNT. */
 CALLPLAN_ANSWERS callplan_fresh(callplan_plan *plan, size_t n)
 {
@@ -261,11 +300,18 @@ CALLPLAN_ANSWERS callplan_fresh(callplan_plan *plan, size_t n)
     return callplan_private_answer(callplan_lent_fresh(n, CALLPLAN_SLICES(plan)));
 }
 
-/* Makes the marks value of a state the value given.
+/* Makes the marks value of a state the value given. Its team stays.
  * Refused: PLAN_LIMITS, STATE_NUMBER, MARKS_VALUE. */
 CALLPLAN_ANSWERS callplan_mark(callplan_plan *plan, size_t state, uint32_t value)
 {
     return callplan_private_answer(callplan_lent_mark(CALLPLAN_SLICES(plan), state, value));
+}
+
+/* Makes the team of a state the one given. Its marks stay.
+ * Refused: PLAN_LIMITS, STATE_NUMBER, TEAM_NUMBER. */
+CALLPLAN_ANSWERS callplan_team(callplan_plan *plan, size_t state, uint32_t team)
+{
+    return callplan_private_answer(callplan_lent_team(CALLPLAN_SLICES(plan), state, team));
 }
 
 /* Puts a transition at the end of the list. It takes from low to high seconds, or low or more where high is CALLPLAN_OPEN_HIGH.
@@ -282,12 +328,15 @@ CALLPLAN_ANSWERS callplan_unjoin(callplan_plan *plan, size_t number)
     return callplan_private_answer(callplan_lent_unjoin(CALLPLAN_SLICES(plan), number));
 }
 
-/* ---- The image. */
+/* ---- The image.
+ *
+ * Images of versions 1 and 2 are read, and version 2 is written. They differ in the last five bits of each state, which are its team in
+ * version 2. In version 1 they are spare and zero, and all teams of the plan are 0. */
 
 /* Makes *plan the plan that the octets are the image of, in place of the one that it holds.
  * Refused: PLAN_LIMITS, of the plan that it holds; IMAGE_SHORT, of fewer than 4 octets; VERSION, STATE_COUNT, TRANSITION_COUNT;
- * SPARE_BITS, of the pad; IMAGE_SHORT, IMAGE_LONG; state by state SPARE_BITS; transition by transition FROM_STATE, TO_STATE,
- * DURATION. */
+ * SPARE_BITS, of the pad; IMAGE_SHORT, IMAGE_LONG; of version 1 state by state SPARE_BITS; transition by transition FROM_STATE,
+ * TO_STATE, DURATION. */
 CALLPLAN_ANSWERS callplan_read(callplan_plan *plan, const uint8_t *octets, size_t length)
 {
     const uint8_t none = 0;
@@ -316,14 +365,14 @@ static inline callplan_answer callplan_private_written(uint32_t answer, size_t *
     return CALLPLAN_ACCEPTED;
 }
 
-/* Puts the image of *plan at the front of buffer; later octets stay. The number of its octets, at most CALLPLAN_MAX_IMAGE_OCTETS,
- * goes to *written unless written is null.
+/* Puts the image of *plan, of version 2, at the front of buffer; later octets stay. The number of its octets, at most
+ * CALLPLAN_MAX_IMAGE_OCTETS, goes to *written unless written is null.
  * Refused: PLAN_LIMITS, BUFFER_LENGTH. */
 CALLPLAN_ANSWERS callplan_write(const callplan_plan *plan, uint8_t *buffer, size_t length, size_t *written)
 {
     uint8_t none = 0;
     return callplan_private_written(
-        callplan_lent_write(CALLPLAN_SLICES(plan), length != 0 ? buffer : &none, length), written);
+        callplan_lent_write(CALLPLAN_CONST_SLICES(plan), length != 0 ? buffer : &none, length), written);
 }
 
 /* ---- The Aldebaran text, for plans from and to other exchanges.
@@ -332,8 +381,8 @@ CALLPLAN_ANSWERS callplan_write(const callplan_plan *plan, uint8_t *buffer, size
  * `(FROM, "LOW..HIGH", TO)` for each transition, in their order. Every line is ended by a line feed, and every space is as it stands
  * here. Numbers are decimal, of any length and without leading zeros. A HIGH of 2047 is open. */
 
-/* Makes *plan the plan that the text holds, in place of the one that it holds. The initial state is marked start, and nothing else is
- * marked. Exported, it is the same text again. The text is looked at as octets, and needs no 0 at its end.
+/* Makes *plan the plan that the text holds, in place of the one that it holds. The initial state is marked start, nothing else is
+ * marked, and all teams are 0. Exported, it is the same text again. The text is looked at as octets, and needs no 0 at its end.
  * Refused: PLAN_LIMITS, of the plan that it holds; TEXT_FORM, of the whole text, the number of its lines included; STATE_COUNT,
  * TRANSITION_COUNT; STATE_NUMBER, of the initial state; line by line FROM_STATE, TO_STATE, DURATION. */
 CALLPLAN_ANSWERS callplan_import(callplan_plan *plan, const uint8_t *text, size_t length)
@@ -343,13 +392,14 @@ CALLPLAN_ANSWERS callplan_import(callplan_plan *plan, const uint8_t *text, size_
 }
 
 /* Puts the text of *plan at the front of buffer; later octets stay, and no 0 is put after it. The number of its octets, at most
- * CALLPLAN_MAX_TEXT_OCTETS, goes to *written unless written is null. Imported, it is the plan without its final and counted marks.
+ * CALLPLAN_MAX_TEXT_OCTETS, goes to *written unless written is null. Imported, it is the plan without its final and counted marks
+ * and its teams.
  * Refused: PLAN_LIMITS, START_COUNT, BUFFER_LENGTH. */
 CALLPLAN_ANSWERS callplan_export(const callplan_plan *plan, uint8_t *buffer, size_t length, size_t *written)
 {
     uint8_t none = 0;
     return callplan_private_written(
-        callplan_lent_export(CALLPLAN_SLICES(plan), length != 0 ? buffer : &none, length), written);
+        callplan_lent_export(CALLPLAN_CONST_SLICES(plan), length != 0 ? buffer : &none, length), written);
 }
 
 /* ---- Quotations.
@@ -367,6 +417,15 @@ static inline void callplan_private_fill(callplan_figure *figure, const uint32_t
     figure->j = out[3];
 }
 
+/* The answer of a quotation, whose numbers go into *figure unless it was refused. */
+static inline callplan_answer callplan_private_quoted(uint32_t answer, callplan_figure *figure, const uint32_t *out)
+{
+    if (answer == CALLPLAN_ACCEPTED) {
+        callplan_private_fill(figure, out);
+    }
+    return callplan_private_answer(answer);
+}
+
 /* A quotation of the archive, and a call of it. */
 typedef uint32_t callplan_private_call(const size_t *, size_t, const uint8_t *, size_t, const uint16_t *, size_t,
                                        uint16_t *, size_t, uint32_t *, size_t);
@@ -375,11 +434,20 @@ static inline callplan_answer callplan_private_quotation(callplan_private_call *
                                                          callplan_figure *figure)
 {
     uint32_t out[4] = {0};
-    const uint32_t answer = call(CALLPLAN_SLICES(plan), figure->walk, CALLPLAN_MAX_STATES, out, 4);
-    if (answer == CALLPLAN_ACCEPTED) {
-        callplan_private_fill(figure, out);
-    }
-    return callplan_private_answer(answer);
+    const uint32_t answer = call(CALLPLAN_CONST_SLICES(plan), figure->walk, CALLPLAN_MAX_STATES, out, 4);
+    return callplan_private_quoted(answer, figure, out);
+}
+
+/* The same of a count for a class. */
+typedef uint32_t callplan_private_count_call(const size_t *, size_t, const uint8_t *, size_t, const uint16_t *, size_t,
+                                             uint32_t, uint16_t *, size_t, uint32_t *, size_t);
+
+static inline callplan_answer callplan_private_count(callplan_private_count_call *call, const callplan_plan *plan,
+                                                     uint32_t team, callplan_figure *figure)
+{
+    uint32_t out[4] = {0};
+    const uint32_t answer = call(CALLPLAN_CONST_SLICES(plan), team, figure->walk, CALLPLAN_MAX_STATES, out, 4);
+    return callplan_private_quoted(answer, figure, out);
 }
 
 /* The least delay: the smallest sum of lows over all routes, or CALLPLAN_NONE. A low of 2,047 is 2,047 seconds, and open highs are of
@@ -410,6 +478,20 @@ CALLPLAN_ANSWERS callplan_greatest_count(const callplan_plan *plan, callplan_fig
     return callplan_private_quotation(callplan_lent_greatest_count, plan, figure);
 }
 
+/* The least and the greatest count for a class, the one that the team given is in. A state counts where its own team is in that class,
+ * and its counted mark is of no account. Otherwise they are as the least and the greatest count, and every team of a class gives the
+ * same figure. The record and callplan_quote have the counts by the counted mark.
+ * Refused: PLAN_LIMITS, TEAM_NUMBER. */
+CALLPLAN_ANSWERS callplan_least_count_for(const callplan_plan *plan, uint32_t team, callplan_figure *figure)
+{
+    return callplan_private_count(callplan_lent_least_count_for, plan, team, figure);
+}
+
+CALLPLAN_ANSWERS callplan_greatest_count_for(const callplan_plan *plan, uint32_t team, callplan_figure *figure)
+{
+    return callplan_private_count(callplan_lent_greatest_count_for, plan, team, figure);
+}
+
 /* Puts the record of the four figures at the front of buffer; later octets stay. The number of its octets, CALLPLAN_RECORD_OCTETS,
  * goes to *written unless written is null.
  * Refused: PLAN_LIMITS, BUFFER_LENGTH, FIGURE_SIZE. */
@@ -417,7 +499,7 @@ CALLPLAN_ANSWERS callplan_record(const callplan_plan *plan, uint8_t *buffer, siz
 {
     uint8_t none = 0;
     return callplan_private_written(
-        callplan_lent_record(CALLPLAN_SLICES(plan), length != 0 ? buffer : &none, length), written);
+        callplan_lent_record(CALLPLAN_CONST_SLICES(plan), length != 0 ? buffer : &none, length), written);
 }
 
 /* Puts the numbers and the walks of four accepted quotations into *quotations. */
@@ -489,6 +571,11 @@ static inline uint8_t callplan_marks(const callplan_plan *plan, size_t state)
     return state < CALLPLAN_MAX_STATES && state < plan->counts[0] ? plan->marks[state] : CALLPLAN_CAST(uint8_t, 0);
 }
 
+static inline uint8_t callplan_team_of(const callplan_plan *plan, size_t state)
+{
+    return state < CALLPLAN_MAX_STATES && state < plan->counts[0] ? plan->teams[state] : CALLPLAN_CAST(uint8_t, 0);
+}
+
 static inline callplan_transition callplan_transition_at(const callplan_plan *plan, size_t number)
 {
     callplan_transition transition = {0, 0, 0, 0};
@@ -509,7 +596,7 @@ static inline int callplan_equal(const callplan_plan *one, const callplan_plan *
     if (n != other->counts[0] || m != other->counts[1] || n > CALLPLAN_MAX_STATES || m > CALLPLAN_MAX_TRANSITIONS) {
         return 0;
     }
-    if (memcmp(one->marks, other->marks, n) != 0) {
+    if (memcmp(one->marks, other->marks, n) != 0 || memcmp(one->teams, other->teams, n) != 0) {
         return 0;
     }
     for (size_t i = 0; i < 4; i++) {
@@ -522,6 +609,7 @@ static inline int callplan_equal(const callplan_plan *one, const callplan_plan *
 }
 
 #undef CALLPLAN_SLICES
+#undef CALLPLAN_CONST_SLICES
 #undef CALLPLAN_ANSWERS
 #undef CALLPLAN_CAST
 

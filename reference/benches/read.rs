@@ -72,9 +72,12 @@ impl Baseline {
         let header = u32::from_be_bytes([a, b, c, d]);
         let n = (header >> 18 & 1023) as usize;
         let m = (header >> 6 & 4095) as usize;
-        if header >> 28 != 1 {
-            return 3;
-        }
+        // The bits of a state that are spare.
+        let spare = match header >> 28 {
+            1 => 31,
+            2 => 0,
+            _ => return 3,
+        };
         if !(1..=MAX_STATES).contains(&n) {
             return 4;
         }
@@ -93,11 +96,12 @@ impl Baseline {
         let mut next = self.clone();
         (next.states, next.transitions) = (n, m);
         let (states, transitions) = octets[4..].split_at(n);
-        for (marks, state) in next.marks.iter_mut().zip(states) {
-            if state & 31 != 0 {
+        let places = next.marks.iter_mut().zip(&mut next.teams);
+        for ((marks, team), state) in places.zip(states) {
+            if state & spare != 0 {
                 return 6;
             }
-            *marks = state >> 5;
+            (*marks, *team) = (state >> 5, state & 31);
         }
         for (i, t) in transitions.chunks_exact(5).enumerate() {
             let bits = u64::from_be_bytes([0, 0, 0, t[0], t[1], t[2], t[3], t[4]]);
@@ -126,12 +130,13 @@ impl Baseline {
         let Some(image) = buffer.get_mut(..length(n, m)) else {
             return 11;
         };
-        let header = 1 << 28 | (n as u32) << 18 | (m as u32) << 6;
+        let header = 2 << 28 | (n as u32) << 18 | (m as u32) << 6;
         let (front, rest) = image.split_at_mut(4);
         let (states, transitions) = rest.split_at_mut(n);
         front.copy_from_slice(&header.to_be_bytes());
-        for (state, marks) in states.iter_mut().zip(&self.marks) {
-            *state = marks << 5;
+        let held = self.marks.iter().zip(&self.teams);
+        for (state, (marks, team)) in states.iter_mut().zip(held) {
+            *state = marks << 5 | team;
         }
         for (i, t) in transitions.chunks_exact_mut(5).enumerate() {
             let ends = u64::from(self.from[i]) << 31 | u64::from(self.to[i]) << 22;

@@ -19,10 +19,10 @@ const LARGE: u64 = 1 << 40;
 
 fn main() {
     let mut full = full_plan();
-    for marks in &mut full.marks {
-        *marks %= 4;
+    for state in &mut full.states {
+        state.marks %= 4;
     }
-    full.marks[MAX_STATES / 2] += 4;
+    full.states[MAX_STATES / 2].marks += 4;
     let text = encode(&full).expect("it has one start");
     let text = text.as_bytes();
     let mut lent = LentPlan::zeroed();
@@ -56,7 +56,10 @@ fn main() {
         || assert_eq!(quick.import(black_box(text)), ACCEPTED),
         || assert_eq!(plan.import(black_box(text)), Ok(())),
     );
-    assert!(plan == full.stripped(), "the plan stripped of its marks");
+    assert!(
+        plan == full.stripped(),
+        "the plan stripped of its marks and teams"
+    );
     assert!(
         lent.plan() == plan,
         "the library and the reference hold the same plan"
@@ -217,6 +220,7 @@ impl Baseline {
         }
         (self.states, self.transitions) = (n as usize, lines);
         self.marks[..self.states].fill(0);
+        self.teams[..self.states].fill(0);
         self.marks[initial as usize] = 4;
         Some(answer)
     }

@@ -31,12 +31,10 @@ impl Plan {
         Ok(text.len())
     }
 
-    /// The same plan without its final and counted marks.
+    /// The same plan without its final and counted marks and its teams.
     pub fn stripped(&self) -> Plan {
-        Plan {
-            marks: self.marks.iter().map(|marks| marks & START).collect(),
-            transitions: self.transitions.clone(),
-        }
+        let marks = self.states.iter().map(|state| state.marks & START);
+        Plan::of(marks.collect(), self.transitions.clone())
     }
 }
 
@@ -64,15 +62,12 @@ pub fn decode(text: &[u8]) -> Result<Plan, Refusal> {
         low: line.low.small() as u32,
         high: line.high.small() as u32,
     });
-    Ok(Plan {
-        marks,
-        transitions: transitions.collect(),
-    })
+    Ok(Plan::of(marks, transitions.collect()))
 }
 
 /// The text of a plan, which must be within the limits and have exactly one start.
 pub fn encode(plan: &Plan) -> Result<String, Refusal> {
-    let n = plan.marks.len();
+    let n = plan.states.len();
     let starts: Vec<usize> = (0..n).filter(|&state| plan.is_start(state)).collect();
     let [initial] = starts[..] else {
         return Err(Refusal::StartCount);

@@ -1,10 +1,10 @@
-//! Whether a shown walk is one that document 01 asks for ("Routes and figures"), and E2 of document
-//! 02.
+//! Whether a shown walk is one that document 01 asks for ("Routes and figures"), and E2 and E4 of
+//! document 02.
 //!
 //! The checker takes the value as said and looks at the walk alone. Whether the value is right is
 //! for the calculators to say.
 
-use crate::figure::{Figure, Quotation, Value};
+use crate::figure::{Asked, Figure, Quotation, Value};
 use crate::plan::{Duration, Plan};
 
 /// What is wrong with a shown walk.
@@ -42,10 +42,12 @@ pub enum Fault {
     NotOpen,
 }
 
-/// Looks at the walk shown with a figure of a plan within the limits.
-pub fn check(plan: &Plan, figure: Figure, shown: &Quotation) -> Result<(), Fault> {
+/// Looks at the walk shown with what is asked of a plan within the limits.
+pub fn check(plan: &Plan, asked: impl Into<Asked>, shown: &Quotation) -> Result<(), Fault> {
+    let asked = asked.into();
+    let figure = asked.figure;
     let k = shown.walk.len();
-    require(k <= plan.marks.len(), Fault::Length)?;
+    require(k <= plan.states.len(), Fault::Length)?;
     let known = |&number: &usize| number < plan.transitions.len();
     require(shown.walk.iter().all(known), Fault::NoTransition)?;
     require(
@@ -55,7 +57,7 @@ pub fn check(plan: &Plan, figure: Figure, shown: &Quotation) -> Result<(), Fault
     match shown.value {
         Value::None => require(k == 0, Fault::WalkOfNone),
         Value::Number(number) => from_some_start(plan, shown, |states| {
-            is_route(plan, figure, shown, states, number)
+            is_route(plan, asked, shown, states, number)
         }),
         Value::Stranded => {
             require(!figure.is_least(), Fault::Kind)?;
@@ -80,7 +82,7 @@ fn from_some_start(
     is_as_asked: impl Fn(&[usize]) -> Result<(), Fault>,
 ) -> Result<(), Fault> {
     let Some(&first) = shown.walk.first() else {
-        let mut starts = (0..plan.marks.len()).filter(|&state| plan.is_start(state));
+        let mut starts = (0..plan.states.len()).filter(|&state| plan.is_start(state));
         let found = starts.any(|state| is_as_asked(&[state]).is_ok());
         return require(found, Fault::NoStart);
     };
@@ -97,7 +99,7 @@ fn from_some_start(
 /// "a route that attains the figure and visits no state twice"
 fn is_route(
     plan: &Plan,
-    figure: Figure,
+    asked: Asked,
     shown: &Quotation,
     states: &[usize],
     number: u32,
@@ -107,7 +109,7 @@ fn is_route(
     require(plan.is_final(last), Fault::Unanswered)?;
     require(all_differ(states), Fault::Twice)?;
     let steps = shown.walk.iter().map(|&number| plan.transitions[number]);
-    let attained = match figure {
+    let attained = match asked.figure {
         Figure::LeastDelay => Some(steps.map(|step| step.low).sum()),
         // No number where one of them is open.
         Figure::GreatestDelay => steps
@@ -117,7 +119,7 @@ fn is_route(
             })
             .sum(),
         Figure::LeastCount | Figure::GreatestCount => {
-            let counted = states.iter().filter(|&&state| plan.is_counted(state));
+            let counted = states.iter().filter(|&&state| asked.counts(plan, state));
             Some(counted.count() as u32)
         }
     };
@@ -202,10 +204,7 @@ mod tests {
                 low: 1 << number,
                 high: 2 << number,
             });
-        Plan {
-            marks: vec![4, 0, 1, 3, 0, 0, 6, 4],
-            transitions: transitions.collect(),
-        }
+        Plan::of(vec![4, 0, 1, 3, 0, 0, 6, 4], transitions.collect())
     }
 
     fn verdict(figure: Figure, value: Value, walk: &[usize], j: usize) -> Result<(), Fault> {
@@ -342,6 +341,53 @@ mod tests {
         assert_eq!(verdict(GreatestCount, 2), Ok(()));
     }
 
+    /// A count for a class is of the states of the class, whatever is marked counted.
+    #[test]
+    fn routes_counted_for_a_class() {
+        let mut plan = plan();
+        for (state, team) in [(0, 9), (1, 10), (2, 1), (3, 31), (4, 5), (6, 20)] {
+            plan.states[state].team = team;
+        }
+        for (team, number) in [
+            (0, 0),
+            (1, 2),
+            (9, 2),
+            (10, 1),
+            (19, 1),
+            (20, 0),
+            (30, 1),
+            (31, 1),
+        ] {
+            for figure in [LeastCount, GreatestCount] {
+                let verdict = |number, walk: &[usize]| {
+                    let shown = Quotation::new(Value::Number(number), walk.to_vec());
+                    check(&plan, figure.for_class_of(team), &shown)
+                };
+                assert_eq!(verdict(number, &[0, 1, 2]), Ok(()), "{team}");
+                let other = verdict(number + 1, &[0, 1, 2]);
+                assert_eq!(other, Err(Fault::OtherNumber), "{team}");
+                // State 6 alone.
+                let alone = u32::from(team == 20);
+                assert_eq!(verdict(alone, &[]), Ok(()), "{team}");
+                assert_eq!(verdict(1 - alone, &[]), Err(Fault::NoStart), "{team}");
+            }
+        }
+        // The walks of the other kinds are those of any count.
+        for (value, walk, j, expected) in [
+            (Value::Stranded, &[0, 4][..], 0, Ok(())),
+            (Value::Endless, &[0, 6], 1, Ok(())),
+            (Value::Endless, &[0, 6], 2, Err(Fault::NotOpen)),
+            (Value::Stranded, &[0, 1], 0, Err(Fault::NoDeadEnd)),
+        ] {
+            let walk = walk.to_vec();
+            let shown = Quotation { value, walk, j };
+            let found = check(&plan, GreatestCount.for_class_of(3), &shown);
+            assert_eq!(found, expected);
+            let found = check(&plan, LeastCount.for_class_of(3), &shown);
+            assert_eq!(found, Err(Fault::Kind));
+        }
+    }
+
     #[test]
     fn wrong_kinds_places_and_lengths() {
         for figure in [LeastDelay, LeastCount] {
@@ -420,7 +466,7 @@ mod tests {
         }
         // No transitions, and no start that is a dead end: 7 is no start now, 4 never was one.
         let mut plan = plan();
-        plan.marks[7] = 0;
+        plan.states[7].marks = 0;
         let shown = Quotation::new(Value::Stranded, Vec::new());
         assert_eq!(check(&plan, GreatestDelay, &shown), Err(Fault::NoStart));
     }

@@ -1,7 +1,8 @@
-//! The four figures, what each comes to, and the walk shown with it.
+//! The four figures, what is asked for, what it comes to, and the walk shown with it.
 
 use std::ops::Add;
 
+use crate::class::class;
 use crate::plan::{Duration, Plan};
 
 /// A figure of a plan.
@@ -35,24 +36,68 @@ impl Figure {
         matches!(self, Figure::LeastDelay | Figure::LeastCount)
     }
 
+    /// The counts may be asked for a class: for the class that this team is in.
+    pub fn for_class_of(self, team: u32) -> Asked {
+        assert!(matches!(self, Figure::LeastCount | Figure::GreatestCount));
+        let team = Some(team);
+        Asked { figure: self, team }
+    }
+}
+
+/// What is quoted: a figure, and of a count which states count. Where it names a team, it is "quoted
+/// for any one of these five classes, named by a team number in it, instead of the counted mark"
+/// (document 02, E4). A team above 31 is in no class.
+#[derive(Clone, Copy, Debug, PartialEq, Eq)]
+pub struct Asked {
+    pub figure: Figure,
+    pub team: Option<u32>,
+}
+
+impl From<Figure> for Asked {
+    fn from(figure: Figure) -> Asked {
+        Asked { figure, team: None }
+    }
+}
+
+impl Asked {
+    pub fn name(self) -> String {
+        match self.team {
+            Some(team) => format!("{} for team {team}", self.figure.name()),
+            None => self.figure.name().to_string(),
+        }
+    }
+
+    /// Whether a state counts.
+    pub fn counts(self, plan: &Plan, state: usize) -> bool {
+        match self.team {
+            Some(team) => class(u32::from(plan.states[state].team)) == class(team),
+            None => plan.is_counted(state),
+        }
+    }
+
+    /// What a visit of a state adds to a count.
+    fn state_cost(self, plan: &Plan, state: usize) -> Cost {
+        Cost::Number(u32::from(self.counts(plan, state)))
+    }
+
     /// What a walk costs that begins at a state.
     pub(crate) fn first_cost(self, plan: &Plan, state: usize) -> Cost {
-        match self {
+        match self.figure {
             Figure::LeastDelay | Figure::GreatestDelay => Cost::Number(0),
-            Figure::LeastCount | Figure::GreatestCount => Cost::of_state(plan, state),
+            Figure::LeastCount | Figure::GreatestCount => self.state_cost(plan, state),
         }
     }
 
     /// What a transition of a given number adds, with the state where it arrives.
     pub(crate) fn step_cost(self, plan: &Plan, number: usize) -> Cost {
         let transition = plan.transitions[number];
-        match self {
+        match self.figure {
             Figure::LeastDelay => Cost::Number(transition.low),
             Figure::GreatestDelay => match transition.longest() {
                 Duration::Seconds(seconds) => Cost::Number(seconds),
                 Duration::Open => Cost::Endless,
             },
-            Figure::LeastCount | Figure::GreatestCount => Cost::of_state(plan, transition.to),
+            Figure::LeastCount | Figure::GreatestCount => self.state_cost(plan, transition.to),
         }
     }
 }
@@ -63,13 +108,6 @@ impl Figure {
 pub(crate) enum Cost {
     Number(u32),
     Endless,
-}
-
-impl Cost {
-    /// What a visit of a state adds to a count.
-    fn of_state(plan: &Plan, state: usize) -> Cost {
-        Cost::Number(u32::from(plan.is_counted(state)))
-    }
 }
 
 impl Add for Cost {

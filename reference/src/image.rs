@@ -1,11 +1,15 @@
-//! The image of a plan, both ways.
+//! The image of a plan, both ways. Versions 1 and 2 are read, and version 2 is written (document 02,
+//! E4).
 
 use crate::bits::{BitReader, BitWriter};
-use crate::plan::{Plan, Transition, MAX_STATES, MAX_TRANSITIONS};
+use crate::plan::{Plan, State, Transition, MAX_STATES, MAX_TRANSITIONS};
 use crate::refusal::{require, Refusal};
 
 const HEADER_OCTETS: usize = 4;
-const VERSION: u32 = 1;
+/// The version without teams: the last five bits of a state are spare, and zero.
+const TEAMLESS: u32 = 1;
+/// The version that is written: they are the state's team.
+const VERSION: u32 = 2;
 
 /// The length in octets of an image with `n` states and `m` transitions.
 pub fn length(n: usize, m: usize) -> usize {
@@ -23,7 +27,7 @@ impl Plan {
     /// Puts the image at the front of the buffer and returns its length. Later octets stay.
     pub fn write(&self, buffer: &mut [u8]) -> Result<usize, Refusal> {
         self.require_limits()?;
-        let length = length(self.marks.len(), self.transitions.len());
+        let length = length(self.states.len(), self.transitions.len());
         require(buffer.len() >= length, Refusal::BufferTooShort)?;
         buffer[..length].copy_from_slice(&encode(self));
         Ok(length)
@@ -39,21 +43,25 @@ pub fn decode(octets: &[u8]) -> Result<Plan, Refusal> {
     let n = bits.take(10) as usize;
     let m = bits.take(12) as usize;
     let pad = bits.take(6);
-    require(version == VERSION, Refusal::Version)?;
+    require([TEAMLESS, VERSION].contains(&version), Refusal::Version)?;
     require((1..=MAX_STATES).contains(&n), Refusal::StateCount)?;
     require(m <= MAX_TRANSITIONS, Refusal::TransitionCount)?;
     require(pad == 0, Refusal::SpareBit)?;
     require(octets.len() >= length(n, m), Refusal::ImageTooShort)?;
     require(octets.len() <= length(n, m), Refusal::ImageTooLong)?;
 
-    let mut marks = Vec::with_capacity(n);
+    let mut states = Vec::with_capacity(n);
     for _ in 0..n {
         let is_start = bits.take(1);
         let is_final = bits.take(1);
         let is_counted = bits.take(1);
-        let spare = bits.take(5);
-        require(spare == 0, Refusal::SpareBit)?;
-        marks.push((4 * is_start + 2 * is_final + is_counted) as u8);
+        // In version 1 a team other than 0 is a spare bit that is set.
+        let team = bits.take(5);
+        require(version == VERSION || team == 0, Refusal::SpareBit)?;
+        states.push(State {
+            marks: (4 * is_start + 2 * is_final + is_counted) as u8,
+            team: team as u8,
+        });
     }
 
     let mut transitions = Vec::with_capacity(m);
@@ -68,12 +76,15 @@ pub fn decode(octets: &[u8]) -> Result<Plan, Refusal> {
         transitions.push(transition);
     }
 
-    Ok(Plan { marks, transitions })
+    Ok(Plan {
+        states,
+        transitions,
+    })
 }
 
-/// The image of a plan, which must be within the limits.
+/// The image of a plan, which must be within the limits, of version 2.
 pub fn encode(plan: &Plan) -> Vec<u8> {
-    let n = plan.marks.len();
+    let n = plan.states.len();
     let m = plan.transitions.len();
     let mut bits = BitWriter::with_capacity(length(n, m));
 
@@ -82,12 +93,12 @@ pub fn encode(plan: &Plan) -> Vec<u8> {
     bits.put(12, m as u32);
     bits.put(6, 0);
 
-    for &marks in &plan.marks {
-        let marks = u32::from(marks);
+    for state in &plan.states {
+        let marks = u32::from(state.marks);
         bits.put(1, marks / 4);
         bits.put(1, marks / 2 % 2);
         bits.put(1, marks % 2);
-        bits.put(5, 0);
+        bits.put(5, u32::from(state.team));
     }
 
     for transition in &plan.transitions {

@@ -1,12 +1,14 @@
 //! A second call plan calculator, written from documents 01 and 02 alone.
 //!
 //! It states the rules once more, in plain Rust: what a plan is, the calls on it, the image and the
-//! Aldebaran text both ways, the four figures with the walks shown, the record, and the refusals.
+//! Aldebaran text both ways, the four figures with the walks shown, the counts for classes of teams,
+//! the record, and the refusals.
 //! The tests compare it with the proved library.
 
 pub mod aldebaran;
 pub mod bits;
 pub mod check;
+pub mod class;
 pub mod figure;
 pub mod image;
 pub mod kinds;
@@ -20,9 +22,9 @@ pub mod rounds;
 pub mod text;
 pub mod walks;
 
-pub use figure::{Figure, Quotation, Value, FIGURES};
+pub use figure::{Asked, Figure, Quotation, Value, FIGURES};
 pub use plan::{
-    Duration, Plan, Transition, MAX_CLOSED_HIGH, MAX_DURATION, MAX_MARKS, MAX_STATES,
-    MAX_TRANSITIONS, OPEN_HIGH,
+    Duration, Plan, State, Transition, MAX_CLOSED_HIGH, MAX_DURATION, MAX_MARKS, MAX_STATES,
+    MAX_TEAM, MAX_TRANSITIONS, OPEN_HIGH,
 };
 pub use refusal::Refusal;

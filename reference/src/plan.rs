@@ -11,6 +11,8 @@ pub const OPEN_HIGH: u32 = 2047;
 pub const MAX_CLOSED_HIGH: u32 = 2046;
 /// All three marks: 4 for start, 2 for final, 1 for counted.
 pub const MAX_MARKS: u32 = 7;
+/// The greatest team number.
+pub const MAX_TEAM: u32 = 31;
 
 /// "A high of 2,047 shall mean no limit, so a duration taken from a plan is either a number or
 /// open." (document 02, E2)
@@ -29,40 +31,71 @@ pub struct Transition {
     pub high: u32,
 }
 
+/// A state: its marks value, and the number of its team (document 02, E4).
+#[derive(Clone, Copy, Debug, Default, PartialEq, Eq)]
+pub struct State {
+    pub marks: u8,
+    pub team: u8,
+}
+
 /// A call plan. States and transitions are numbered from 0 by place.
 ///
 /// The fields are open, so a plan built by hand may break a limit; every call then refuses it.
 /// The default, with no states, is such a plan.
 #[derive(Clone, Debug, Default, PartialEq, Eq)]
 pub struct Plan {
-    /// The marks value of each state.
-    pub marks: Vec<u8>,
+    pub states: Vec<State>,
     pub transitions: Vec<Transition>,
 }
 
 impl Plan {
-    /// A plan of `n` states with no marks and no transitions.
+    /// A plan of `n` states with no marks, no teams and no transitions.
     pub fn fresh(n: usize) -> Result<Plan, Refusal> {
         require((1..=MAX_STATES).contains(&n), Refusal::StateCount)?;
-        Ok(Plan {
-            marks: vec![0; n],
-            transitions: Vec::new(),
-        })
+        Ok(Plan::of(vec![0; n], Vec::new()))
     }
 
-    /// Gives a state its marks value.
+    /// The plan with these marks values, all teams zero, and these transitions. It may break a limit.
+    pub fn of(marks: Vec<u8>, transitions: Vec<Transition>) -> Plan {
+        let states = marks.into_iter().map(|marks| State { marks, team: 0 });
+        Plan {
+            states: states.collect(),
+            transitions,
+        }
+    }
+
+    /// The marks value of each state.
+    pub fn marks(&self) -> Vec<u8> {
+        self.states.iter().map(|state| state.marks).collect()
+    }
+
+    /// The team of each state.
+    pub fn teams(&self) -> Vec<u8> {
+        self.states.iter().map(|state| state.team).collect()
+    }
+
+    /// Gives a state its marks value. Its team stays.
     pub fn mark(&mut self, state: usize, value: u32) -> Result<(), Refusal> {
         self.require_limits()?;
-        require(state < self.marks.len(), Refusal::StateNumber)?;
+        require(state < self.states.len(), Refusal::StateNumber)?;
         require(value <= MAX_MARKS, Refusal::MarksValue)?;
-        self.marks[state] = value as u8;
+        self.states[state].marks = value as u8;
+        Ok(())
+    }
+
+    /// Gives a state its team. Its marks stay.
+    pub fn team(&mut self, state: usize, team: u32) -> Result<(), Refusal> {
+        self.require_limits()?;
+        require(state < self.states.len(), Refusal::StateNumber)?;
+        require_team(team)?;
+        self.states[state].team = team as u8;
         Ok(())
     }
 
     /// Puts a transition at the end of the list.
     pub fn join(&mut self, transition: Transition) -> Result<(), Refusal> {
         self.require_limits()?;
-        transition.require_limits(self.marks.len())?;
+        transition.require_limits(self.states.len())?;
         require(self.transitions.len() < MAX_TRANSITIONS, Refusal::ListFull)?;
         self.transitions.push(transition);
         Ok(())
@@ -77,15 +110,15 @@ impl Plan {
     }
 
     pub fn is_start(&self, state: usize) -> bool {
-        self.marks[state] / 4 == 1
+        self.states[state].marks / 4 == 1
     }
 
     pub fn is_final(&self, state: usize) -> bool {
-        self.marks[state] / 2 % 2 == 1
+        self.states[state].marks / 2 % 2 == 1
     }
 
     pub fn is_counted(&self, state: usize) -> bool {
-        self.marks[state] % 2 == 1
+        self.states[state].marks % 2 == 1
     }
 
     /// Whether the state is unfinished and no transition leaves it.
@@ -95,13 +128,12 @@ impl Plan {
 
     /// Whether the plan keeps every limit.
     pub fn within_limits(&self) -> bool {
-        let n = self.marks.len();
+        let n = self.states.len();
         (1..=MAX_STATES).contains(&n)
             && self.transitions.len() <= MAX_TRANSITIONS
-            && self
-                .marks
-                .iter()
-                .all(|&value| u32::from(value) <= MAX_MARKS)
+            && self.states.iter().all(|state| {
+                u32::from(state.marks) <= MAX_MARKS && u32::from(state.team) <= MAX_TEAM
+            })
             && self
                 .transitions
                 .iter()
@@ -131,6 +163,11 @@ impl Transition {
             Refusal::Duration,
         )
     }
+}
+
+/// "A team above 31 returns 18" (document 02, E4).
+pub(crate) fn require_team(team: u32) -> Result<(), Refusal> {
+    require(team <= MAX_TEAM, Refusal::TeamNumber)
 }
 
 /// "a bad from returns 16, then a bad to 17" (document 02, E3), for numbers of any sort.

@@ -4,13 +4,13 @@
 //! here with the library's source.
 
 #[cfg(feature = "quotations")]
-use crate::figure::Figure;
-use crate::plan::{Plan, Transition, MAX_STATES, MAX_TRANSITIONS};
+use crate::figure::{Asked, Figure};
+use crate::plan::{Plan, State, Transition, MAX_STATES, MAX_TRANSITIONS};
 
 /// Places of a plan in `counts`: the state count and the transition count.
 pub const COUNTS: usize = 2;
-/// Places of a plan in `marks`: one for each possible state.
-pub const MARKS: usize = MAX_STATES;
+/// Places of a plan in `states`: all marks values, then all teams.
+pub const STATES: usize = 2 * MAX_STATES;
 /// Places of a plan in `fields`: all from states, then all to states, lows and highs.
 pub const FIELDS: usize = 4 * MAX_TRANSITIONS;
 
@@ -33,8 +33,8 @@ extern "C" {
         n: usize,
         counts: *mut usize,
         counts_len: usize,
-        marks: *mut u8,
-        marks_len: usize,
+        states: *mut u8,
+        states_len: usize,
         fields: *mut u16,
         fields_len: usize,
     ) -> u32;
@@ -44,8 +44,8 @@ extern "C" {
         octets_len: usize,
         counts: *mut usize,
         counts_len: usize,
-        marks: *mut u8,
-        marks_len: usize,
+        states: *mut u8,
+        states_len: usize,
         fields: *mut u16,
         fields_len: usize,
     ) -> u32;
@@ -53,19 +53,30 @@ extern "C" {
     fn callplan_lent_mark(
         counts: *mut usize,
         counts_len: usize,
-        marks: *mut u8,
-        marks_len: usize,
+        states: *mut u8,
+        states_len: usize,
         fields: *mut u16,
         fields_len: usize,
         state: usize,
         value: u32,
     ) -> u32;
 
+    fn callplan_lent_team(
+        counts: *mut usize,
+        counts_len: usize,
+        states: *mut u8,
+        states_len: usize,
+        fields: *mut u16,
+        fields_len: usize,
+        state: usize,
+        team: u32,
+    ) -> u32;
+
     fn callplan_lent_join(
         counts: *mut usize,
         counts_len: usize,
-        marks: *mut u8,
-        marks_len: usize,
+        states: *mut u8,
+        states_len: usize,
         fields: *mut u16,
         fields_len: usize,
         from: usize,
@@ -77,8 +88,8 @@ extern "C" {
     fn callplan_lent_unjoin(
         counts: *mut usize,
         counts_len: usize,
-        marks: *mut u8,
-        marks_len: usize,
+        states: *mut u8,
+        states_len: usize,
         fields: *mut u16,
         fields_len: usize,
         number: usize,
@@ -87,8 +98,8 @@ extern "C" {
     fn callplan_lent_read(
         counts: *mut usize,
         counts_len: usize,
-        marks: *mut u8,
-        marks_len: usize,
+        states: *mut u8,
+        states_len: usize,
         fields: *mut u16,
         fields_len: usize,
         octets: *const u8,
@@ -98,8 +109,8 @@ extern "C" {
     fn callplan_lent_write(
         counts: *const usize,
         counts_len: usize,
-        marks: *const u8,
-        marks_len: usize,
+        states: *const u8,
+        states_len: usize,
         fields: *const u16,
         fields_len: usize,
         buffer: *mut u8,
@@ -109,8 +120,8 @@ extern "C" {
     fn callplan_lent_import(
         counts: *mut usize,
         counts_len: usize,
-        marks: *mut u8,
-        marks_len: usize,
+        states: *mut u8,
+        states_len: usize,
         fields: *mut u16,
         fields_len: usize,
         text: *const u8,
@@ -120,8 +131,8 @@ extern "C" {
     fn callplan_lent_export(
         counts: *const usize,
         counts_len: usize,
-        marks: *const u8,
-        marks_len: usize,
+        states: *const u8,
+        states_len: usize,
         fields: *const u16,
         fields_len: usize,
         buffer: *mut u8,
@@ -134,8 +145,8 @@ extern "C" {
     fn callplan_lent_least_delay(
         counts: *const usize,
         counts_len: usize,
-        marks: *const u8,
-        marks_len: usize,
+        states: *const u8,
+        states_len: usize,
         fields: *const u16,
         fields_len: usize,
         walk: *mut u16,
@@ -147,8 +158,8 @@ extern "C" {
     fn callplan_lent_greatest_delay(
         counts: *const usize,
         counts_len: usize,
-        marks: *const u8,
-        marks_len: usize,
+        states: *const u8,
+        states_len: usize,
         fields: *const u16,
         fields_len: usize,
         walk: *mut u16,
@@ -160,8 +171,8 @@ extern "C" {
     fn callplan_lent_least_count(
         counts: *const usize,
         counts_len: usize,
-        marks: *const u8,
-        marks_len: usize,
+        states: *const u8,
+        states_len: usize,
         fields: *const u16,
         fields_len: usize,
         walk: *mut u16,
@@ -173,10 +184,38 @@ extern "C" {
     fn callplan_lent_greatest_count(
         counts: *const usize,
         counts_len: usize,
-        marks: *const u8,
-        marks_len: usize,
+        states: *const u8,
+        states_len: usize,
         fields: *const u16,
         fields_len: usize,
+        walk: *mut u16,
+        walk_len: usize,
+        out: *mut u32,
+        out_len: usize,
+    ) -> u32;
+
+    fn callplan_lent_least_count_for(
+        counts: *const usize,
+        counts_len: usize,
+        states: *const u8,
+        states_len: usize,
+        fields: *const u16,
+        fields_len: usize,
+        team: u32,
+        walk: *mut u16,
+        walk_len: usize,
+        out: *mut u32,
+        out_len: usize,
+    ) -> u32;
+
+    fn callplan_lent_greatest_count_for(
+        counts: *const usize,
+        counts_len: usize,
+        states: *const u8,
+        states_len: usize,
+        fields: *const u16,
+        fields_len: usize,
+        team: u32,
         walk: *mut u16,
         walk_len: usize,
         out: *mut u32,
@@ -186,8 +225,8 @@ extern "C" {
     fn callplan_lent_record(
         counts: *const usize,
         counts_len: usize,
-        marks: *const u8,
-        marks_len: usize,
+        states: *const u8,
+        states_len: usize,
         fields: *const u16,
         fields_len: usize,
         buffer: *mut u8,
@@ -215,8 +254,8 @@ extern "C" {
         answers_len: usize,
         counts: *mut usize,
         counts_len: usize,
-        marks: *mut u8,
-        marks_len: usize,
+        states: *mut u8,
+        states_len: usize,
         fields: *mut u16,
         fields_len: usize,
         walks: *mut u16,
@@ -231,7 +270,7 @@ extern "C" {
 #[derive(Clone, Debug, PartialEq, Eq)]
 pub struct LentPlan {
     pub counts: Vec<usize>,
-    pub marks: Vec<u8>,
+    pub states: Vec<u8>,
     pub fields: Vec<u16>,
 }
 
@@ -242,7 +281,7 @@ impl LentPlan {
     pub fn zeroed() -> LentPlan {
         LentPlan {
             counts: vec![0; COUNTS],
-            marks: vec![0; MARKS],
+            states: vec![0; STATES],
             fields: vec![0; FIELDS],
         }
     }
@@ -253,8 +292,8 @@ impl LentPlan {
                 n,
                 self.counts.as_mut_ptr(),
                 self.counts.len(),
-                self.marks.as_mut_ptr(),
-                self.marks.len(),
+                self.states.as_mut_ptr(),
+                self.states.len(),
                 self.fields.as_mut_ptr(),
                 self.fields.len(),
             )
@@ -269,8 +308,8 @@ impl LentPlan {
                 octets.len(),
                 self.counts.as_mut_ptr(),
                 self.counts.len(),
-                self.marks.as_mut_ptr(),
-                self.marks.len(),
+                self.states.as_mut_ptr(),
+                self.states.len(),
                 self.fields.as_mut_ptr(),
                 self.fields.len(),
             )
@@ -282,12 +321,27 @@ impl LentPlan {
             callplan_lent_mark(
                 self.counts.as_mut_ptr(),
                 self.counts.len(),
-                self.marks.as_mut_ptr(),
-                self.marks.len(),
+                self.states.as_mut_ptr(),
+                self.states.len(),
                 self.fields.as_mut_ptr(),
                 self.fields.len(),
                 state,
                 value,
+            )
+        }
+    }
+
+    pub fn team(&mut self, state: usize, team: u32) -> u32 {
+        unsafe {
+            callplan_lent_team(
+                self.counts.as_mut_ptr(),
+                self.counts.len(),
+                self.states.as_mut_ptr(),
+                self.states.len(),
+                self.fields.as_mut_ptr(),
+                self.fields.len(),
+                state,
+                team,
             )
         }
     }
@@ -297,8 +351,8 @@ impl LentPlan {
             callplan_lent_join(
                 self.counts.as_mut_ptr(),
                 self.counts.len(),
-                self.marks.as_mut_ptr(),
-                self.marks.len(),
+                self.states.as_mut_ptr(),
+                self.states.len(),
                 self.fields.as_mut_ptr(),
                 self.fields.len(),
                 transition.from,
@@ -314,8 +368,8 @@ impl LentPlan {
             callplan_lent_unjoin(
                 self.counts.as_mut_ptr(),
                 self.counts.len(),
-                self.marks.as_mut_ptr(),
-                self.marks.len(),
+                self.states.as_mut_ptr(),
+                self.states.len(),
                 self.fields.as_mut_ptr(),
                 self.fields.len(),
                 number,
@@ -328,8 +382,8 @@ impl LentPlan {
             callplan_lent_read(
                 self.counts.as_mut_ptr(),
                 self.counts.len(),
-                self.marks.as_mut_ptr(),
-                self.marks.len(),
+                self.states.as_mut_ptr(),
+                self.states.len(),
                 self.fields.as_mut_ptr(),
                 self.fields.len(),
                 octets.as_ptr(),
@@ -343,8 +397,8 @@ impl LentPlan {
             callplan_lent_write(
                 self.counts.as_ptr(),
                 self.counts.len(),
-                self.marks.as_ptr(),
-                self.marks.len(),
+                self.states.as_ptr(),
+                self.states.len(),
                 self.fields.as_ptr(),
                 self.fields.len(),
                 buffer.as_mut_ptr(),
@@ -358,8 +412,8 @@ impl LentPlan {
             callplan_lent_import(
                 self.counts.as_mut_ptr(),
                 self.counts.len(),
-                self.marks.as_mut_ptr(),
-                self.marks.len(),
+                self.states.as_mut_ptr(),
+                self.states.len(),
                 self.fields.as_mut_ptr(),
                 self.fields.len(),
                 text.as_ptr(),
@@ -373,8 +427,8 @@ impl LentPlan {
             callplan_lent_export(
                 self.counts.as_ptr(),
                 self.counts.len(),
-                self.marks.as_ptr(),
-                self.marks.len(),
+                self.states.as_ptr(),
+                self.states.len(),
                 self.fields.as_ptr(),
                 self.fields.len(),
                 buffer.as_mut_ptr(),
@@ -385,8 +439,11 @@ impl LentPlan {
 
     /// Puts a plan within the limits into the slices. The places past its counts stay.
     pub fn hold(&mut self, plan: &Plan) {
-        self.counts[..COUNTS].copy_from_slice(&[plan.marks.len(), plan.transitions.len()]);
-        self.marks[..plan.marks.len()].copy_from_slice(&plan.marks);
+        self.counts[..COUNTS].copy_from_slice(&[plan.states.len(), plan.transitions.len()]);
+        for (number, state) in plan.states.iter().enumerate() {
+            self.states[number] = state.marks;
+            self.states[MAX_STATES + number] = state.team;
+        }
         for (number, transition) in plan.transitions.iter().enumerate() {
             self.fields[number] = transition.from as u16;
             self.fields[MAX_TRANSITIONS + number] = transition.to as u16;
@@ -403,8 +460,13 @@ impl LentPlan {
         let n = self.counts[0].min(MAX_STATES + 1);
         let m = self.counts[1].min(MAX_TRANSITIONS + 1);
 
-        let mut marks = self.marks[..n.min(MAX_STATES)].to_vec();
-        marks.resize(n, 0);
+        let mut states: Vec<State> = (0..n.min(MAX_STATES))
+            .map(|number| State {
+                marks: self.states[number],
+                team: self.states[MAX_STATES + number],
+            })
+            .collect();
+        states.resize(n, State::default());
 
         let mut transitions: Vec<Transition> = (0..m.min(MAX_TRANSITIONS))
             .map(|number| Transition {
@@ -422,14 +484,49 @@ impl LentPlan {
         };
         transitions.resize(m, blank);
 
-        Plan { marks, transitions }
+        Plan {
+            states,
+            transitions,
+        }
     }
 }
 
 #[cfg(feature = "quotations")]
 impl LentPlan {
-    /// Quotes a figure, the walk into `walk` and the rest of the answer into `out`.
-    pub fn quote(&self, figure: Figure, walk: &mut [u16], out: &mut [u32]) -> u32 {
+    /// Quotes a figure, or a count for a class, the walk into `walk` and the rest of the answer into
+    /// `out`.
+    pub fn quote(&self, asked: impl Into<Asked>, walk: &mut [u16], out: &mut [u32]) -> u32 {
+        let asked = asked.into();
+        match asked.team {
+            Some(team) => self.quote_class(asked.figure, team, walk, out),
+            None => self.quote_figure(asked.figure, walk, out),
+        }
+    }
+
+    fn quote_class(&self, figure: Figure, team: u32, walk: &mut [u16], out: &mut [u32]) -> u32 {
+        let call = match figure {
+            Figure::LeastCount => callplan_lent_least_count_for,
+            Figure::GreatestCount => callplan_lent_greatest_count_for,
+            _ => panic!("a delay is for no class"),
+        };
+        unsafe {
+            call(
+                self.counts.as_ptr(),
+                self.counts.len(),
+                self.states.as_ptr(),
+                self.states.len(),
+                self.fields.as_ptr(),
+                self.fields.len(),
+                team,
+                walk.as_mut_ptr(),
+                walk.len(),
+                out.as_mut_ptr(),
+                out.len(),
+            )
+        }
+    }
+
+    fn quote_figure(&self, figure: Figure, walk: &mut [u16], out: &mut [u32]) -> u32 {
         let call = match figure {
             Figure::LeastDelay => callplan_lent_least_delay,
             Figure::GreatestDelay => callplan_lent_greatest_delay,
@@ -440,8 +537,8 @@ impl LentPlan {
             call(
                 self.counts.as_ptr(),
                 self.counts.len(),
-                self.marks.as_ptr(),
-                self.marks.len(),
+                self.states.as_ptr(),
+                self.states.len(),
                 self.fields.as_ptr(),
                 self.fields.len(),
                 walk.as_mut_ptr(),
@@ -457,8 +554,8 @@ impl LentPlan {
             callplan_lent_record(
                 self.counts.as_ptr(),
                 self.counts.len(),
-                self.marks.as_ptr(),
-                self.marks.len(),
+                self.states.as_ptr(),
+                self.states.len(),
                 self.fields.as_ptr(),
                 self.fields.len(),
                 buffer.as_mut_ptr(),
@@ -501,8 +598,8 @@ pub fn replay(
             answers.len(),
             lent.counts.as_mut_ptr(),
             lent.counts.len(),
-            lent.marks.as_mut_ptr(),
-            lent.marks.len(),
+            lent.states.as_mut_ptr(),
+            lent.states.len(),
             lent.fields.as_mut_ptr(),
             lent.fields.len(),
             walks.as_mut_ptr(),

@@ -1,8 +1,8 @@
-//! The calls that quote: the four quotations and the record.
+//! The calls that quote: the four quotations, the counts for a class, and the record.
 
 use crate::bits::BitWriter;
-use crate::figure::{Figure, Quotation, FIGURES};
-use crate::plan::Plan;
+use crate::figure::{Asked, Quotation, FIGURES};
+use crate::plan::{require_team, Plan};
 use crate::refusal::{require, Refusal};
 use crate::rounds;
 
@@ -11,11 +11,14 @@ pub const RECORD_OCTETS: usize = 11;
 const MAX_FIGURE: u32 = 1_048_575;
 
 impl Plan {
-    /// Quotes a figure and puts the walk at the front of the buffer. Later places stay.
-    pub fn quote(&self, figure: Figure, buffer: &mut [u16]) -> Result<Quotation, Refusal> {
+    /// Quotes a figure, or a count for a class, and puts the walk at the front of the buffer. Later
+    /// places stay.
+    pub fn quote(&self, asked: impl Into<Asked>, buffer: &mut [u16]) -> Result<Quotation, Refusal> {
+        let asked = asked.into();
         self.require_limits()?;
-        require(buffer.len() >= self.marks.len(), Refusal::BufferTooShort)?;
-        let quotation = rounds::quote(self, figure);
+        asked.team.map_or(Ok(()), require_team)?;
+        require(buffer.len() >= self.states.len(), Refusal::BufferTooShort)?;
+        let quotation = rounds::quote(self, asked);
         for (place, &number) in buffer.iter_mut().zip(&quotation.walk) {
             *place = number as u16;
         }

@@ -9,15 +9,15 @@ pub enum Refusal {
     ImageTooShort = 1,
     /// The image has more octets than its counts give.
     ImageTooLong = 2,
-    /// The image's version is not 1.
+    /// The image's version is neither 1 nor 2.
     Version = 3,
     /// The state count is 0 or above 512.
     StateCount = 4,
     /// The transition count is above 2,048.
     TransitionCount = 5,
-    /// A pad or spare bit is set.
+    /// A pad bit is set, or a spare bit of version 1.
     SpareBit = 6,
-    /// The state to mark, or the initial state of a text, is not below the state count.
+    /// The state of a mark or a team, or the initial state of a text, is not below the state count.
     StateNumber = 7,
     /// Low is above high, or high above 2,047.
     Duration = 8,
@@ -39,6 +39,8 @@ pub enum Refusal {
     FromState = 16,
     /// A transition's to is not below the state count.
     ToState = 17,
+    /// The team is above 31.
+    TeamNumber = 18,
 }
 
 impl Refusal {

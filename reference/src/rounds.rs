@@ -6,7 +6,7 @@
 //! An endless cost is the best of a greatest delay, so the rounds carry a walk that takes an open
 //! transition on as they do any other.
 
-use crate::figure::{Cost, Figure, Quotation, Value};
+use crate::figure::{Asked, Cost, Figure, Quotation, Value};
 use crate::plan::Plan;
 
 /// The best walk of a round that ends at a state: its cost, and its last transition. In round 0
@@ -25,14 +25,15 @@ struct Rounds<'a> {
 
 impl Rounds<'_> {
     /// Rounds 0 to n, or up to the first with no walk. No walk goes on from a final state.
-    fn new(plan: &Plan, figure: Figure) -> Rounds<'_> {
-        let n = plan.marks.len();
+    fn new(plan: &Plan, asked: Asked) -> Rounds<'_> {
+        let figure = asked.figure;
+        let n = plan.states.len();
         let costs: Vec<Cost> = (0..plan.transitions.len())
-            .map(|number| figure.step_cost(plan, number))
+            .map(|number| asked.step_cost(plan, number))
             .collect();
         let first = |state| {
             plan.is_start(state).then(|| End {
-                cost: figure.first_cost(plan, state),
+                cost: asked.first_cost(plan, state),
                 number: 0,
             })
         };
@@ -65,7 +66,7 @@ impl Rounds<'_> {
 
     /// The first round and state with a walk that the test accepts.
     fn find(&self, accepts: impl Fn(usize, usize) -> bool) -> Option<(usize, usize)> {
-        let n = self.plan.marks.len();
+        let n = self.plan.states.len();
         let places = (0..self.ends.len()).flat_map(|round| (0..n).map(move |state| (round, state)));
         let mut walks = places.filter(|&(round, state)| self.ends[round][state].is_some());
         walks.find(|&(round, state)| accepts(round, state))
@@ -87,7 +88,7 @@ impl Rounds<'_> {
 
     /// The best cost over the routes of all rounds.
     fn best(&self, figure: Figure) -> Option<Cost> {
-        let finals = (0..self.plan.marks.len()).filter(|&state| self.plan.is_final(state));
+        let finals = (0..self.plan.states.len()).filter(|&state| self.plan.is_final(state));
         let ends = finals.flat_map(|state| self.ends.iter().filter_map(move |row| row[state]));
         let costs = ends.map(|end| end.cost);
         if figure.is_least() {
@@ -98,10 +99,12 @@ impl Rounds<'_> {
     }
 }
 
-/// The figure's value and a walk that documents 01 and 02 let be shown with it.
-pub fn quote(plan: &Plan, figure: Figure) -> Quotation {
-    let n = plan.marks.len();
-    let rounds = Rounds::new(plan, figure);
+/// The value of what is asked and a walk that documents 01 and 02 let be shown with it.
+pub fn quote(plan: &Plan, asked: impl Into<Asked>) -> Quotation {
+    let asked = asked.into();
+    let figure = asked.figure;
+    let n = plan.states.len();
+    let rounds = Rounds::new(plan, asked);
     let costs = |round: usize, state: usize, cost: Cost| {
         rounds.ends[round][state].is_some_and(|end| end.cost == cost)
     };

@@ -8,7 +8,7 @@
 
 use std::ops::Add;
 
-use crate::figure::{Cost, Figure, Quotation, Value};
+use crate::figure::{Asked, Cost, Quotation, Value};
 use crate::plan::Plan;
 
 /// A start state followed by transitions.
@@ -26,17 +26,17 @@ impl Walk {
         }
     }
 
-    fn cost(&self, plan: &Plan, figure: Figure) -> Cost {
+    fn cost(&self, plan: &Plan, asked: Asked) -> Cost {
         let steps = self.transitions.iter();
-        let costs = steps.map(|&number| figure.step_cost(plan, number));
-        costs.fold(figure.first_cost(plan, self.start), Add::add)
+        let costs = steps.map(|&number| asked.step_cost(plan, number));
+        costs.fold(asked.first_cost(plan, self.start), Add::add)
     }
 }
 
 /// The walks of up to n transitions that no final state is on but as their last, shorter ones
 /// first.
 fn walks(plan: &Plan) -> Vec<Walk> {
-    let n = plan.marks.len();
+    let n = plan.states.len();
     let starts = (0..n).filter(|&state| plan.is_start(state));
     let begin = |start| Walk {
         start,
@@ -61,11 +61,12 @@ fn walks(plan: &Plan) -> Vec<Walk> {
     list
 }
 
-/// The figure's value and a walk that documents 01 and 02 let be shown with it.
-pub fn quote(plan: &Plan, figure: Figure) -> Quotation {
-    let n = plan.marks.len();
+/// The value of what is asked and a walk that documents 01 and 02 let be shown with it.
+pub fn quote(plan: &Plan, asked: impl Into<Asked>) -> Quotation {
+    let asked = asked.into();
+    let n = plan.states.len();
     let list = walks(plan);
-    let cost = |walk: &&Walk| walk.cost(plan, figure);
+    let cost = |walk: &&Walk| walk.cost(plan, asked);
     // "an unfinished walk from a start can take a transition with an open high" (E2): the first in
     // the list ends with its one open transition. It is shown before a loop; `rounds` has the loop
     // first.
@@ -76,7 +77,7 @@ pub fn quote(plan: &Plan, figure: Figure) -> Quotation {
     let (routes, unfinished): (Vec<Walk>, Vec<Walk>) = list
         .into_iter()
         .partition(|walk| plan.is_final(walk.last_state(plan)));
-    let best = if figure.is_least() {
+    let best = if asked.figure.is_least() {
         // The first of the least: the one with fewest transitions, so no state is on it twice.
         routes.iter().min_by_key(cost)
     } else {

@@ -7,9 +7,9 @@ mod vectors;
 
 use reference::aldebaran;
 use reference::image::{decode, encode};
-use reference::{Duration, Plan, Refusal, Transition};
+use reference::{Duration, Figure, Plan, Refusal, Transition};
 use texts::{edges, ACCEPTED, P1_TEXT};
-use vectors::P1;
+use vectors::{P1, P1_WRITTEN};
 
 fn transition(from: usize, to: usize, low: u32, high: u32) -> Transition {
     Transition {
@@ -21,15 +21,22 @@ fn transition(from: usize, to: usize, low: u32, high: u32) -> Transition {
 }
 
 fn p1() -> Plan {
-    Plan {
-        marks: vec![4, 1, 1, 2],
-        transitions: vec![
-            transition(0, 1, 5, 20),
-            transition(1, 2, 3, 15),
-            transition(1, 3, 2, 30),
-            transition(2, 3, 4, 25),
-        ],
+    let transitions = vec![
+        transition(0, 1, 5, 20),
+        transition(1, 2, 3, 15),
+        transition(1, 3, 2, 30),
+        transition(2, 3, 4, 25),
+    ];
+    Plan::of(vec![4, 1, 1, 2], transitions)
+}
+
+/// P1 with these teams.
+fn p1_of(teams: [u8; 4]) -> Plan {
+    let mut plan = p1();
+    for (state, team) in plan.states.iter_mut().zip(teams) {
+        state.team = team;
     }
+    plan
 }
 
 /// P1's image with some octets replaced.
@@ -60,16 +67,19 @@ fn assert_refused(octets: &[u8], refusal: Refusal) {
 #[test]
 fn p1_is_read_and_written_back() {
     assert_eq!(decode(&P1), Ok(p1()));
-    assert_eq!(encode(&p1()), P1);
+    assert_eq!(encode(&p1()), P1_WRITTEN);
+    assert_eq!(decode(&P1_WRITTEN), Ok(p1()));
 
-    let mut plan = Plan::fresh(7).unwrap();
-    assert_eq!(plan.read(&P1), Ok(()));
-    assert_eq!(plan, p1());
+    for octets in [P1, P1_WRITTEN] {
+        let mut plan = Plan::fresh(7).unwrap();
+        assert_eq!(plan.read(&octets), Ok(()));
+        assert_eq!(plan, p1());
 
-    let mut buffer = [0xAA; 30];
-    assert_eq!(plan.write(&mut buffer), Ok(28));
-    assert_eq!(buffer[..28], P1);
-    assert_eq!(buffer[28..], [0xAA; 2]);
+        let mut buffer = [0xAA; 30];
+        assert_eq!(plan.write(&mut buffer), Ok(28));
+        assert_eq!(buffer[..28], P1_WRITTEN);
+        assert_eq!(buffer[28..], [0xAA; 2]);
+    }
 }
 
 #[test]
@@ -105,6 +115,7 @@ fn numbers_are_those_of_the_table() {
         Refusal::TextForm,
         Refusal::FromState,
         Refusal::ToState,
+        Refusal::TeamNumber,
     ];
     for (number, refusal) in (0..).zip(table) {
         assert_eq!(refusal.number(), number);
@@ -117,7 +128,8 @@ fn fresh_takes_1_to_512_states() {
     assert_eq!(Plan::fresh(513), Err(Refusal::StateCount));
     for n in [1, 2, 512] {
         let plan = Plan::fresh(n).unwrap();
-        assert_eq!(plan.marks, vec![0; n]);
+        assert_eq!(plan.marks(), vec![0; n]);
+        assert_eq!(plan.teams(), vec![0; n]);
         assert_eq!(plan.transitions, []);
         assert!(plan.within_limits());
     }
@@ -131,7 +143,189 @@ fn mark_refuses_the_state_before_the_value() {
     assert_eq!(plan.mark(3, 8), Err(Refusal::MarksValue));
     assert_eq!(plan, p1());
     assert_eq!(plan.mark(3, 7), Ok(()));
-    assert_eq!(plan.marks, [4, 1, 1, 7]);
+    assert_eq!(plan.marks(), [4, 1, 1, 7]);
+}
+
+/// "A team above 31 returns 18, after 7" (document 02, E4).
+#[test]
+fn team_refuses_the_state_before_the_team() {
+    let mut plan = p1();
+    for state in [4, 5, 512, 1 << 16, 1 << 32, usize::MAX] {
+        for team in [0, 31, 32, 259, u32::MAX] {
+            assert_eq!(plan.team(state, team), Err(Refusal::StateNumber));
+        }
+    }
+    // The last of these are teams in fewer bits.
+    for team in [
+        32,
+        33,
+        63,
+        64,
+        255,
+        256,
+        259,
+        1 << 16,
+        (1 << 16) + 3,
+        1 << 31,
+        u32::MAX,
+    ] {
+        assert_eq!(plan.team(3, team), Err(Refusal::TeamNumber), "{team}");
+    }
+    assert_eq!(plan, p1());
+    for team in 0..=31 {
+        assert_eq!(plan.team(3, team), Ok(()));
+        assert_eq!(plan, p1_of([0, 0, 0, team as u8]));
+    }
+}
+
+/// "set by its own call and zero after fresh; mark leaves it"
+#[test]
+fn mark_leaves_the_team_and_team_leaves_the_marks() {
+    let mut plan = p1();
+    for (state, team) in [(0, 31), (1, 9), (3, 10)] {
+        assert_eq!(plan.team(state, team), Ok(()));
+    }
+    assert_eq!(plan, p1_of([31, 9, 0, 10]));
+    for state in 0..4 {
+        assert_eq!(plan.mark(state, 7), Ok(()));
+        assert_eq!(plan.mark(state, 8), Err(Refusal::MarksValue));
+    }
+    assert_eq!(
+        (plan.marks(), plan.teams()),
+        (vec![7; 4], vec![31, 9, 0, 10])
+    );
+    assert_eq!(plan.team(1, 0), Ok(()));
+    assert_eq!(plan.team(2, 20), Ok(()));
+    assert_eq!(
+        (plan.marks(), plan.teams()),
+        (vec![7; 4], vec![31, 0, 20, 10])
+    );
+    // Transitions move no team.
+    let before = plan.teams();
+    assert_eq!(plan.unjoin(0), Ok(()));
+    assert_eq!(plan.join(transition(3, 0, 1, 1)), Ok(()));
+    assert_eq!(plan.teams(), before);
+    // A fresh plan in its place has none.
+    plan = Plan::fresh(4).unwrap();
+    assert_eq!(plan.teams(), [0; 4]);
+}
+
+/// The octets of P1 with these teams, of version 2.
+fn p1_written_of(teams: [u8; 4]) -> Vec<u8> {
+    let mut octets = P1_WRITTEN.to_vec();
+    for (octet, team) in octets[4..].iter_mut().zip(teams) {
+        *octet += team;
+    }
+    octets
+}
+
+/// "The image version becomes 2. Version 1 .. read with all teams zero"
+#[test]
+fn images_of_both_versions_are_read_and_version_2_is_written() {
+    for version in 0..16 {
+        let octets = p1_with(&[(0, version << 4)]);
+        match version {
+            1 | 2 => assert_eq!(read_over_p1(&octets), Ok(p1())),
+            _ => assert_refused(&octets, Refusal::Version),
+        }
+    }
+    // Every team of every state, in both versions, over a plan with teams.
+    let old = p1_of([1, 2, 3, 31]);
+    for state in 0..4 {
+        for team in 0..32 {
+            let mut teams = [5, 17, 0, 30];
+            teams[state] = team;
+            let octets = p1_written_of(teams);
+            let mut plan = old.clone();
+            assert_eq!(plan.read(&octets), Ok(()));
+            assert_eq!(plan, p1_of(teams));
+            assert_eq!(encode(&plan), octets);
+            // The same bits are spare in version 1.
+            let octets = p1_with(&[(4 + state, P1[4 + state] + team)]);
+            let mut plan = old.clone();
+            let answer = plan.read(&octets);
+            if team == 0 {
+                assert_eq!(answer, Ok(()));
+                assert_eq!(plan, p1());
+                assert_eq!(encode(&plan), P1_WRITTEN);
+            } else {
+                assert_eq!(answer, Err(Refusal::SpareBit), "{team}");
+                assert_eq!(plan, old);
+            }
+        }
+    }
+    // A pad bit is refused in both versions, before the length; and so are the other versions before it.
+    for pad in 1..64 {
+        for version in 0..16 {
+            let octets = p1_with(&[(0, version << 4), (3, pad)]);
+            let refusal = match version {
+                1 | 2 => Refusal::SpareBit,
+                _ => Refusal::Version,
+            };
+            assert_refused(&octets, refusal);
+            assert_refused(&octets[..27], refusal);
+        }
+    }
+    // Version 2 has the grounds of version 1 after the states.
+    for (octet, value, refusal) in [
+        (8, 0x02, Refusal::FromState),
+        (9, 0x01, Refusal::ToState),
+        (12, 0x00, Refusal::Duration),
+    ] {
+        let mut octets = p1_written_of([31; 4]);
+        octets[octet] = value;
+        assert_refused(&octets, refusal);
+        assert_refused(&octets[..27], Refusal::ImageTooShort);
+        octets.push(0);
+        assert_refused(&octets, Refusal::ImageTooLong);
+    }
+}
+
+/// "exported text comes back without its teams too"
+#[test]
+fn texts_have_no_teams() {
+    let plan = p1_of([31, 9, 10, 1]);
+    assert_eq!(aldebaran::encode(&plan).as_deref(), Ok(P1_TEXT));
+    let mut other = p1_of([4, 3, 2, 1]);
+    assert_eq!(other.import(P1_TEXT.as_bytes()), Ok(()));
+    assert_eq!(other.teams(), [0; 4]);
+    assert_eq!(other, plan.stripped());
+    // A refused text leaves them.
+    let mut other = plan.clone();
+    assert_eq!(other.import(b"des (0, 0, 513)\n"), Err(Refusal::StateCount));
+    assert_eq!(other, plan);
+}
+
+/// A count for a class: "18, after 7 and before 11", and 0 before both.
+#[test]
+fn counts_for_a_class_are_refused_in_order() {
+    let plan = p1_of([31, 9, 10, 1]);
+    let mut broken = plan.clone();
+    broken.states[0].marks = 8;
+    for figure in [Figure::LeastCount, Figure::GreatestCount] {
+        let mut buffer = [7; 5];
+        for team in [32, 33, 255, 256, 259, 1 << 16, u32::MAX] {
+            let asked = figure.for_class_of(team);
+            for lent in [0, 3, 4, 5] {
+                let answer = plan.quote(asked, &mut buffer[..lent]);
+                assert_eq!(answer, Err(Refusal::TeamNumber), "{team}");
+                let answer = broken.quote(asked, &mut buffer[..lent]);
+                assert_eq!(answer, Err(Refusal::BrokenPlan), "{team}");
+            }
+        }
+        for team in 0..=31 {
+            let asked = figure.for_class_of(team);
+            for lent in [0, 3] {
+                let answer = plan.quote(asked, &mut buffer[..lent]);
+                assert_eq!(answer, Err(Refusal::BufferTooShort), "{team}");
+                let answer = broken.quote(asked, &mut buffer[..lent]);
+                assert_eq!(answer, Err(Refusal::BrokenPlan), "{team}");
+            }
+            assert_eq!(buffer, [7; 5]);
+            assert!(plan.quote(asked, &mut buffer[..4]).is_ok());
+            buffer.fill(7);
+        }
+    }
 }
 
 #[test]
@@ -188,10 +382,14 @@ fn the_first_wrong_transition_is_the_ground() {
         let imported = aldebaran::decode(text.as_bytes()).map_err(Refusal::number);
         assert_eq!(imported.err(), number, "{text}");
 
-        // A spare bit of any state comes before all transitions, and so does the initial state.
+        // A spare bit of any state comes before all transitions, and so does the initial state. In
+        // version 2 it is none.
         for state in 0..4 {
             let mut octets = image.clone();
             octets[4 + state] |= 1;
+            let read = read_over_p1(&octets).map_err(Refusal::number);
+            assert_eq!(read.err(), number, "{plan:?}");
+            octets[0] -= 0x10;
             assert_refused(&octets, Refusal::SpareBit);
         }
         let text = text.replacen("des (0", "des (4", 1);
@@ -235,7 +433,9 @@ fn write_needs_the_images_length() {
     let mut buffer = [0xAA; 27];
     assert_eq!(p1().write(&mut buffer), Err(Refusal::BufferTooShort));
     assert_eq!(buffer, [0xAA; 27]);
-    assert_eq!(p1().write(&mut [0; 28]), Ok(28));
+    let mut buffer = [0; 28];
+    assert_eq!(p1().write(&mut buffer), Ok(28));
+    assert_eq!(buffer, P1_WRITTEN);
 }
 
 #[test]
@@ -247,7 +447,8 @@ fn read_refuses_each_fault() {
     long.push(0);
     assert_refused(&long, Refusal::ImageTooLong);
     assert_refused(&p1_with(&[(0, 0x00)]), Refusal::Version);
-    assert_refused(&p1_with(&[(0, 0x20)]), Refusal::Version);
+    assert_refused(&p1_with(&[(0, 0x30)]), Refusal::Version);
+    assert_refused(&p1_with(&[(0, 0xF0)]), Refusal::Version);
     assert_refused(&p1_with(&[(1, 0x00)]), Refusal::StateCount);
     assert_refused(&p1_with(&[(0, 0x18), (1, 0x04)]), Refusal::StateCount);
     assert_refused(
@@ -266,17 +467,20 @@ fn read_refuses_each_fault() {
 
 #[test]
 fn read_keeps_the_order_of_grounds() {
-    // A version other than 1 and a state count of 0.
-    assert_refused(&[0x20, 0x00, 0x00, 0x00], Refusal::Version);
+    // A version other than 1 and 2 and a state count of 0.
+    assert_refused(&[0x30, 0x00, 0x00, 0x00], Refusal::Version);
     // Under 4 octets before the version.
-    assert_refused(&[0x20, 0x00, 0x00], Refusal::ImageTooShort);
-    // No states and 4,095 transitions.
-    assert_refused(&[0x10, 0x03, 0xFF, 0xC0], Refusal::StateCount);
-    // 4,095 transitions and a pad bit.
-    assert_refused(&[0x10, 0x07, 0xFF, 0xFF], Refusal::TransitionCount);
-    // A pad bit and an image too short, or too long.
-    assert_refused(&[0x10, 0x04, 0x00, 0x01], Refusal::SpareBit);
-    assert_refused(&[0x10, 0x04, 0x00, 0x01, 0x00, 0x00], Refusal::SpareBit);
+    assert_refused(&[0x30, 0x00, 0x00], Refusal::ImageTooShort);
+    for version in [0x10, 0x20] {
+        // No states and 4,095 transitions.
+        assert_refused(&[version, 0x03, 0xFF, 0xC0], Refusal::StateCount);
+        // 4,095 transitions and a pad bit.
+        assert_refused(&[version, 0x07, 0xFF, 0xFF], Refusal::TransitionCount);
+        // A pad bit and an image too short, or too long.
+        assert_refused(&[version, 0x04, 0x00, 0x01], Refusal::SpareBit);
+        let long = [version, 0x04, 0x00, 0x01, 0x00, 0x00];
+        assert_refused(&long, Refusal::SpareBit);
+    }
     // Too short or too long, and a spare bit.
     assert_refused(&p1_with(&[(4, 0x81)])[..27], Refusal::ImageTooShort);
     assert_refused(
@@ -310,10 +514,13 @@ fn a_plan_past_a_limit_is_refused_first() {
     };
     let broken = [
         Plan::default(),
-        edit(|plan| plan.marks.clear()),
-        edit(|plan| plan.marks.resize(513, 0)),
+        edit(|plan| plan.states.clear()),
+        edit(|plan| plan.states.resize(513, Default::default())),
         edit(|plan| plan.transitions.resize(2049, transition(0, 0, 0, 0))),
-        edit(|plan| plan.marks[3] = 8),
+        edit(|plan| plan.states[3].marks = 8),
+        edit(|plan| plan.states[0].team = 32),
+        edit(|plan| plan.states[3].team = 32),
+        edit(|plan| plan.states[1].team = 255),
         edit(|plan| plan.transitions[3].from = 4),
         edit(|plan| plan.transitions[0].to = 4),
         edit(|plan| plan.transitions[1].low = 16),
@@ -324,6 +531,8 @@ fn a_plan_past_a_limit_is_refused_first() {
         let mut plan = was.clone();
         assert_eq!(plan.mark(600, 8), Err(Refusal::BrokenPlan));
         assert_eq!(plan.mark(0, 0), Err(Refusal::BrokenPlan));
+        assert_eq!(plan.team(600, 32), Err(Refusal::BrokenPlan));
+        assert_eq!(plan.team(3, 0), Err(Refusal::BrokenPlan));
         assert_eq!(
             plan.join(transition(600, 0, 2, 1)),
             Err(Refusal::BrokenPlan)
@@ -345,16 +554,18 @@ fn a_plan_past_a_limit_is_refused_first() {
 
 #[test]
 fn the_largest_plan_goes_both_ways() {
-    let plan = Plan {
-        marks: (0..512).map(|state| (state % 8) as u8).collect(),
-        transitions: (0..2048)
-            .map(|number| transition(number % 512, 511 - number % 512, number as u32, 2047))
-            .collect(),
-    };
+    let marks = (0..512).map(|state| (state % 8) as u8).collect();
+    let transitions = (0..2048)
+        .map(|number| transition(number % 512, 511 - number % 512, number as u32, 2047))
+        .collect();
+    let mut plan = Plan::of(marks, transitions);
+    for (state, number) in plan.states.iter_mut().zip(0..) {
+        state.team = (number / 8 % 32) as u8;
+    }
     assert!(plan.within_limits());
     let octets = encode(&plan);
     assert_eq!(octets.len(), 4 + 512 + 5 * 2048);
-    assert_eq!(octets[..4], [0x18, 0x02, 0x00, 0x00]);
+    assert_eq!(octets[..4], [0x28, 0x02, 0x00, 0x00]);
     assert_eq!(read_over_p1(&octets), Ok(plan));
 }
 
@@ -362,7 +573,7 @@ fn the_largest_plan_goes_both_ways() {
 fn p1_is_exported_and_imported_without_its_other_marks() {
     assert_eq!(aldebaran::encode(&p1()).as_deref(), Ok(P1_TEXT));
     let imported = aldebaran::decode(P1_TEXT.as_bytes()).unwrap();
-    assert_eq!(imported.marks, [4, 0, 0, 0]);
+    assert_eq!(imported.marks(), [4, 0, 0, 0]);
     assert_eq!(imported.transitions, p1().transitions);
     assert_eq!(imported, p1().stripped());
     assert_eq!(aldebaran::encode(&imported).as_deref(), Ok(P1_TEXT));
@@ -421,6 +632,6 @@ fn the_initial_state_is_the_start_wherever_it_is() {
     let text = aldebaran::encode(&plan).unwrap();
     assert_eq!(text, P1_TEXT.replacen("des (0", "des (3", 1));
     let imported = aldebaran::decode(text.as_bytes()).unwrap();
-    assert_eq!(imported.marks, [0, 0, 0, 4]);
+    assert_eq!(imported.marks(), [0, 0, 0, 4]);
     assert_eq!(imported, plan.stripped());
 }

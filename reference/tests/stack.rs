@@ -16,7 +16,7 @@ use reference::proved::{quote, replay, LentCalls, OUT, WALKS};
 use reference::proved::{LentPlan, ACCEPTED};
 use reference::rng::print;
 #[cfg(feature = "quotations")]
-use reference::{quotation::RECORD_OCTETS, Figure, FIGURES};
+use reference::{quotation::RECORD_OCTETS, Asked, Figure, FIGURES};
 use reference::{Plan, Refusal, Transition, MAX_STATES, MAX_TRANSITIONS, OPEN_HIGH};
 
 const STACK: usize = 1 << 20;
@@ -88,17 +88,18 @@ fn full(has_loops: bool) -> Plan {
             high: 1024 + (number % 1023) as u32,
         }
     });
-    Plan {
-        marks,
-        transitions: transitions.collect(),
+    let mut plan = Plan::of(marks, transitions.collect());
+    for (state, number) in plan.states.iter_mut().zip(0..) {
+        state.team = number % 32;
     }
+    plan
 }
 
 /// Plans with figures of every kind.
 fn plans() -> Vec<Plan> {
     let (chain, loops) = (full(false), full(true));
     let mut stranded = chain.clone();
-    stranded.marks[MAX_STATES - 1] = 0;
+    stranded.states[MAX_STATES - 1].marks = 0;
     // Open at the end of the chain, so that the whole of it is shown.
     let mut open = chain.clone();
     for transition in &mut open.transitions {
@@ -137,11 +138,12 @@ fn the_measure_sees_a_large_frame() {
 fn every_call_stays_within_the_limit() {
     let fresh = most(|mut lent, _| lent.fresh(MAX_STATES));
     let mark = most(|mut lent, _| lent.mark(0, 7));
+    let team = most(|mut lent, _| lent.team(0, 31));
     let unjoin = most(|mut lent, _| lent.unjoin(0));
     let join = most(|mut lent, plan| {
         // A full plan has room once its last transition is gone.
         lent.counts[1] = lent.counts[1].min(MAX_TRANSITIONS - 1);
-        let (from, to, low, high) = (0, plan.marks.len() - 1, 0, 0);
+        let (from, to, low, high) = (0, plan.states.len() - 1, 0, 0);
         lent.join(Transition {
             from,
             to,
@@ -166,6 +168,7 @@ fn every_call_stays_within_the_limit() {
     let mut depths = vec![
         ("fresh", fresh),
         ("mark", mark),
+        ("team", team),
         ("join", join),
         ("unjoin", unjoin),
         ("read", read),
@@ -178,7 +181,7 @@ fn every_call_stays_within_the_limit() {
     depths.extend(quotations());
 
     for (name, depth) in &depths {
-        print(&format!("  {name:14} {depth:7} octets of stack\n"));
+        print(&format!("  {name:18} {depth:7} octets of stack\n"));
     }
     for (name, depth) in depths {
         assert!(depth <= LIMIT, "{name} used {depth} octets of stack");
@@ -187,29 +190,33 @@ fn every_call_stays_within_the_limit() {
 
 #[cfg(feature = "quotations")]
 fn quotations() -> Vec<(&'static str, usize)> {
-    let of_figure = |figure: Figure| {
-        let depth = most(|lent, _| lent.quote(figure, &mut vec![0; MAX_STATES], &mut [0; OUT]));
-        (figure.name(), depth)
-    };
+    let of_asked =
+        |asked: Asked| most(|lent, _| lent.quote(asked, &mut vec![0; MAX_STATES], &mut [0; OUT]));
+    let of_figure = |figure: Figure| (figure.name(), of_asked(figure.into()));
     let mut depths = FIGURES.map(of_figure).to_vec();
+    let [least, greatest] = [Figure::LeastCount, Figure::GreatestCount];
+    depths.extend([
+        ("least count for", of_asked(least.for_class_of(15))),
+        ("greatest count for", of_asked(greatest.for_class_of(15))),
+    ]);
     let record = most(|lent, _| lent.record(&mut [0; RECORD_OCTETS]));
     let quote = most(|_, plan| quote(&encode(plan), &mut vec![0; WALKS], &mut [0; 4 * OUT]));
     let replay = most(|mut lent, plan| {
-        // A call of each kind: the text is imported, the image is read, a transition goes, one comes,
-        // and a state is marked.
+        // A call of each kind: the text is imported, the image is read, a transition goes, one comes, a
+        // state is marked, and it gets a team.
         let text = aldebaran::encode(plan).unwrap_or_default();
         let image = encode(plan);
         let octets = [text.as_bytes(), &image].concat();
-        let mut arguments = vec![0; 20];
+        let mut arguments = vec![0; 24];
         arguments[1] = text.len();
         arguments[4..6].copy_from_slice(&[text.len(), octets.len()]);
         let calls = LentCalls {
-            kinds: vec![4, 3, 2, 1, 0],
+            kinds: vec![4, 3, 2, 1, 0, 5],
             arguments,
             octets,
         };
         let (mut walks, mut out) = (vec![0; WALKS], [0; 4 * OUT]);
-        replay(1, &calls, &mut [0; 5], &mut lent, &mut walks, &mut out)
+        replay(1, &calls, &mut [0; 6], &mut lent, &mut walks, &mut out)
     });
     depths.extend([("record", record), ("quote", quote), ("replay", replay)]);
     depths

@@ -1,17 +1,25 @@
 // The limits of a plan's states and transitions, over the arrays that hold them.
 ghost use mathlib.Core.Path.{_≡_};
 ghost use Prim.Native.Nat.{_≤_, _<_};
+ghost use Rattle.graph.specs.Graph.{stateWith};
 ghost use Rattle.rules.specs.Limits.{all, stateOk, transitionOk};
 ghost use Rattle.arrays.specs.Tables.{statesOf, transitionOf, transitionsOf};
 
-// Whether the first n marks values are at most 7.
-pub fn marks_within(marks: &[u8; 512], n: usize) -> bool
+// Whether a marks value and a team are within the limits of a state.
+fn state_within(marks: u8, team: u8) -> bool
+    ensures { λ r. ⌜ r ≡ stateOk (stateWith marks team) ⌝ }
+{
+    (marks <= 7) & (team <= 31)
+}
+
+// Whether the first n marks values are at most 7, and the first n teams at most 31.
+pub fn states_within<'a>(marks: &'a [u8; 512], teams: &'a [u8; 512], n: usize) -> bool
     requires { ⌜ n ≤ 512 ⌝ }
-    ensures { λ r. ⌜ r ≡ all stateOk (statesOf n (now (marks .entry))) ⌝ }
+    ensures { λ r. ⌜ r ≡ all stateOk (statesOf n (now (marks .entry)) (now (teams .entry))) ⌝ }
 {
     let mut i = 0;
     while i < n {
-        if 7 < marks[i] {
+        if !state_within(marks[i], teams[i]) {
             return false;
         }
         i += 1;

@@ -29,11 +29,11 @@ below-or-not a b = go (decLt a b)
     go (no d) = inr (omega (arith, d))
 
 -- the counts of the plan that arrays hold
-module _ (n m : ℕ) (marks from to low high : List ℕ) where
-  pub states-of : states (graphOf n m marks from to low high) ≡ n
-  states-of = length-tabulate n (stateOf marks)
+module _ (n m : ℕ) (marks teams from to low high : List ℕ) where
+  pub states-of : states (graphOf n m marks teams from to low high) ≡ n
+  states-of = length-tabulate n (stateOf marks teams)
 
-  pub count-of : count (graphOf n m marks from to low high) ≡ m
+  pub count-of : count (graphOf n m marks teams from to low high) ≡ m
   count-of = length-tabulate m (transitionOf from to low high)
 
 -- the elements of an array from the front are its first part

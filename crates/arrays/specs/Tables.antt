@@ -1,20 +1,20 @@
--- The lists that arrays hold: a plan's states by their marks values, and its transitions by their four fields. Assumes nothing.
+-- The lists that arrays hold: a plan's states by their marks values and teams, and its transitions by their four fields. Assumes nothing.
 use mathlib.Core.Bool.{false}
 use mathlib.Core.List.{List, _++_}
 use Prim.Native.Nat.{ℕ, _≤_}
 use mathlib.Core.Path.{_≡_}
 use lib.ListN.{length, getD, drop}
-use Rattle.graph.specs.Graph.{Graph, State, Transition, marked}
+use Rattle.graph.specs.Graph.{Graph, State, Transition, stateWith}
 use Rattle.graph.specs.Route.{Cost}
 use Rattle.rules.specs.Image.{tabulate}
 
--- the state at place i of an array of marks values
-abbrev pub stateOf : List ℕ → ℕ → State
-stateOf marks i = marked (getD marks i 0)
+-- the state at place i of two arrays, of marks values and of teams
+abbrev pub stateOf : List ℕ → List ℕ → ℕ → State
+stateOf marks teams i = stateWith (getD marks i 0) (getD teams i 0)
 
--- the first n states of an array
-abbrev pub statesOf : ℕ → List ℕ → List State
-statesOf n marks = tabulate n (stateOf marks)
+-- the first n states of two arrays
+abbrev pub statesOf : ℕ → List ℕ → List ℕ → List State
+statesOf n marks teams = tabulate n (stateOf marks teams)
 
 -- the transition at place i of four arrays
 abbrev pub transitionOf : List ℕ → List ℕ → List ℕ → List ℕ → ℕ → Transition
@@ -24,9 +24,9 @@ transitionOf from to low high i = record { from = getD from i 0; to = getD to i 
 abbrev pub transitionsOf : ℕ → List ℕ → List ℕ → List ℕ → List ℕ → List Transition
 transitionsOf m from to low high = tabulate m (transitionOf from to low high)
 
--- the graph that the arrays of a plan hold: the first n marks values and the first m transitions
-abbrev pub graphOf : ℕ → ℕ → List ℕ → List ℕ → List ℕ → List ℕ → List ℕ → Graph
-graphOf n m marks from to low high = record { stateList = statesOf n marks; transitions = transitionsOf m from to low high }
+-- the graph that the arrays of a plan hold: the first n states and the first m transitions
+abbrev pub graphOf : ℕ → ℕ → List ℕ → List ℕ → List ℕ → List ℕ → List ℕ → List ℕ → Graph
+graphOf n m marks teams from to low high = record { stateList = statesOf n marks teams; transitions = transitionsOf m from to low high }
 
 -- a transition by its four numbers
 abbrev pub transition : ℕ → ℕ → ℕ → ℕ → Transition

@@ -8,7 +8,9 @@ use mathlib.Core.Path.{_≡_, refl, ap, ap₂, subst, _∙_}
 use Prim.Native.Nat.{ℕ, _≤_}
 use borrow.Author.Tests.{le-ltb}
 use lib.ListN.{length}
-use Rattle.graph.specs.declared.Which.{Which}
+use Rattle.graph.specs.declared.Asked.{Asked}
+use Rattle.graph.specs.declared.Asked.the-variants.{One, LeastCountFor, GreatestCountFor}
+use Rattle.graph.specs.Class.{nameOk}
 use Rattle.graph.specs.Graph.{Graph, states}
 use Rattle.rules.specs.Calls.{Call, step, run, runFresh}
 use Rattle.rules.specs.Limits.{stateCountOk, within}
@@ -57,23 +59,26 @@ room-after : {s u : Slices} {calls : List Call} {answers : List ℕ} → hasRoom
 room-after h none = h
 room-after h (more {s} {u} {call} {calls} {answers} t r x rest) = room-after (room-kept (planIn s) s t (step (view (planIn s)) call) r h (x .edit)) rest
 
--- a quotation of a plan within the limits, lent its states' places and four for the answer, is not refused
-quote-accepted : (g : Graph) (walk out : List ℕ) → within g ≡ true → states g ≤ length walk → 4 ≤ length out → lentQuoteRule g walk out ≡ accepted tt
+-- a quotation of a plan within the limits that names a team where it names one, lent its states' places and four for the answer, is not refused
+quote-accepted : (asked : Asked) (g : Graph) (walk out : List ℕ) → nameOk asked ≡ true → within g ≡ true → states g ≤ length walk → 4 ≤ length out
+    → lentQuoteRule asked g walk out ≡ accepted tt
 unfolding lentQuoteRule
-quote-accepted g walk out w h k = rw (w, le-ltb (length walk) (states g) h, le-ltb (length out) 4 k) refl
+quote-accepted (One which) g walk out o w h k = rw (w, le-ltb (length walk) (states g) h, le-ltb (length out) 4 k) refl
+quote-accepted (LeastCountFor team) g walk out o w h k = rw (w, o, le-ltb (length walk) (states g) h, le-ltb (length out) 4 k) refl
+quote-accepted (GreatestCountFor team) g walk out o w h k = rw (w, o, le-ltb (length walk) (states g) h, le-ltb (length out) 4 k) refl
 
--- "That plan is then quoted into n or more places, n its state count." After a fresh and a list of calls on the slices, a quotation of the slices is
--- accepted, and says of the plan that the rules give what demand 3 asks: `accepted-where` and `right` of OneClaim (demands/specs/Demands.antt)
+-- "That plan is then quoted into n or more places, n its state count." After a fresh and a list of calls on the slices, a quotation of the slices,
+-- for a team where it names one, is accepted, and says of the plan that the rules give what demand 3 asks: `accepted-where` and `right` of OneClaim (demands/specs/Demands.antt)
 pub lent-one-claim : (n : ℕ) {s t u : Slices} {calls : List Call} {answers : List ℕ} (r : ℕ) → hasRoom s ≡ true → stateCountOk n ≡ true
     → LentEdit noPlan s t (freshRule n) r → LentObeyed t calls answers u
-    → (which : Which) (walk walk′ out out′ : List ℕ) (a : ℕ) → states (runFresh n calls .last) ≤ length walk → 4 ≤ length out
-    → LentQuote which u walk walk′ out out′ a
-    → (a ≡ 256) × Stands which (runFresh n calls .last) walk walk′ out out′
-lent-one-claim n {s} {t} {u} {calls} {answers} r h k x o which walk walk′ out out′ a places four q =
+    → (asked : Asked) (walk walk′ out out′ : List ℕ) (a : ℕ) → nameOk asked ≡ true → states (runFresh n calls .last) ≤ length walk → 4 ≤ length out
+    → LentQuote asked u walk walk′ out out′ a
+    → (a ≡ 256) × Stands asked (runFresh n calls .last) walk walk′ out out′
+lent-one-claim n {s} {t} {u} {calls} {answers} r h k x o asked walk walk′ out out′ a name places four q =
     let room = room-after (room-kept noPlan s t (freshRule n) r h x) o in
     let last : view (planIn u) ≡ runFresh n calls .last = lent-fresh-run n r h k x o .2 in
-    let e : lentQuoteRule (view (planIn u)) walk out ≡ accepted tt =
-    ap (λ (g : Graph). lentQuoteRule g walk out) last ∙ quote-accepted (runFresh n calls .last) walk out (listed-within n calls k) places four in (
+    let e : lentQuoteRule asked (view (planIn u)) walk out ≡ accepted tt =
+    ap (λ (g : Graph). lentQuoteRule asked g walk out) last ∙ quote-accepted asked (runFresh n calls .last) walk out name (listed-within n calls k) places four in (
       q .answer room ∙ ap (λ (z : Result (Unit {0})). code z) e,
-      subst (λ (g : Graph). Stands which g walk walk′ out out′) last (q .quoted room e),
+      subst (λ (g : Graph). Stands asked g walk walk′ out out′) last (q .quoted room e),
     )

@@ -4,7 +4,7 @@ use mathlib.Core.Path.{_≡_, refl}
 use Prim.Native.Nat.{ℕ, _<_, _≤_}
 use native.Mathlib.Omega.{arith}
 use Rattle.rules.specs.declared.Refusal.{Refusal}
-use Rattle.rules.specs.declared.Refusal.the-variants.{PlanLimits, ImageShort, ImageLong, Version, StateCount, TransitionCount, SpareBits, StateNumber, Duration, ListFull, TransitionNumber, BufferLength, MarksValue, FigureSize, StartCount, TextForm, FromState, ToState}
+use Rattle.rules.specs.declared.Refusal.the-variants.{PlanLimits, ImageShort, ImageLong, Version, StateCount, TransitionCount, SpareBits, StateNumber, Duration, ListFull, TransitionNumber, BufferLength, MarksValue, FigureSize, StartCount, TextForm, FromState, ToState, TeamNumber}
 use Rattle.rules.specs.Refusal.{Result, accepted, refused, number}
 use Rattle.calls.specs.Rows.{asked}
 
@@ -27,6 +27,7 @@ number-small StartCount = omega arith
 number-small TextForm = omega arith
 number-small FromState = omega arith
 number-small ToState = omega arith
+number-small TeamNumber = omega arith
 
 -- a list that is made
 pub allowed : (room are : Bool) (o : Result (Unit {0})) (r : ℕ) → r ≡ asked room are o → 256 ≤ r → (room ≡ true) × (are ≡ true) × (o ≡ accepted tt)

@@ -6,7 +6,7 @@ use mathlib.Core.Path.{_≡_, refl}
 use lib.ListN.{replicate}
 use Rattle.arrays.specs.Tables.{transition}
 use Rattle.rules.specs.Image.{tabulate}
-use Rattle.rules.specs.Calls.{mark, join, unjoin, read, import}
+use Rattle.rules.specs.Calls.{mark, team, join, unjoin, read, import}
 use Rattle.rules.specs.Limits.{all}
 use Rattle.rules.specs.Refusal.{code}
 use Rattle.rules.specs.Table.{first}
@@ -14,14 +14,14 @@ use Rattle.calls.specs.Rows.{replayRows}
 use Rattle.calls.specs.Slices.{callsIn, areCalls}
 
 -- one call of each kind; the read's octets are the second and the third, the import's the last two
-pub each-kind : callsIn (0 ∷ 1 ∷ 2 ∷ 3 ∷ 4 ∷ [])
-    (0 ∷ 4 ∷ 0 ∷ 0 ∷ 1 ∷ 2 ∷ 3 ∷ 4 ∷ 5 ∷ 0 ∷ 0 ∷ 0 ∷ 1 ∷ 3 ∷ 0 ∷ 0 ∷ 2 ∷ 4 ∷ 0 ∷ 0 ∷ []) (9 ∷ 8 ∷ 7 ∷ 6 ∷ [])
-    ≡ mark 0 4 ∷ join (transition 1 2 3 4) ∷ unjoin 5 ∷ read (8 ∷ 7 ∷ []) ∷ import (7 ∷ 6 ∷ []) ∷ []
+pub each-kind : callsIn (0 ∷ 1 ∷ 2 ∷ 3 ∷ 4 ∷ 5 ∷ [])
+    (0 ∷ 4 ∷ 0 ∷ 0 ∷ 1 ∷ 2 ∷ 3 ∷ 4 ∷ 5 ∷ 0 ∷ 0 ∷ 0 ∷ 1 ∷ 3 ∷ 0 ∷ 0 ∷ 2 ∷ 4 ∷ 0 ∷ 0 ∷ 6 ∷ 31 ∷ 0 ∷ 0 ∷ []) (9 ∷ 8 ∷ 7 ∷ 6 ∷ [])
+    ≡ mark 0 4 ∷ join (transition 1 2 3 4) ∷ unjoin 5 ∷ read (8 ∷ 7 ∷ []) ∷ import (7 ∷ 6 ∷ []) ∷ team 6 31 ∷ []
 unfolding callsIn tabulate
 each-kind = refl
 
--- a read and an import of all four octets
-pub a-list : areCalls (3 ∷ 4 ∷ []) (0 ∷ 4 ∷ 0 ∷ 0 ∷ 0 ∷ 4 ∷ 0 ∷ 0 ∷ []) (9 ∷ 8 ∷ 7 ∷ 6 ∷ []) ≡ true
+-- a read and an import of all four octets, and a team, whose numbers are no part's
+pub a-list : areCalls (3 ∷ 4 ∷ 5 ∷ []) (0 ∷ 4 ∷ 0 ∷ 0 ∷ 0 ∷ 4 ∷ 0 ∷ 0 ∷ 6 ∷ 5 ∷ 0 ∷ 0 ∷ []) (9 ∷ 8 ∷ 7 ∷ 6 ∷ []) ≡ true
 unfolding areCalls tabulate all
 a-list = refl
 
@@ -30,9 +30,9 @@ pub three-arguments : areCalls (3 ∷ []) (0 ∷ 4 ∷ 0 ∷ []) (9 ∷ 8 ∷ 7 
 unfolding areCalls tabulate all
 three-arguments = refl
 
-pub kind-5 : areCalls (5 ∷ []) (0 ∷ 4 ∷ 0 ∷ 0 ∷ []) (9 ∷ 8 ∷ 7 ∷ 6 ∷ []) ≡ false
+pub kind-6 : areCalls (6 ∷ []) (0 ∷ 4 ∷ 0 ∷ 0 ∷ []) (9 ∷ 8 ∷ 7 ∷ 6 ∷ []) ≡ false
 unfolding areCalls tabulate all
-kind-5 = refl
+kind-6 = refl
 
 pub end-outside : (areCalls (3 ∷ []) (0 ∷ 5 ∷ 0 ∷ 0 ∷ []) (9 ∷ 8 ∷ 7 ∷ 6 ∷ []) ≡ false) × (areCalls (4 ∷ []) (0 ∷ 5 ∷ 0 ∷ 0 ∷ []) (9 ∷ 8 ∷ 7 ∷ 6 ∷ []) ≡ false)
 unfolding areCalls tabulate all

@@ -11,7 +11,7 @@ use lib.ListN.{length, getD, take, drop, length-append}
 use lib.Seq.{take-at, drop-at}
 use Rattle.rules.specs.Image.{tabulate}
 use Rattle.rules.proofs.Tabulated.{tabulate-same, all-tabulate}
-use Rattle.rules.specs.Calls.{Call, mark, join, unjoin, read, import}
+use Rattle.rules.specs.Calls.{Call, mark, team, join, unjoin, read, import}
 use Rattle.rules.specs.Limits.{stateCountOk}
 use Rattle.rules.specs.Refusal.{accepted}
 use Rattle.calls.specs.Rows.{replayRule}
@@ -24,6 +24,7 @@ item k (join t) = record { kind = 1; a = t .from; b = t .to; c = t .low; d = t .
 item k (unjoin number) = record { kind = 2; a = number; b = 0; c = 0; d = 0 }
 item k (read octets) = record { kind = 3; a = k; b = k + length octets; c = 0; d = 0 }
 item k (import text) = record { kind = 4; a = k; b = k + length text; c = 0; d = 0 }
+item k (team state number) = record { kind = 5; a = state; b = number; c = 0; d = 0 }
 
 octetsIn : Call → List ℕ
 octetsIn (mark state value) = []
@@ -31,6 +32,7 @@ octetsIn (join t) = []
 octetsIn (unjoin number) = []
 octetsIn (read octets) = octets
 octetsIn (import text) = text
+octetsIn (team state number) = []
 
 -- the three slices of a list whose octets stand behind the first k
 kindsOf : ℕ → List Call → List ℕ
@@ -85,6 +87,7 @@ call-back (join t) front rest = refl
 call-back (unjoin number) front rest = refl
 call-back (read octets) front rest = ap read (part-back octets front rest)
 call-back (import text) front rest = ap import (part-back text front rest)
+call-back (team state number) front rest = refl
 
 call-is : (call : Call) (k long : ℕ) → k + length (octetsIn call) ≤ long → isCall long (item k call) ≡ true
 unfolding item octetsIn
@@ -93,6 +96,7 @@ call-is (join t) k long h = refl
 call-is (unjoin number) k long h = refl
 call-is (read octets) k long h = rw (le-leb k (k + length octets) (omega arith), le-leb (k + length octets) long h)
 call-is (import text) k long h = rw (le-leb k (k + length text) (omega arith), le-leb (k + length text) long h)
+call-is (team state number) k long h = refl
 
 -- ---- item by item
 

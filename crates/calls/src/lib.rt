@@ -1,15 +1,15 @@
 // A list of calls in lent slices of numbers: whether the slices are one, and whether a row refuses to make it. What comes of it is one number, asked for before
 // anything is written.
 ghost use mathlib.Core.Path.{_≡_};
-ghost use mathlib.Core.Bool.{_&&_, _||_};
-ghost use lib.Dec.{leb, ltb};
+ghost use mathlib.Core.Bool.{_&&_};
+ghost use lib.Dec.{leb};
 ghost use Prim.Native.Nat.{_≤_, _/_};
 ghost use lib.ListN.{length};
 ghost use Rattle.rules.specs.Image.{tabulate};
 ghost use Rattle.rules.specs.Limits.{all};
 ghost use Rattle.rules.specs.Refusal.{code as codeOf, said};
 ghost use Rattle.calls.specs.Rows.{replayRule, asked};
-ghost use Rattle.calls.specs.Slices.{isCall, itemAt, areCalls};
+ghost use Rattle.calls.specs.Slices.{isOne, isCall, itemAt, areCalls};
 use arrays::limits;
 use rules::Answer;
 use rules::Refusal;
@@ -23,12 +23,16 @@ fn part_ok(start: usize, end: usize, long: usize) -> bool
 
 // Whether a kind and its first two arguments are a call's.
 fn is_call(kind: u8, a: usize, b: usize, long: usize) -> bool
-    ensures { λ r. ⌜ r ≡ (ltb kind 3 || (ltb kind 5 && (leb a b && leb b long))) ⌝ }
+    ensures { λ r. ⌜ r ≡ isOne long kind a b ⌝ }
 {
     if kind < 3 {
         return true;
     }
-    if kind < 5 { part_ok(a, b, long) } else { false }
+    if kind < 5 {
+        part_ok(a, b, long)
+    } else {
+        kind == 5
+    }
 }
 
 // Whether every item is a call.

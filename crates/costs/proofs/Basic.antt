@@ -4,12 +4,14 @@ use mathlib.Core.List.{List, [], _∷_}
 use mathlib.Core.Path.{_≡_, refl}
 use Prim.Native.Nat.{ℕ, _+_, _*_}
 use lib.ListN.{replicate}
+use Rattle.graph.specs.declared.Asked.the-variants.{One, LeastCountFor}
+use Rattle.graph.specs.declared.Which.the-variants.{LeastCount}
 use Rattle.graph.specs.Graph.{transition, to}
 use Rattle.graph.specs.Route.{Cost, total}
 use Rattle.graph.specs.Figure.{number, ENDLESS}
 use Rattle.graph.specs.Known.{P1}
 use Rattle.rules.specs.Image.{tabulate}
-use Rattle.costs.specs.Arrays.{lowWeight, highWeight, countWeight, countClose}
+use Rattle.costs.specs.Arrays.{lowWeight, highWeight, leavingWeight, countClose}
 use Rattle.arrays.specs.Tables.{costOf}
 use Rattle.costs.specs.Scaled.{divided}
 
@@ -36,23 +38,33 @@ pub below-open : highWeight (2047 ∷ 2046 ∷ []) 1 ≡ 2046
 below-open = refl
 
 -- a transition weighs what the state that it leaves counts: 0→1 nothing, 1→3 one
-pub leaving-uncounted : countWeight 1 0 marks sources 0 ≡ 0
+pub leaving-uncounted : leavingWeight 0 (tabulate 4 (countClose (One LeastCount) 1 marks (replicate 4 0))) sources 0 ≡ 0
+unfolding tabulate
 leaving-uncounted = refl
 
-pub leaving-counted : countWeight 1 0 marks sources 2 ≡ 1
+pub leaving-counted : leavingWeight 0 (tabulate 4 (countClose (One LeastCount) 1 marks (replicate 4 0))) sources 2 ≡ 1
+unfolding tabulate
 leaving-counted = refl
 
 -- the last state is counted too
-pub last-counted : countClose 1024 marks 1 ≡ 1024
+pub last-counted : countClose (One LeastCount) 1024 marks (replicate 4 0) 1 ≡ 1024
 last-counted = refl
+
+-- by the class of a team, it is the state's own team that decides: states of the teams 0, 9, 10 and 3, and wards named by 5
+pub class-counted : tabulate 4 (countClose (LeastCountFor 5) 1 marks (0 ∷ 9 ∷ 10 ∷ 3 ∷ [])) ≡ 0 ∷ 1 ∷ 0 ∷ 1 ∷ []
+unfolding tabulate
+class-counted = refl
 
 -- ---- P1's routes over the filled arrays
 
 abbrev delaysIn : (ℕ → ℕ) → Cost
 delaysIn weight = costOf (tabulate 4 weight) (replicate 4 0)
 
-abbrev countsIn : ℕ → ℕ → Cost
-countsIn scale extra = costOf (tabulate 4 (countWeight scale extra marks sources)) (tabulate 4 (countClose scale marks))
+abbrev closes : ℕ → List ℕ
+closes scale = tabulate 4 (countClose (One LeastCount) scale marks (replicate 4 0))
+
+abbrev marked : ℕ → ℕ → Cost
+marked scale extra = costOf (tabulate 4 (leavingWeight extra (closes scale) sources)) (closes scale)
 
 -- 7 seconds by two transitions, over 12 by three
 pub least-delay-found : total (P1 .plan) (delaysIn (lowWeight 1024 1 lowest)) 0 (0 ∷ 2 ∷ []) ≡ 7 * 1024 + 2
@@ -67,16 +79,16 @@ pub greatest-delay-found : total (P1 .plan) (delaysIn (highWeight highest)) 0 (0
 unfolding tabulate transition to
 greatest-delay-found = refl
 
-pub least-count-found : total (P1 .plan) (countsIn 1024 1) 0 (0 ∷ 2 ∷ []) ≡ 1 * 1024 + 2
+pub least-count-found : total (P1 .plan) (marked 1024 1) 0 (0 ∷ 2 ∷ []) ≡ 1 * 1024 + 2
 unfolding tabulate transition to
 least-count-found = refl
 
-pub greatest-count-found : total (P1 .plan) (countsIn 1 0) 0 (0 ∷ 1 ∷ 3 ∷ []) ≡ 2
+pub greatest-count-found : total (P1 .plan) (marked 1 0) 0 (0 ∷ 1 ∷ 3 ∷ []) ≡ 2
 unfolding tabulate transition to
 greatest-count-found = refl
 
 -- a walk from one counted state to another: both count
-pub both-counted : total (P1 .plan) (countsIn 1 0) 1 (1 ∷ []) ≡ 2
+pub both-counted : total (P1 .plan) (marked 1 0) 1 (1 ∷ []) ≡ 2
 unfolding tabulate transition to
 both-counted = refl
 

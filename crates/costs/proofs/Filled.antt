@@ -11,9 +11,6 @@ use borrow.Author.Count.{below-none, below-more}
 use lib.ListN.{length, getD, set, replicate}
 use lib.Seq.{getD-set-same, getD-set-other}
 use Rattle.arrays.proofs.Lists.{below-or-not}
-use Rattle.graph.specs.Graph.{countedMark}
-use Rattle.graph.specs.Route.{one}
-use Rattle.graph.proofs.Cost.{one-le}
 use Rattle.costs.specs.Arrays.{Filled}
 use Rattle.costs.specs.Scaled.{scale}
 
@@ -55,6 +52,3 @@ module _ (k times extra most : ℕ) (x : ℕ → ℕ) (xs : List ℕ) (h : times
       go : (i < k) ⊎ (k ≤ i) → getD xs i 0 ≤ scale * most
       go (inl l) = omega (arith, filled .each i l, scaled-le h (each i l))
       go (inr l) = omega (arith, filled .later i l)
-
-pub counted-le : (r v : ℕ) → r ≡ one (countedMark v) → r ≤ 1
-counted-le r v e = omega (arith, one-le (countedMark v))

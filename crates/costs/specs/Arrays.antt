@@ -1,9 +1,13 @@
 -- What stands in the arrays of a cost. Document 01, "Routes and figures", second paragraph.
 -- Assumes nothing.
+use mathlib.Core.Bool.{Bool}
 use mathlib.Core.List.{List}
 use mathlib.Core.Path.{_≡_}
 use Prim.Native.Nat.{ℕ, _+_, _*_, _≤_, _<_}
 use lib.ListN.{getD, replicate}
+use Rattle.graph.specs.declared.Asked.{Asked}
+use Rattle.graph.specs.declared.Asked.the-variants.{One, LeastCountFor, GreatestCountFor}
+use Rattle.graph.specs.Class.{sameClass}
 use Rattle.graph.specs.Graph.{countedMark}
 use Rattle.graph.specs.Route.{limit, seconds, one}
 
@@ -27,10 +31,16 @@ lowWeight scale extra low t = scale * getD low t 0 + extra
 abbrev pub highWeight : List ℕ → ℕ → ℕ
 highWeight high t = seconds (limit (getD high t 0))
 
--- .. and for a count, "the number of counted states on it": a transition counts the state that it leaves
-abbrev pub countWeight : ℕ → ℕ → List ℕ → List ℕ → ℕ → ℕ
-countWeight scale extra marks from t = scale * one (countedMark (getD marks (getD from t 0) 0)) + extra
+-- .. and for a count, whether a state with this marks value and team counts: by the counted mark, or by the class of a team
+abbrev pub countsIn : Asked → ℕ → ℕ → Bool
+countsIn (One which) value team = countedMark value
+countsIn (LeastCountFor named) value team = sameClass team named
+countsIn (GreatestCountFor named) value team = sameClass team named
 
 -- "first and last included": the close of the state s, where it is the last
-abbrev pub countClose : ℕ → List ℕ → ℕ → ℕ
-countClose scale marks s = scale * one (countedMark (getD marks s 0))
+abbrev pub countClose : Asked → ℕ → List ℕ → List ℕ → ℕ → ℕ
+countClose asked scale marks teams s = scale * one (countsIn asked (getD marks s 0) (getD teams s 0))
+
+-- and a transition weighs what the state that it leaves would add: it counts that state
+abbrev pub leavingWeight : ℕ → List ℕ → List ℕ → ℕ → ℕ
+leavingWeight extra close from t = getD close (getD from t 0) 0 + extra

@@ -1,7 +1,7 @@
 -- The promises can be kept, whatever a calculator is given: one that may do whatever they allow answers every call, and so meets the demands. A
 -- refusal hands back what it was given; an accepted edit lays the rule's plan over the arrays; an accepted write puts the octets; and each figure
 -- of a plan within the limits exists and can be shown within n places; of all four at once each within its own 512. Assumes nothing.
-use mathlib.Core.Bool.{true}
+use mathlib.Core.Bool.{Bool, true}
 use mathlib.Core.List.{List, [], _∷_, _++_}
 use mathlib.Core.Path.{_≡_, refl, sym, ap, _∙_, subst}
 use Prim.Native.Nat.{ℕ, _+_, _≤_}
@@ -9,12 +9,14 @@ use borrow.Author.Tests.{ltb-false}
 use native.Mathlib.Omega.{arith}
 use lib.ListN.{length, take, drop, length-append, length-drop}
 use lib.Seq.{length-take-le, drop-drop, take-at, drop-at}
+use Rattle.graph.specs.declared.Asked.{Asked}
 use Rattle.graph.specs.declared.Which.{Which}
 use Rattle.graph.specs.declared.Which.the-variants.{LeastDelay, GreatestDelay, LeastCount, GreatestCount}
 use Rattle.graph.specs.Compute.{least, greatest}
-use Rattle.graph.specs.Figure.{Figure, number, NONE, STRANDED, ENDLESS, Shown, costFor}
-use Rattle.graph.specs.Graph.{Graph, states}
+use Rattle.graph.specs.Figure.{Figure, number, NONE, STRANDED, ENDLESS, Shown, costOver}
+use Rattle.graph.specs.Graph.{Graph, states, counted}
 use Rattle.graph.specs.Route.{Cost}
+use Rattle.graph.specs.Class.{figureOf, counting}
 use Rattle.graph.specs.Which.{four}
 use Rattle.graph.proofs.Figures.{each-of}
 use Rattle.costs.proofs.Quoted.{least-quoted, greatest-quoted}
@@ -32,8 +34,8 @@ use Rattle.rules.specs.Aldebaran.{exportText, exportRule}
 use Rattle.rules.specs.Calls.{step}
 use Rattle.rules.specs.Image.{image, imageRows, graphIn, readImage}
 use Rattle.rules.specs.Limits.{within}
-use Rattle.rules.specs.Quotations.{Says, says, Stated, Quotes, AllStated, QuotesAll, QuotesHeld, Write, LeastQuoted, GreatestQuoted, meant, part, quoteOf}
-use Rattle.rules.specs.Quotations.{saidQuotations, quoteRows, quoteRule, allRows, allRule, heldRows, heldRule, recordOctets, recordRule}
+use Rattle.rules.specs.Quotations.{Says, saysOver, saysAsked, says, Stated, Quotes, AllStated, QuotesAll, QuotesHeld, Write, LeastQuoted, GreatestQuoted, meant, part, quoteOf}
+use Rattle.rules.specs.Quotations.{saidQuotations, nameRows, quoteRows, quoteRule, allRows, allRule, heldRows, heldRule, recordOctets, recordRule}
 use Rattle.rules.specs.declared.Refusal.{Refusal}
 use Rattle.rules.specs.Refusal.{Result, accepted, refused}
 use Rattle.rules.specs.Rules.{freshRule, writeRule, bufferRow}
@@ -99,14 +101,15 @@ meant-answered ENDLESS = refl
 abbrev Showable : Says → List ℕ → Type 0
 Showable P before = (f : Figure) × (k : ℕ) × (j : ℕ) × (after : List ℕ) × P f k j before after
 
-quotation-of : (which : Which) (g : Graph) (before : List ℕ) → (within g ≡ true → states g ≤ length before → Showable (says which g) before)
-    → (after : List ℕ) × (q : Quotation) × Quotes which g before after q
+quotation-of : (asked : Asked) (g : Graph) (before : List ℕ) → (within g ≡ true → states g ≤ length before → Showable (saysAsked asked g) before)
+    → (after : List ℕ) × (q : Quotation) × Quotes asked g before after q
 unfolding quoteRule
-quotation-of which g before showable = go (quoteRule g before) refl
+quotation-of asked g before showable = go (quoteRule asked g before) refl
   where
-    go : (o : Result (Unit {0})) → quoteRule g before ≡ o → (after : List ℕ) × (q : Quotation) × Quotes which g before after q
+    go : (o : Result (Unit {0})) → quoteRule asked g before ≡ o → (after : List ℕ) × (q : Quotation) × Quotes asked g before after q
     go (accepted tt) e =
-        let ((w, (short, u)), same) = accepted-only (quoteRows g before) tt tt e in
+        let ((w, rest), same) = accepted-only (quoteRows asked g before) tt tt e in
+        let (named, (short, u)) = none-append (nameRows asked) (bufferRow before (states g) ∷ []) rest in
         let (f, k, j, after, x) = showable (not-false (within g) w) (ltb-false (length before) (states g) short) in
         let q : Quote = record { figure = answered f; k = k; j = j } in (
           after,
@@ -115,7 +118,7 @@ quotation-of which g before showable = go (quoteRule g before) refl
             answer = sym e;
             kept = λ n h. absurd (never tt n (sym h ∙ e));
             quoted = λ q′ s. let s′ : q ≡ q′ = cc in
-                subst (λ (z : Quote). Stated (says which g) z before after) s′ (rw (meant-answered f) x);
+                subst (λ (z : Quote). Stated (saysAsked asked g) z before after) s′ (rw (meant-answered f) x);
           },
         )
     go (refused r) e = (
@@ -154,14 +157,14 @@ module _ (g : Graph) (before : List ℕ) (c : Cost) (w : within g ≡ true) (roo
       shown-of (GreatestQuoted g c) (greatest g c) (greatest-showable g w c)
       (λ k j after s f l e. greatest-quoted g (within-closed g w) c (greatest g c) k j before after s f room l e (greatest-exists g w c))
 
-showable-of : (which : Which) (g : Graph) (before : List ℕ) → within g ≡ true → states g ≤ length before → Showable (says which g) before
-showable-of LeastDelay g before = least-of g before (costFor LeastDelay g)
-showable-of GreatestDelay g before = greatest-of g before (costFor GreatestDelay g)
-showable-of LeastCount g before = least-of g before (costFor LeastCount g)
-showable-of GreatestCount g before = greatest-of g before (costFor GreatestCount g)
+showable-of : (which : Which) (test : ℕ → Bool) (g : Graph) (before : List ℕ) → within g ≡ true → states g ≤ length before → Showable (saysOver which test g) before
+showable-of LeastDelay test g before = least-of g before (costOver LeastDelay test g)
+showable-of GreatestDelay test g before = greatest-of g before (costOver GreatestDelay test g)
+showable-of LeastCount test g before = least-of g before (costOver LeastCount test g)
+showable-of GreatestCount test g before = greatest-of g before (costOver GreatestCount test g)
 
-quote-of : (which : Which) (g : Graph) (before : List ℕ) → (after : List ℕ) × (q : Quotation) × Quotes which g before after q
-quote-of which g before = quotation-of which g before (showable-of which g before)
+quote-of : (asked : Asked) (g : Graph) (before : List ℕ) → (after : List ℕ) × (q : Quotation) × Quotes asked g before after q
+quote-of asked g before = quotation-of asked g before (showable-of (figureOf asked) (counting asked g) g before)
 
 -- ---- all four at once
 
@@ -217,7 +220,7 @@ module _ (g : Graph) (before : List ℕ) (w : within g ≡ true) (room : 2048 �
   part-long GreatestCount = length-take-le 512 (drop 1536 before) (omega (arith, length-drop 1536 before))
 
   each : (which : Which) → Quotable which g (part which before)
-  each which = quotable which g (part which before) (showable-of which g (part which before) w (omega (arith, part-long which, within-states g w)))
+  each which = quotable which g (part which before) (showable-of which (counted g) g (part which before) w (omega (arith, part-long which, within-states g w)))
 
   long : (which : Which) → length (each which .1) ≡ 512
   long which = as-long which g (each which .0) (part which before) (each which .1) (each which .2) ∙ part-long which
@@ -293,7 +296,7 @@ published-answers = record {
   writes = λ p before. write-of (image (view p)) before (writeRule (view p) before);
   exports = λ p before. write-of (exportText (view p)) before (exportRule (view p) before);
   records = λ p before. write-of (recordOctets (view p)) before (recordRule (view p) before);
-  quotes = λ which p before. quote-of which (view p) before;
+  quotes = λ asked p before. quote-of asked (view p) before;
   quotes-all = λ p before. all-of (view p) before;
   quotes-image = λ octets before. image-of octets before;
 }

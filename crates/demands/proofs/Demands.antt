@@ -1,6 +1,6 @@
 -- The demands, of every calculator that keeps the published promises. Each call's answer is its rule's, by its promise, and the rule is its rows of the
 -- table (rules' `answer-first`, `only-grounds`, `accepted-where`); the plan value and the lent places after a refusal are in the promises' equations. The image both ways is a theorem of
--- the promises (plan's `write-then-read`, `read-then-write`). A quoted figure is the one by computation, and that is what the report's procedures
+-- the promises (plan's `write-then-read`, `read-then-image`, `read-then-write`). A quoted figure is the one by computation, and that is what the report's procedures
 -- return (`report-figures`). A list of calls is a run of the rules (plan's `fresh-run`), whose plan is within the limits
 -- (`listed-within`), so that a quotation with n places is accepted, and then says of that plan what its promise says.
 -- Assumes nothing.
@@ -10,7 +10,7 @@ use mathlib.Core.Path.{_≡_, refl, sym, ap, _∙_, subst}
 use Prim.Native.Nat.{ℕ}
 use borrow.Author.Tests.{le-ltb}
 use lib.ListN.{length}
-use Rattle.graph.specs.declared.Which.{Which}
+use Rattle.graph.specs.declared.Asked.{Asked}
 use Rattle.graph.specs.Compute.{figureFor}
 use Rattle.graph.specs.Graph.{Graph, states}
 use Rattle.rules.specs.declared.Answer.{Answer}
@@ -18,26 +18,26 @@ use Rattle.rules.specs.declared.Quotation.{Quotation}
 use Rattle.rules.specs.declared.Quotation.the-variants.{Quoted, Refused}
 use Rattle.rules.specs.declared.Quote.{Quote}
 use Rattle.rules.specs.declared.Refusal.{Refusal}
-use Rattle.rules.specs.declared.Refusal.the-variants.{PlanLimits}
+use Rattle.rules.specs.declared.Refusal.the-variants.{PlanLimits, TeamNumber}
 use Rattle.rules.specs.declared.Written.{Written}
 use Rattle.rules.specs.Aldebaran.{exportRows, exportRule}
-use Rattle.rules.specs.Calls.{Call, mark, join, unjoin, read, import, rowsOf, effectOf, step, runFresh}
+use Rattle.rules.specs.Calls.{Call, mark, team, join, unjoin, read, import, rowsOf, effectOf, step, runFresh}
 use Rattle.rules.specs.Image.{image, imageRows, graphIn, readImage}
 use Rattle.rules.specs.Limits.{within}
-use Rattle.rules.specs.Quotations.{saidQuotation, says, Stated, Write, quoteRows, quoteRule, allRule, heldRule, recordRows, recordRule}
+use Rattle.rules.specs.Quotations.{saidQuotation, saysAsked, Stated, Write, quoteRows, quoteRule, allRule, heldRule, recordRows, recordRule}
 use Rattle.rules.specs.Refusal.{Result, accepted, refused, answerOf, said, wrote}
 use Rattle.rules.specs.Rules.{freshRows, freshRule, freshGraph, writeRows, writeRule, written}
 use Rattle.rules.specs.Table.{Row, first}
-use Rattle.rules.proofs.Basic.{quote-done}
+use Rattle.rules.proofs.Basic.{quote-unnamed, quote-done}
 use Rattle.rules.proofs.Figures.{listed-within}
-use Rattle.rules.proofs.ReadWrite.{length-image, image-read}
+use Rattle.rules.proofs.ReadWrite.{length-image, image-read, read-version}
 use Rattle.rules.proofs.Results.{never, not-false, refused-as}
 use Rattle.rules.proofs.Tables.{only-grounds, accepted-where, accepted-only, answer-first}
 use Rattle.plan.specs.declared.Plan.{Plan}
 use Rattle.plan.specs.Promise.{Obeyed, none, more}
 use Rattle.plan.specs.View.{view, noPlan}
 use Rattle.plan.specs.declared.Edited.{Edited}
-use Rattle.plan.proofs.Promises.{no-plan, refused-keeps, fresh-run, accepted-write, write-then-read, accepted-read, read-then-write}
+use Rattle.plan.proofs.Promises.{no-plan, refused-keeps, fresh-run, accepted-write, write-then-read, accepted-read, read-then-image, read-then-write}
 use Rattle.demands.specs.Calculator.{Calculator, Promises, Answers, Listed}
 use Rattle.demands.specs.Calculator.{none as no-call, more as one-more}
 use Rattle.demands.specs.Demands.{Called, Given, Lent, Made, Demand1, Demand2, Demand3}
@@ -53,6 +53,11 @@ was-quoted : (q : Quotation) → saidQuotation q ≡ accepted tt → (x : Quote)
 was-quoted (Quoted x) e = (x, refl)
 was-quoted (Refused r) e = absurd (never tt r e)
 
+-- and one that answers a refusal has no figure
+was-refused : (q : Quotation) (r : Refusal) → saidQuotation q ≡ refused r → q ≡ Refused r
+was-refused (Quoted x) r e = absurd (never tt r (sym e))
+was-refused (Refused k) r e = let s : k ≡ r = cc in ap Refused s
+
 module _ (c : Calculator) (keeps : Promises c) where
   -- ---- demand 1
 
@@ -64,7 +69,7 @@ module _ (c : Calculator) (keeps : Promises c) where
   by-rows (write {p} {before} x) = ap answerOf (keeps .writes x .answer) ∙ answer-first (writeRows (view p) before) _
   by-rows (export {p} {before} x) = ap answerOf (keeps .exports x .answer) ∙ answer-first (exportRows (view p) before) _
   by-rows (recording {p} {before} x) = ap answerOf (keeps .records x .answer) ∙ answer-first (recordRows (view p) before) _
-  by-rows (quote {which} {p} {before} x) = keeps .quotes x .answer
+  by-rows (quote {asked} {p} {before} x) = keeps .quotes x .answer
   by-rows (all-four {p} {before} x) = keeps .quotes-all x .answer
   by-rows (all-of-image {octets} {before} x) = keeps .quotes-image x .answer
 
@@ -74,6 +79,7 @@ module _ (c : Calculator) (keeps : Promises c) where
     where
       go : (call : Call) → first (rowsOf (view p) call) ≡ refused PlanLimits
       go (mark state value) = rw w
+      go (team state number) = rw w
       go (join t) = rw w
       go (unjoin number) = rw w
       go (read octets) = rw w
@@ -92,7 +98,7 @@ module _ (c : Calculator) (keeps : Promises c) where
   stays k (write {p} {before} x) e = kept-buffer k (keeps .writes x) e
   stays k (export {p} {before} x) e = kept-buffer k (keeps .exports x) e
   stays k (recording {p} {before} x) e = kept-buffer k (keeps .records x) e
-  stays k (quote {which} {p} {before} x) e = keeps .quotes x .kept k (sym (keeps .quotes x .answer) ∙ e)
+  stays k (quote {asked} {p} {before} x) e = keeps .quotes x .kept k (sym (keeps .quotes x .answer) ∙ e)
   stays k (all-four {p} {before} x) e = keeps .quotes-all x .kept k (sym (keeps .quotes-all x .answer) ∙ e)
   stays k (all-of-image {octets} {before} x) e = keeps .quotes-image x .kept k (sym (keeps .quotes-image x .answer) ∙ e)
 
@@ -112,14 +118,14 @@ module _ (c : Calculator) (keeps : Promises c) where
   -- ---- demand 2
 
   -- what an accepted quotation says, and that its plan is within the limits
-  said-of : {which : Which} {p : Plan} {before after : List ℕ} (q : Quote) → c .quotes which p before after (Quoted q)
-      → Stated (says which (view p)) q before after
+  said-of : {asked : Asked} {p : Plan} {before after : List ℕ} (q : Quote) → c .quotes asked p before after (Quoted q)
+      → Stated (saysAsked asked (view p)) q before after
   said-of q x = keeps .quotes x .quoted q refl
 
-  quoted-within : {which : Which} {p : Plan} {before after : List ℕ} (q : Quote) → c .quotes which p before after (Quoted q) → within (view p) ≡ true
+  quoted-within : {asked : Asked} {p : Plan} {before after : List ℕ} (q : Quote) → c .quotes asked p before after (Quoted q) → within (view p) ≡ true
   unfolding quoteRule
-  quoted-within {which} {p} {before} q x =
-      not-false (within (view p)) (accepted-only (quoteRows (view p) before) tt tt (sym (keeps .quotes x .answer)) .0 .0)
+  quoted-within {asked} {p} {before} q x =
+      not-false (within (view p)) (accepted-only (quoteRows asked (view p) before) tt tt (sym (keeps .quotes x .answer)) .0 .0)
 
   pub demand-2 : Demand2 c
   unfolding figureFor
@@ -129,8 +135,11 @@ module _ (c : Calculator) (keeps : Promises c) where
         (length-image (view p) ∙ accepted-write (view p) before n a .1, keeps .writes x .buffer ∙ ap (written (image (view p)) before) a);
     read-image = λ {p} {octets} {e} ho x a. image-read octets (view (e .plan)) (accepted-read p octets e (keeps .edits x) a) ho;
     reads-back = λ {p} {old} {before} {after} {e} n h w x. write-then-read p old before after n e h (keeps .writes w) (keeps .edits x);
-    writes-back = λ {old} {octets} {before} {after} {e} {w} ho x a room y.
-        read-then-write old octets e before after w ho (keeps .edits x) a (keeps .writes y) room;
+    read-version = λ {p} {octets} {e} x a. read-version octets (view (e .plan)) (accepted-read p octets e (keeps .edits x) a);
+    writes-back = λ {old} {octets} {before} {after} {e} {w} ho two x a room y.
+        read-then-write old octets e before after w ho two (keeps .edits x) a (keeps .writes y) room;
+    writes-version-2 = λ {old} {octets} {before} {after} {e} {w} ho x a room y.
+        read-then-image old octets e before after w ho (keeps .edits x) a (keeps .writes y) room;
     lower-is = λ {p} q h x.
         let (b, r, e) = report-figures (view p) (quoted-within q x) h .least-delay in (b, r, e ∙ sym (said-of q x .figure));
     upper-is = λ {p} q h x.
@@ -151,15 +160,20 @@ module _ (c : Calculator) (keeps : Promises c) where
   demand-3 s =
       let g : Graph = runFresh (s .n) (s .calls) .last in
       let r = fresh-run (s .n) (s .made) (s .n-ok) (keeps .freshes (s .freshly)) (obeyed (s .in-turn)) in
+      let answered : (asked : Asked) → saidQuotation (s .quotation asked) ≡ quoteRule asked g (s .places-before asked) =
+      λ asked. keeps .quotes (s .quoted asked) .answer ∙ ap (λ (x : Graph). quoteRule asked x (s .places-before asked)) (r .2) in
       record {
         fresh-accepted = r .0;
         answers = r .1;
         plan = r .2;
-        accepted-where = λ which room.
-            was-quoted (s .quotation which)
-            (keeps .quotes (s .quoted which) .answer ∙ ap (λ (x : Graph). quoteRule x (s .places-before which)) (r .2)
-            ∙ quote-done g (s .places-before which) (listed-within (s .n) (s .calls) (s .n-ok)) (le-ltb (length (s .places-before which)) (states g) room));
-        right = λ which q e.
-            subst (λ (x : Graph). Stated (says which x) q (s .places-before which) (s .places-after which)) (r .2)
-            (keeps .quotes (s .quoted which) .quoted q e);
+        accepted-where = λ asked named room.
+            was-quoted (s .quotation asked)
+            (answered asked
+            ∙ quote-done g (s .places-before asked) asked (listed-within (s .n) (s .calls) (s .n-ok)) named (le-ltb (length (s .places-before asked)) (states g) room));
+        no-figure = λ asked unnamed.
+            was-refused (s .quotation asked) TeamNumber
+            (answered asked ∙ quote-unnamed g (s .places-before asked) asked (listed-within (s .n) (s .calls) (s .n-ok)) unnamed);
+        right = λ asked q e.
+            subst (λ (x : Graph). Stated (saysAsked asked x) q (s .places-before asked) (s .places-after asked)) (r .2)
+            (keeps .quotes (s .quoted asked) .quoted q e);
       }

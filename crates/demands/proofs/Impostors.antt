@@ -1,6 +1,7 @@
 -- The impostors of document 01's acceptance point 2: each one's answer breaks a demand. The figures of P1, and of P2 or P6 beside it, give away
 -- whoever does not look; a shown walk has the count that is quoted; a list of two marks gives away whoever obeys the first; the known octets
 -- give away the rest. Then those of document 02's E3: a bad from, and a bad to, give away whoever tests them in another order, and read's list of numbers whoever still has 7.
+-- And those of E4: a count for a class whose walk lacks it; a mark that clears the team; an image written by version 1, so that one which was read comes back; 18 after 11.
 -- Assumes nothing.
 use mathlib.Core.Bool.{Bool, true, false, true≢false}
 use mathlib.Core.List.{List, [], _∷_, _++_}
@@ -10,31 +11,36 @@ use borrow.Author.Tests.{eqb-true, eqb-false}
 use native.Mathlib.Omega.{arith}
 use lib.Dec.{leb, eqb}
 use lib.ListN.{length, getD, take, drop, replicate}
+use lib.Seq.{take-at}
 use Rattle.field.specs.Field.{Octets}
+use Rattle.graph.specs.declared.Asked.{Asked}
+use Rattle.graph.specs.declared.Asked.the-variants.{One, LeastCountFor, GreatestCountFor}
 use Rattle.graph.specs.declared.Which.{Which}
 use Rattle.graph.specs.declared.Which.the-variants.{LeastDelay, GreatestDelay, LeastCount, GreatestCount}
 use Rattle.graph.specs.Compute.{any, figureFor}
-use Rattle.graph.specs.Figure.{Figure, number, NONE, STRANDED, ENDLESS, kind, value, Shown, costFor}
-use Rattle.graph.specs.Graph.{Graph, Transition, states, count, state, marksOf, start, final, counted, transition, from, to, low, high}
+use Rattle.graph.specs.Figure.{Figure, number, NONE, STRANDED, ENDLESS, kind, value, Shown}
+use Rattle.graph.specs.Class.{teamOk, inClassOf, counting}
+use Rattle.graph.specs.Graph.{Graph, Transition, stateWith, states, count, state, marksOf, teamOf, start, final, counted, transition, from, to, low, high}
 use Rattle.graph.specs.Known.{Row, plan, join as to-join, P1, P2, P6}
-use Rattle.graph.specs.Route.{Route, number-on}
+use Rattle.graph.specs.Route.{Route, counts, number-on}
 use Rattle.graph.proofs.Sentences.{shown-count}
 use Rattle.rules.specs.declared.Answer.the-variants.{Accepted, Refused}
-use Rattle.rules.specs.declared.Quotation.the-variants.{Quoted}
+use Rattle.rules.specs.declared.Quotation.the-variants.{Quoted, Refused as NotQuoted}
 use Rattle.rules.specs.declared.Quote.{Quote}
 use Rattle.rules.specs.declared.Refusal.{Refusal}
-use Rattle.rules.specs.declared.Refusal.the-variants.{StateNumber, Duration, ListFull, FromState, ToState}
+use Rattle.rules.specs.declared.Refusal.the-variants.{StateNumber, Duration, ListFull, BufferLength, FromState, ToState, TeamNumber}
+use Rattle.rules.specs.declared.Written.{Written}
 use Rattle.rules.specs.declared.Written.the-variants.{Length}
-use Rattle.rules.specs.Calls.{Call, mark, join, read, rowsOf, run, runFresh}
-use Rattle.rules.specs.Image.{image, transitionRows}
+use Rattle.rules.specs.Calls.{Call, mark, team, join, read, rowsOf, run, runFresh}
+use Rattle.rules.specs.Image.{imageBy, image, versionOf, transitionRows}
 use Rattle.rules.specs.Limits.{within, all, stateCountOk}
-use Rattle.rules.specs.Quotations.{meant}
+use Rattle.rules.specs.Quotations.{meant, quoteRows}
 use Rattle.rules.specs.Refusal.{refused, said, code}
 use Rattle.rules.specs.Rules.{freshGraph}
 use Rattle.rules.specs.Table.{Row as TableRow, first}
-use Rattle.rules.proofs.Basic.{octets, image-of-plan, read-known}
+use Rattle.rules.proofs.Basic.{octets, image-of-plan, written-of-plan, read-known}
 use Rattle.rules.proofs.Grounds.{bad-from, bad-to, holds-among, imageNumbers, read-among}
-use Rattle.rules.proofs.ReadWrite.{image-octets, length-image}
+use Rattle.rules.proofs.ReadWrite.{image-octets, length-image-by, length-image, version-by}
 use Rattle.rules.proofs.Results.{never}
 use Rattle.rules.proofs.Sizes.{figure-said}
 use Rattle.rules.proofs.Tables.{after-refused}
@@ -42,7 +48,7 @@ use Rattle.plan.specs.declared.Edited.{Edited}
 use Rattle.plan.specs.declared.Plan.{Plan}
 use Rattle.plan.specs.View.{view}
 use Rattle.demands.specs.Calculator.{Calculator}
-use Rattle.demands.specs.Demands.{Demand1, Demand2, OneClaim, Session, edit}
+use Rattle.demands.specs.Demands.{Demand1, Demand2, OneClaim, Session, edit, quote}
 
 -- ---- demand 3: the figures
 
@@ -114,6 +120,16 @@ two-starts-lack first r e =
     let z : _≡_ {A = ℕ} 0 1 = subst (λ (s : ℕ). number-on two-starts (counted two-starts) s (0 ∷ []) ≡ 1) (sym (r .1 .1 .source)) e in
     omega arith
 
+-- and of two states of the classes that 9 and 10 are of: a walk from the first to the second has one state of each, not two of either
+abbrev pub two-classes : Graph
+two-classes = record { stateList = stateWith 4 9 ∷ stateWith 2 10 ∷ []; transitions = to-join 0 1 1 1 ∷ [] }
+
+pub two-classes-lack : (first : ℕ) → Route two-classes first (0 ∷ []) → number-on two-classes (inClassOf two-classes 9) first (0 ∷ []) ≡ 2 → ⊥
+unfolding teamOf inClassOf transition from to
+two-classes-lack first r e =
+    let z : _≡_ {A = ℕ} 1 2 = subst (λ (s : ℕ). number-on two-classes (inClassOf two-classes 9) s (0 ∷ []) ≡ 2) (sym (r .1 .1 .source)) e in
+    omega arith
+
 module _ (c : Calculator) where
   -- a session whose list of calls makes the plan g, and of which demand 3's claim holds, quotes the figure f
   pub record Heard (g : Graph) (which : Which) (f : Figure) : Type 0 where
@@ -121,7 +137,7 @@ module _ (c : Calculator) where
     pub demand : OneClaim c session
     pub makes : runFresh (session .n) (session .calls) .last ≡ g
     pub quote : Quote
-    pub quoted : session .quotation which ≡ Quoted quote
+    pub quoted : session .quotation (One which) ≡ Quoted quote
     pub figure : meant (quote .figure) ≡ f
 
   -- then f is g's figure
@@ -129,7 +145,7 @@ module _ (c : Calculator) where
   heard g which f h =
       let s = h .session in
       sym (h .figure)
-      ∙ figure-said which (runFresh (s .n) (s .calls) .last) _ _ _ _ _ (h .demand .right which (h .quote) (h .quoted))
+      ∙ figure-said which (runFresh (s .n) (s .calls) .last) _ _ _ _ _ (h .demand .right (One which) (h .quote) (h .quoted))
       ∙ ap (figureFor which) (h .makes)
 
   -- "a calculator that says NONE, STRANDED or ENDLESS before looking": P1 has none of the four
@@ -179,25 +195,50 @@ module _ (c : Calculator) where
     abbrev after-list : Graph
     after-list = runFresh (s .n) (s .calls) .last
 
-    -- the shown walk has no start from which it is a route with x counted states
-    abbrev Lacks : List ℕ → ℕ → Type 0
-    Lacks walk x = (first : ℕ) → Route after-list first walk → number-on after-list (counted after-list) first walk ≡ x → ⊥
+    -- the shown walk has no start from which it is a route with x states of which the test says yes
+    abbrev Lacks : (ℕ → Bool) → List ℕ → ℕ → Type 0
+    Lacks test walk x = (first : ℕ) → Route after-list first walk → number-on after-list test first walk ≡ x → ⊥
 
-    -- "one that quotes a handover count which its walk lacks": from the start where it is a route the shown walk has just that many counted states
-    counts-shown : (f : Figure) (x k j : ℕ) (places : List ℕ) → f ≡ number x → Shown after-list (costFor LeastCount after-list) f (take k places) j
-        → Lacks (take k places) x → ⊥
-    counts-shown f x k j places e shown lacks =
-        let (first, r, n) = shown-count after-list (counted after-list) x (take k places) j
-        (subst (λ (f : Figure). Shown after-list (costFor LeastCount after-list) f (take k places) j) e shown) in
+    -- "one that quotes a handover count which its walk lacks": from the start where it is a route the shown walk has just that many such states. Once, over any
+    -- yes-or-no on states; then by the counted mark, and for the class of a team (document 02, E4)
+    counts-shown : (test : ℕ → Bool) (f : Figure) (x k j : ℕ) (places : List ℕ) → f ≡ number x → Shown after-list (counts after-list test) f (take k places) j
+        → Lacks test (take k places) x → ⊥
+    counts-shown test f x k j places e shown lacks =
+        let (first, r, n) = shown-count after-list test x (take k places) j
+        (subst (λ (f : Figure). Shown after-list (counts after-list test) f (take k places) j) e shown) in
         lacks first r n
 
-    pub least-count-lacking : (q : Quote) (x : ℕ) → s .quotation LeastCount ≡ Quoted q → meant (q .figure) ≡ number x
-        → Lacks (take (q .k) (s .places-after LeastCount)) x → ⊥
-    least-count-lacking q x e f = counts-shown _ x (q .k) (q .j) (s .places-after LeastCount) f (d .right LeastCount q e .shows .walk)
+    -- a count that is quoted, with its figure x, and what its walk lacks
+    module _ (q : Quote) (x : ℕ) (f : meant (q .figure) ≡ number x) where
+      abbrev Lacking : Asked → Type 0
+      Lacking asked = Lacks (counting asked after-list) (take (q .k) (s .places-after asked)) x
 
-    pub greatest-count-lacking : (q : Quote) (x : ℕ) → s .quotation GreatestCount ≡ Quoted q → meant (q .figure) ≡ number x
-        → Lacks (take (q .k) (s .places-after GreatestCount)) x → ⊥
-    greatest-count-lacking q x e f = counts-shown _ x (q .k) (q .j) (s .places-after GreatestCount) f (d .right GreatestCount q e .shows .walk)
+      pub least-count-lacking : s .quotation (One LeastCount) ≡ Quoted q → Lacking (One LeastCount) → ⊥
+      least-count-lacking e =
+          counts-shown (counted after-list) _ x (q .k) (q .j) (s .places-after (One LeastCount)) f (d .right (One LeastCount) q e .shows .walk)
+
+      pub greatest-count-lacking : s .quotation (One GreatestCount) ≡ Quoted q → Lacking (One GreatestCount) → ⊥
+      greatest-count-lacking e =
+          counts-shown (counted after-list) _ x (q .k) (q .j) (s .places-after (One GreatestCount)) f (d .right (One GreatestCount) q e .shows .walk)
+
+      pub least-class-lacking : (named : ℕ) → s .quotation (LeastCountFor named) ≡ Quoted q → Lacking (LeastCountFor named) → ⊥
+      least-class-lacking named e =
+          counts-shown (inClassOf after-list named) _ x (q .k) (q .j) (s .places-after (LeastCountFor named)) f (d .right (LeastCountFor named) q e .shows .walk)
+
+      pub greatest-class-lacking : (named : ℕ) → s .quotation (GreatestCountFor named) ≡ Quoted q → Lacking (GreatestCountFor named) → ⊥
+      greatest-class-lacking named e =
+          counts-shown (inClassOf after-list named) _ x (q .k) (q .j) (s .places-after (GreatestCountFor named)) f (d .right (GreatestCountFor named) q e .shows .walk)
+
+    -- one whose mark clears the team (E4)
+    pub clears-the-team : s .n ≡ 1 → s .calls ≡ team 0 5 ∷ mark 0 4 ∷ [] → view (s .last) ≡ plan (4 ∷ []) [] → ⊥
+    unfolding run within all
+    clears-the-team n calls last =
+        let e : plan (4 ∷ []) [] ≡ teamed = sym last ∙ d .plan ∙ ap₂ (λ (k : ℕ) (l : List Call). runFresh k l .last) n calls in
+        let z : _≡_ {A = ℕ} 0 5 = ap (λ (g : Graph). (state g 0) .team) e in
+        omega arith
+      where
+        teamed : Graph
+        teamed = record { stateList = stateWith 4 5 ∷ []; transitions = [] }
 
     -- "one that obeys the first edit and merely acknowledges the rest": it marks state 0 with 4, says that it marked it with 2, and holds 4
     pub acknowledges-the-rest : s .n ≡ 1 → s .calls ≡ mark 0 4 ∷ mark 0 2 ∷ [] → view (s .last) ≡ plan (4 ∷ []) [] → ⊥
@@ -208,7 +249,7 @@ module _ (c : Calculator) where
         omega arith
 
     -- and one that hides it, and quotes: after mark 0 4 and mark 0 6 state 0 is final, and who obeyed only the first calls it a dead end
-    pub quotes-the-first : s .n ≡ 1 → s .calls ≡ mark 0 4 ∷ mark 0 6 ∷ [] → (q : Quote) → s .quotation GreatestDelay ≡ Quoted q
+    pub quotes-the-first : s .n ≡ 1 → s .calls ≡ mark 0 4 ∷ mark 0 6 ∷ [] → (q : Quote) → s .quotation (One GreatestDelay) ≡ Quoted q
         → meant (q .figure) ≡ STRANDED → ⊥
     unfolding run within all figureFor any marksOf start final counted transition from to low high
     quotes-the-first n calls q e f =
@@ -228,7 +269,11 @@ module _ (c : Calculator) where
   -- ---- demands 1 and 2: the image
 
   known-octets : Octets octets
-  known-octets = subst Octets image-of-plan (image-octets (P1 .plan))
+  known-octets = subst Octets image-of-plan (image-octets 1 (P1 .plan))
+
+  -- what is written of that plan: version 2
+  abbrev written-octets : List ℕ
+  written-octets = 0x20 ∷ drop 1 octets
 
   module _ (d : Demand2 c) where
     -- "one that leaves the plan alone": it says that it read the octets, and holds a plan of one state
@@ -236,26 +281,26 @@ module _ (c : Calculator) where
     unfolding octets
     leaves-the-plan {p} {e} x a v =
         let z : _≡_ {A = ℕ} 5 28 =
-        sym (length-image (freshGraph 1)) ∙ ap (λ (g : Graph). length (image g)) (sym v) ∙ ap length (d .read-image known-octets x a) in
+        sym (length-image-by (versionOf octets) (freshGraph 1)) ∙ ap (λ (g : Graph). length (imageBy (versionOf octets) g)) (sym v) ∙ ap length (d .read-image known-octets x a) in
         omega arith
 
     -- "and the buffer empty": it says that it wrote the known plan, and the buffer stays as it was
     pub leaves-the-buffer : {p : Plan} (n : ℕ) → view p ≡ P1 .plan → c .writes p (replicate 28 0) (replicate 28 0) (Length n) → ⊥
     unfolding octets
     leaves-the-buffer {p} n v x =
-        let i : image (view p) ≡ octets = ap image v ∙ image-of-plan in
-        let b : _≡_ {A = List ℕ} (replicate 28 0) (octets ++ drop n (replicate 28 0)) =
+        let i : image (view p) ≡ written-octets = ap image v ∙ written-of-plan in
+        let b : _≡_ {A = List ℕ} (replicate 28 0) (written-octets ++ drop n (replicate 28 0)) =
         d .written-image n x .1 ∙ ap {B = List ℕ} (λ (l : List ℕ). l ++ drop n (replicate 28 0)) i in
-        let z : _≡_ {A = ℕ} 0 16 = ap (λ (l : List ℕ). getD l 0 0) b in
+        let z : _≡_ {A = ℕ} 0 32 = ap (λ (l : List ℕ). getD l 0 0) b in
         omega arith
 
     -- one that touches a later octet: it puts the known octets, and clears the one behind them
-    pub touches-a-later-octet : {p : Plan} (n : ℕ) → view p ≡ P1 .plan → c .writes p (replicate 29 1) (octets ++ (0 ∷ [])) (Length n) → ⊥
+    pub touches-a-later-octet : {p : Plan} (n : ℕ) → view p ≡ P1 .plan → c .writes p (replicate 29 1) (written-octets ++ (0 ∷ [])) (Length n) → ⊥
     unfolding octets
     touches-a-later-octet {p} n v x =
-        let i : image (view p) ≡ octets = ap image v ∙ image-of-plan in
+        let i : image (view p) ≡ written-octets = ap image v ∙ written-of-plan in
         let l : 28 ≡ n = ap length (sym i) ∙ d .written-image n x .0 in
-        let b : _≡_ {A = List ℕ} (octets ++ (0 ∷ [])) (octets ++ drop 28 (replicate 29 1)) =
+        let b : _≡_ {A = List ℕ} (written-octets ++ (0 ∷ [])) (written-octets ++ drop 28 (replicate 29 1)) =
         d .written-image n x .1 ∙ ap₂ {C = List ℕ} (λ (y : List ℕ) (k : ℕ). y ++ drop k (replicate 29 1)) i (sym l) in
         let z : _≡_ {A = ℕ} 0 1 = ap (λ (y : List ℕ). getD y 28 0) b in
         omega arith
@@ -264,6 +309,27 @@ module _ (c : Calculator) where
     pub turns-its-own-away : {p old : Plan} {before after : List ℕ} {e : Edited} (n : ℕ) (r : Refusal) → within (view old) ≡ true
         → c .writes p before after (Length n) → c .edits old (read (take n after)) e → e .answer ≡ Refused r → ⊥
     turns-its-own-away n r w x y a = never tt r (ap said (sym a ∙ d .reads-back n w x y .0))
+
+    -- one that writes version 1 (document 02, E4)
+    pub writes-version-1 : {p : Plan} {before after : List ℕ} (n : ℕ) → c .writes p before after (Length n) → take n after ≡ imageBy 1 (view p) → ⊥
+    writes-version-1 {p} {before} {after} n x e =
+        let g : Graph = view p in
+        let (l, b) = d .written-image n x in
+        let i : image g ≡ imageBy 1 g = sym (take-at (image g) (drop n before) n l) ∙ ap (λ (y : List ℕ). take n y) (sym b) ∙ e in
+        let z : _≡_ {A = ℕ} 2 1 = sym (version-by 2 g (omega arith)) ∙ ap versionOf i ∙ version-by 1 g (omega arith) in
+        omega arith
+
+    -- what is now false of version 1: no image of it that is read comes back as those octets
+    pub version-1-returns : {old : Plan} {os before after : List ℕ} {e : Edited} {w : Written} → Octets os → versionOf os ≡ 1 → c .edits old (read os) e
+        → e .answer ≡ Accepted → length os ≤ length before → c .writes (e .plan) before after w → take (length os) after ≡ os → ⊥
+    version-1-returns {old} {os} {before} {after} {e} ho one x a room y back =
+        let g : Graph = view (e .plan) in
+        let read-back : imageBy (versionOf os) g ≡ os = d .read-image ho x a in
+        let l : length (image g) ≡ length os = length-image g ∙ sym (length-image-by (versionOf os) g) ∙ ap length read-back in
+        let i : image g ≡ os =
+        sym (take-at (image g) (drop (length os) before) (length os) l) ∙ ap (λ (z : List ℕ). take (length os) z) (sym (d .writes-version-2 ho x a room y .1)) ∙ back in
+        let z : _≡_ {A = ℕ} 2 1 = sym (version-by 2 g (omega arith)) ∙ ap versionOf i ∙ one in
+        omega arith
 
   -- and, by the table, the known octets
   pub turns-images-away : Demand1 c → {p : Plan} {e : Edited} (r : Refusal) → view p ≡ freshGraph 1 → c .edits p (read octets) e → e .answer ≡ Refused r → ⊥
@@ -292,3 +358,11 @@ module _ (c : Calculator) where
     -- a read that still answers 7, whatever it is given
     pub reads-7 : {p : Plan} {os : List ℕ} {e : Edited} → c .edits p (read os) e → e .answer ≡ Refused StateNumber → ⊥
     reads-7 {p} {os} x a = true≢false (sym (holds-among (0 ∷ imageNumbers) (rowsOf (view p) (read os)) StateNumber (read-among (view p) os) (d .only-grounds StateNumber (edit x) (ap said a))))
+
+    -- 18 after 11 (E4): a count for a team above 31, with too few places, and 11
+    pub quotes-11-first : {p : Plan} {before after : List ℕ} (named : ℕ) → within (view p) ≡ true → teamOk named ≡ false
+        → c .quotes (LeastCountFor named) p before after (NotQuoted BufferLength) → ⊥
+    quotes-11-first {p} {before} named w h x =
+        let e : first (quoteRows (LeastCountFor named) (view p) before) ≡ refused TeamNumber = rw (w, h) in
+        let z : _≡_ {A = ℕ} 11 18 = ap code (d .by-number (quote x) ∙ e) in
+        omega arith

@@ -1,11 +1,11 @@
 -- A calculator as its callers see it, and what is published of it.
 --
 -- What ties `Promises` to the code: each of its fields is, word for word, the `ensures` of public functions, all without a `requires`: of plan/src/lib.rt
--- `fresh`, `held`, `mark`, `join`, `unjoin`, `replace` (read and import), `write` and `export`, of quotation/src/lib.rt `record`, `quote` with the four that hand on to it, `all` and `held`.
+-- `fresh`, `held`, `mark`, `team`, `join`, `unjoin`, `replace` (read and import), `write` and `export`, of quotation/src/lib.rt `record`, `quote` with the six that hand on to it, `all` and `held`.
 -- That each function meets its `ensures` is what the check of its crate proves; here it is the hypothesis. Assumes nothing.
 use mathlib.Core.List.{List, [], _∷_}
 use Prim.Native.Nat.{ℕ}
-use Rattle.graph.specs.declared.Which.{Which}
+use Rattle.graph.specs.declared.Asked.{Asked}
 use Rattle.rules.specs.declared.Answer.{Answer}
 use Rattle.rules.specs.declared.Quotation.{Quotation}
 use Rattle.rules.specs.declared.Quotations.{Quotations}
@@ -30,7 +30,7 @@ pub record Calculator : Type 1 where
   pub writes : Plan → List ℕ → List ℕ → Written → Type 0
   pub exports : Plan → List ℕ → List ℕ → Written → Type 0
   pub records : Plan → List ℕ → List ℕ → Written → Type 0
-  pub quotes : Which → Plan → List ℕ → List ℕ → Quotation → Type 0
+  pub quotes : Asked → Plan → List ℕ → List ℕ → Quotation → Type 0
   pub quotes-all : Plan → List ℕ → List ℕ → Quotations → Type 0
   pub quotes-image : List ℕ → List ℕ → List ℕ → Quotations → Type 0
 
@@ -45,8 +45,8 @@ pub record Promises (c : Calculator) : Type 0 where
       → Write (exportText (view p)) (exportRule (view p) before) before after w
   pub records : {p : Plan} {before after : List ℕ} {w : Written} → c .records p before after w
       → Write (recordOctets (view p)) (recordRule (view p) before) before after w
-  pub quotes : {which : Which} {p : Plan} {before after : List ℕ} {q : Quotation} → c .quotes which p before after q
-      → Quotes which (view p) before after q
+  pub quotes : {asked : Asked} {p : Plan} {before after : List ℕ} {q : Quotation} → c .quotes asked p before after q
+      → Quotes asked (view p) before after q
   pub quotes-all : {p : Plan} {before after : List ℕ} {q : Quotations} → c .quotes-all p before after q → QuotesAll (view p) before after q
   pub quotes-image : {octets before after : List ℕ} {q : Quotations} → c .quotes-image octets before after q → QuotesHeld octets before after q
 
@@ -58,7 +58,7 @@ pub record Answers (c : Calculator) : Type 0 where
   pub writes : (p : Plan) (before : List ℕ) → (after : List ℕ) × (w : Written) × c .writes p before after w
   pub exports : (p : Plan) (before : List ℕ) → (after : List ℕ) × (w : Written) × c .exports p before after w
   pub records : (p : Plan) (before : List ℕ) → (after : List ℕ) × (w : Written) × c .records p before after w
-  pub quotes : (which : Which) (p : Plan) (before : List ℕ) → (after : List ℕ) × (q : Quotation) × c .quotes which p before after q
+  pub quotes : (asked : Asked) (p : Plan) (before : List ℕ) → (after : List ℕ) × (q : Quotation) × c .quotes asked p before after q
   pub quotes-all : (p : Plan) (before : List ℕ) → (after : List ℕ) × (q : Quotations) × c .quotes-all p before after q
   pub quotes-image : (octets before : List ℕ) → (after : List ℕ) × (q : Quotations) × c .quotes-image octets before after q
 

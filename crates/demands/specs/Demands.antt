@@ -6,13 +6,16 @@
 -- and figures, graph/specs; the report's procedures, report/specs. Assumes nothing.
 use mathlib.Core.Bool.{true, false}
 use mathlib.Core.List.{List, _++_, map}
+use mathlib.Core.Logic.{_⊎_}
 use mathlib.Core.Path.{_≡_}
-use Prim.Native.Nat.{ℕ, _≤_}
+use Prim.Native.Nat.{ℕ, _≤_, _<_}
 use lib.ListN.{length, take, drop}
 use Rattle.field.specs.Field.{Octets}
-use Rattle.graph.specs.declared.Which.{Which}
+use Rattle.graph.specs.declared.Asked.{Asked}
+use Rattle.graph.specs.declared.Asked.the-variants.{One}
 use Rattle.graph.specs.declared.Which.the-variants.{LeastDelay, GreatestDelay, LeastCount, GreatestCount}
-use Rattle.graph.specs.Graph.{states, counted}
+use Rattle.graph.specs.Class.{nameOk}
+use Rattle.graph.specs.Graph.{states, counted, teamOf}
 use Rattle.report.specs.Bounds.{finite, lower, upper}
 use Rattle.report.specs.Counts.{mincount, maxcount}
 use Rattle.report.specs.Procedure.{Returns}
@@ -20,18 +23,18 @@ use Rattle.report.specs.Agreement.{leastFigure, greatestFigure}
 use Rattle.rules.specs.declared.Answer.{Answer}
 use Rattle.rules.specs.declared.Answer.the-variants.{Accepted}
 use Rattle.rules.specs.declared.Quotation.{Quotation}
-use Rattle.rules.specs.declared.Quotation.the-variants.{Quoted}
+use Rattle.rules.specs.declared.Quotation.the-variants.{Quoted, Refused}
 use Rattle.rules.specs.declared.Quotations.{Quotations}
 use Rattle.rules.specs.declared.Quote.{Quote}
 use Rattle.rules.specs.declared.Written.{Written}
 use Rattle.rules.specs.declared.Written.the-variants.{Length}
 use Rattle.rules.specs.Aldebaran.{exportRows}
 use Rattle.rules.specs.Calls.{Call, read, rowsOf, runFresh}
-use Rattle.rules.specs.Image.{image, imageRows}
+use Rattle.rules.specs.Image.{imageBy, image, imageRows, versionOf}
 use Rattle.rules.specs.Limits.{within, stateCountOk}
-use Rattle.rules.specs.Quotations.{meant, saidQuotation, saidQuotations, says, Stated, quoteRows, allRows, heldRows, recordRows}
+use Rattle.rules.specs.Quotations.{meant, saidQuotation, saidQuotations, saysAsked, Stated, quoteRows, allRows, heldRows, recordRows}
 use Rattle.rules.specs.declared.Refusal.{Refusal}
-use Rattle.rules.specs.declared.Refusal.the-variants.{PlanLimits}
+use Rattle.rules.specs.declared.Refusal.the-variants.{PlanLimits, TeamNumber}
 use Rattle.rules.specs.Refusal.{Result, accepted, refused, answerOf, said, wrote}
 use Rattle.rules.specs.Rules.{freshRows, writeRows}
 use Rattle.rules.specs.Table.{Row, first, Holds, NoneHolds}
@@ -51,8 +54,8 @@ module _ (c : Calculator) where
     export : {p : Plan} {before after : List ℕ} {w : Written} → c .exports p before after w → Called (exportRows (view p) before) (answerOf (wrote w))
     recording : {p : Plan} {before after : List ℕ} {w : Written} → c .records p before after w
         → Called (recordRows (view p) before) (answerOf (wrote w))
-    quote : {which : Which} {p : Plan} {before after : List ℕ} {q : Quotation} → c .quotes which p before after q
-        → Called (quoteRows (view p) before) (saidQuotation q)
+    quote : {asked : Asked} {p : Plan} {before after : List ℕ} {q : Quotation} → c .quotes asked p before after q
+        → Called (quoteRows asked (view p) before) (saidQuotation q)
     all-four : {p : Plan} {before after : List ℕ} {q : Quotations} → c .quotes-all p before after q
         → Called (allRows (view p) before) (saidQuotations q)
     all-of-image : {octets before after : List ℕ} {q : Quotations} → c .quotes-image octets before after q
@@ -64,7 +67,7 @@ module _ (c : Calculator) where
     write : {p : Plan} {before after : List ℕ} {w : Written} → c .writes p before after w → Given p (answerOf (wrote w))
     export : {p : Plan} {before after : List ℕ} {w : Written} → c .exports p before after w → Given p (answerOf (wrote w))
     recording : {p : Plan} {before after : List ℕ} {w : Written} → c .records p before after w → Given p (answerOf (wrote w))
-    quote : {which : Which} {p : Plan} {before after : List ℕ} {q : Quotation} → c .quotes which p before after q → Given p (saidQuotation q)
+    quote : {asked : Asked} {p : Plan} {before after : List ℕ} {q : Quotation} → c .quotes asked p before after q → Given p (saidQuotation q)
     all-four : {p : Plan} {before after : List ℕ} {q : Quotations} → c .quotes-all p before after q → Given p (saidQuotations q)
 
   -- one that was lent places: they before and after it, and what it answered
@@ -72,7 +75,7 @@ module _ (c : Calculator) where
     write : {p : Plan} {before after : List ℕ} {w : Written} → c .writes p before after w → Lent before after (answerOf (wrote w))
     export : {p : Plan} {before after : List ℕ} {w : Written} → c .exports p before after w → Lent before after (answerOf (wrote w))
     recording : {p : Plan} {before after : List ℕ} {w : Written} → c .records p before after w → Lent before after (answerOf (wrote w))
-    quote : {which : Which} {p : Plan} {before after : List ℕ} {q : Quotation} → c .quotes which p before after q
+    quote : {asked : Asked} {p : Plan} {before after : List ℕ} {q : Quotation} → c .quotes asked p before after q
         → Lent before after (saidQuotation q)
     all-four : {p : Plan} {before after : List ℕ} {q : Quotations} → c .quotes-all p before after q → Lent before after (saidQuotations q)
     all-of-image : {octets before after : List ℕ} {q : Quotations} → c .quotes-image octets before after q → Lent before after (saidQuotations q)
@@ -108,27 +111,35 @@ module _ (c : Calculator) where
     pub written-image : {p : Plan} {before after : List ℕ} (n : ℕ) → c .writes p before after (Length n)
         → (length (image (view p)) ≡ n) × (after ≡ image (view p) ++ drop n before)
     pub read-image : {p : Plan} {octets : List ℕ} {e : Edited} → Octets octets → c .edits p (read octets) e → e .answer ≡ Accepted
-        → image (view (e .plan)) ≡ octets
+        → imageBy (versionOf octets) (view (e .plan)) ≡ octets
+    -- (02, E4) "Version 1 .. read with all teams zero .. other versions return 3"
+    pub read-version : {p : Plan} {octets : List ℕ} {e : Edited} → c .edits p (read octets) e → e .answer ≡ Accepted
+        → ((versionOf octets ≡ 1) × ((s : ℕ) → s < states (view (e .plan)) → teamOf (view (e .plan)) s ≡ 0)) ⊎ (versionOf octets ≡ 2)
     -- every plan written reads back as that plan,
     pub reads-back : {p old : Plan} {before after : List ℕ} {e : Edited} (n : ℕ) → within (view old) ≡ true → c .writes p before after (Length n)
         → c .edits old (read (take n after)) e → (e .answer ≡ Accepted) × (view (e .plan) ≡ view p)
-    -- and every image read writes back as those octets."
-    pub writes-back : {old : Plan} {octets before after : List ℕ} {e : Edited} {w : Written} → Octets octets → c .edits old (read octets) e
+    -- and every image read writes back as those octets." (02, E4) "Write always produces version 2, so only version 2 images come back octet for octet":
+    pub writes-back : {old : Plan} {octets before after : List ℕ} {e : Edited} {w : Written} → Octets octets → versionOf octets ≡ 2 → c .edits old (read octets) e
         → e .answer ≡ Accepted → length octets ≤ length before → c .writes (e .plan) before after w
         → (w ≡ Length (length octets)) × (after ≡ octets ++ drop (length octets) before)
+    -- one of version 1 writes back as the version 2 image of the same plan
+    pub writes-version-2 : {old : Plan} {octets before after : List ℕ} {e : Edited} {w : Written} → Octets octets → c .edits old (read octets) e
+        → e .answer ≡ Accepted → length octets ≤ length before → c .writes (e .plan) before after w
+        → (w ≡ Length (length octets)) × (after ≡ image (view (e .plan)) ++ drop (length octets) before)
     -- "Where all durations are 1, some state is marked start and every unfinished state has a transition out, the figures are those of the procedures
     -- lower, upper,
-    pub lower-is : {p : Plan} {before after : List ℕ} (q : Quote) → Premises (view p) → c .quotes LeastDelay p before after (Quoted q)
+    pub lower-is : {p : Plan} {before after : List ℕ} (q : Quote) → Premises (view p) → c .quotes (One LeastDelay) p before after (Quoted q)
         → Gives (lower (view p)) leastFigure (meant (q .figure))
-    pub upper-is : {p : Plan} {before after : List ℕ} (q : Quote) → Premises (view p) → c .quotes GreatestDelay p before after (Quoted q)
+    pub upper-is : {p : Plan} {before after : List ℕ} (q : Quote) → Premises (view p) → c .quotes (One GreatestDelay) p before after (Quoted q)
         → Gives (upper (view p)) greatestFigure (meant (q .figure))
     -- mincount and maxcount of report CMU-CS-94-147, the last two wherever upper is finite."
-    pub mincount-is : {p : Plan} {before after : List ℕ} (q : Quote) → Premises (view p) → c .quotes LeastCount p before after (Quoted q)
+    pub mincount-is : {p : Plan} {before after : List ℕ} (q : Quote) → Premises (view p) → c .quotes (One LeastCount) p before after (Quoted q)
         → (i : ℕ) → Returns (upper (view p)) (finite i) → GivesNumber (mincount (view p) (counted (view p))) (meant (q .figure))
-    pub maxcount-is : {p : Plan} {before after : List ℕ} (q : Quote) → Premises (view p) → c .quotes GreatestCount p before after (Quoted q)
+    pub maxcount-is : {p : Plan} {before after : List ℕ} (q : Quote) → Premises (view p) → c .quotes (One GreatestCount) p before after (Quoted q)
         → (i : ℕ) → Returns (upper (view p)) (finite i) → GivesNumber (maxcount (view p) (counted (view p))) (meant (q .figure))
 
-  -- a list of calls from a fresh plan, what came back, and the four quotations of the plan after it: what was called, and what was heard
+  -- a list of calls from a fresh plan, what came back, and the quotations of the plan after it, the four and the counts for the class of each team number: what was
+  -- called, and what was heard
   pub record Session : Type 0 where
     pub n : ℕ
     pub n-ok : stateCountOk n ≡ true
@@ -136,16 +147,17 @@ module _ (c : Calculator) where
     pub made : Edited
     pub answers : List Answer
     pub last : Plan
-    pub places-before : Which → List ℕ
-    pub places-after : Which → List ℕ
-    pub quotation : Which → Quotation
+    pub places-before : Asked → List ℕ
+    pub places-after : Asked → List ℕ
+    pub quotation : Asked → Quotation
     pub freshly : c .freshes n made
     pub in-turn : Listed c (made .plan) calls answers last
-    pub quoted : (which : Which) → c .quotes which last (places-before which) (places-after which) (quotation which)
+    pub quoted : (asked : Asked) → c .quotes asked last (places-before asked) (places-after asked) (quotation asked)
 
 -- DEMAND 3, (01) "one claim about the whole list, and not one for each call":
 -- (02, E1, of import) "demand 3's lists may hold it":
 -- (02, E2, of a call that goes on forever) "For the greatest delay an open ring then counts as going on forever unanswered.":
+-- (02, E4, of team) "The list of edits behind a quotation may include the new call.":
 -- "For every list of mark, join, unjoin and read calls from a fresh plan, refused ones included,
 pub record OneClaim (c : Calculator) (s : Session c) : Type 0 where
   pub fresh-accepted : s .made .answer ≡ Accepted
@@ -153,13 +165,16 @@ pub record OneClaim (c : Calculator) (s : Session c) : Type 0 where
   pub answers : map said (s .answers) ≡ runFresh (s .n) (s .calls) .answers
   -- and the plan after the list are those that document 01's rules give."
   pub plan : view (s .last) ≡ runFresh (s .n) (s .calls) .last
-  -- "That plan is then quoted into n or more places, n its state count."
-  pub accepted-where : (which : Which) → states (runFresh (s .n) (s .calls) .last) ≤ length (s .places-before which)
-      → (q : Quote) × (s .quotation which ≡ Quoted q)
+  -- "That plan is then quoted into n or more places, n its state count." (02, E4) "The counts may be quoted for any one of these five classes, named by a team
+  -- number in it"
+  pub accepted-where : (asked : Asked) → nameOk asked ≡ true → states (runFresh (s .n) (s .calls) .last) ≤ length (s .places-before asked)
+      → (q : Quote) × (s .quotation asked ≡ Quoted q)
+  -- (02, E4) "A team above 31 returns 18 .. so that a count asked for it has no figure under demand 3"
+  pub no-figure : (asked : Asked) → nameOk asked ≡ false → s .quotation asked ≡ Refused TeamNumber
   -- and its remaining sentences, from "A figure that is a number equals the delay or count of the route shown." to "A least figure is neither.": each stands
-  -- above the field that carries it in rules/specs/Quotations.antt, `LeastQuoted` for a least figure and `GreatestQuoted` for a greatest one (`says`)
-  pub right : (which : Which) (q : Quote) → s .quotation which ≡ Quoted q
-      → Stated (says which (runFresh (s .n) (s .calls) .last)) q (s .places-before which) (s .places-after which)
+  -- above the field that carries it in rules/specs/Quotations.antt, `LeastQuoted` for a least figure and `GreatestQuoted` for a greatest one (`saysAsked`)
+  pub right : (asked : Asked) (q : Quote) → s .quotation asked ≡ Quoted q
+      → Stated (saysAsked asked (runFresh (s .n) (s .calls) .last)) q (s .places-before asked) (s .places-after asked)
 
 abbrev pub Demand3 : Calculator → Type 0
 Demand3 c = (s : Session c) → OneClaim c s

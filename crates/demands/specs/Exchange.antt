@@ -22,10 +22,10 @@ pub record Exchanges (c : Calculator) : Type 0 where
   -- "Export fills the lent buffer as write does, and refuses a plan without exactly one start": the text of a plan with one start at the front, its length returned, later octets as they were
   pub exported-text : {p : Plan} {before after : List ℕ} (n : ℕ) → c .exports p before after (Length n)
       → (length (starts (view p)) ≡ 1) × (length (exportText (view p)) ≡ n) × (after ≡ exportText (view p) ++ drop n before)
-  -- "Import marks only the initial state, as start": the plan of what the text holds, and the text is the only one that holds it
+  -- "Import marks only the initial state, as start", "with all teams zero" (E4): the plan of what the text holds, and the text is the only one that holds it
   pub imported-plan : {old : Plan} {text : List ℕ} {e : Edited} → c .edits old (import text) e → e .answer ≡ Accepted
       → (h : Holding) × (readText text ≡ on h []) × (textOf h ≡ text) × (view (e .plan) ≡ planOf h)
-  -- "Exported text imports as the plan stripped of its final and counted marks."
+  -- "Exported text imports as the plan stripped of its final and counted marks."; (E4) "so exported text comes back without its teams too"
   pub imports-back : {p old : Plan} {before after : List ℕ} {e : Edited} (n : ℕ) → within (view old) ≡ true → c .exports p before after (Length n)
       → c .edits old (import (take n after)) e → (e .answer ≡ Accepted) × (view (e .plan) ≡ stripped (view p))
   -- and the other way, which the form gives: an imported text exports as those octets

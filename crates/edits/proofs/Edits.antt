@@ -93,12 +93,15 @@ later-laid : (s : Slices) (g : Graph) → within g ≡ true → SameLater (laid 
 unfolding laid
 later-laid s g w =
     let l = limited g w in
+    let state : (f : State → ℕ) (ys : List ℕ) → drop (states g) (over (map f (g .stateList)) ys) ≡ drop (states g) ys =
+    λ f ys. over-rest (map f (g .stateList)) ys (states g) (length-map (g .stateList) f) in
     let field : (f : Transition → ℕ) (ys : List ℕ) → drop (count g) (over (map f (g .transitions)) ys) ≡ drop (count g) ys =
     λ f ys. over-rest (map f (g .transitions)) ys (count g) (length-map (g .transitions) f) in
     record {
       states = l .most;
       transitions = l .transitions;
-      marks = over-rest (map (λ (x : State). x .marks) (g .stateList)) (planIn s .marks) (states g) (length-map (g .stateList) (λ (x : State). x .marks));
+      marks = state (λ (x : State). x .marks) (planIn s .marks);
+      teams = state (λ (x : State). x .team) (planIn s .teams);
       from = field (λ (t : Transition). t .from) (planIn s .from);
       to = field (λ (t : Transition). t .to) (planIn s .to);
       low = field (λ (t : Transition). t .low) (planIn s .low);

@@ -20,12 +20,12 @@ over-long k xs ys h = omega (arith, length-append xs (drop (length xs) ys), leng
 next-room : (p : Plan) (s : Slices) (o : Result Graph) → hasRoom s ≡ true → hasRoom (nextSlices p s o) ≡ true
 unfolding storing
 next-room p s (accepted g) h =
-    let r = has-room (s .counts) (s .marks) (s .fields) h in
+    let r = has-room (s .counts) (s .states) (s .fields) h in
     let q = laid p g in
     room-of (nextSlices p s (accepted g))
     (record {
       two = over-long 2 (q .states ∷ q .transitions ∷ []) (s .counts) (r .two);
-      states = over-long 512 (q .marks) (s .marks) (r .states);
+      states = over-long 1024 (q .marks ++ q .teams) (s .states) (r .states);
       transitions = over-long 8192 (q .from ++ q .to ++ q .low ++ q .high) (s .fields) (r .transitions);
     })
 next-room p s (refused k) h = h

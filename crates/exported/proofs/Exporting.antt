@@ -15,12 +15,12 @@ use Rattle.starts.specs.Found.{startsIn, Found}
 use Rattle.starts.proofs.Turns.{starts-of}
 use Rattle.text_length.specs.Parts.{holding}
 
-module _ (n m : ℕ) (marks from to low high : List ℕ) where
+module _ (n m : ℕ) (marks teams from to low high : List ℕ) where
   abbrev g : Graph
-  g = graphOf n m marks from to low high
+  g = graphOf n m marks teams from to low high
 
   starts-here : starts g ≡ startsIn marks n
-  starts-here = starts-of n m marks from to low high
+  starts-here = starts-of n m marks teams from to low high
 
   module _ (count last : ℕ) (f : Found (startsIn marks n) n count last) where
     pub counted : length (starts g) ≡ count
@@ -28,7 +28,7 @@ module _ (n m : ℕ) (marks from to low high : List ℕ) where
 
     pub text-here : count ≡ 1 → exportText g ≡ textOf (holding last n (transitionsOf m from to low high))
     unfolding exportText
-    text-here e = rw (starts-here, f .only e, states-of n m marks from to low high) refl
+    text-here e = rw (starts-here, f .only e, states-of n m marks teams from to low high) refl
 
 pub put-front : {b xs c : List ℕ} {r : ℕ} → Put b 0 xs c r → c ≡ xs ++ drop (length xs) b
 put-front {xs = xs} p =

@@ -10,17 +10,18 @@ pub fn export<'a>(
     n: usize,
     m: usize,
     marks: &'a [u8; 512],
+    teams: &'a [u8; 512],
     from: &'a [u16; 2048],
     to: &'a [u16; 2048],
     low: &'a [u16; 2048],
     high: &'a [u16; 2048],
     buffer: &mut [u8],
 ) -> Written
-    ensures { λ r. ⌜ Write (exportText (graphOf n m (now (marks .entry)) (now (from .entry)) (now (to .entry)) (now (low .entry)) (now (high .entry))))
-        (exportRule (graphOf n m (now (marks .entry)) (now (from .entry)) (now (to .entry)) (now (low .entry)) (now (high .entry))) (now (buffer .entry)))
+    ensures { λ r. ⌜ Write (exportText (graphOf n m (now (marks .entry)) (now (teams .entry)) (now (from .entry)) (now (to .entry)) (now (low .entry)) (now (high .entry))))
+        (exportRule (graphOf n m (now (marks .entry)) (now (teams .entry)) (now (from .entry)) (now (to .entry)) (now (low .entry)) (now (high .entry))) (now (buffer .entry)))
         (now (buffer .entry)) (now (buffer .exit)) r ⌝ }
 {
-    let limited = plan_limits::in_limits(n, m, marks, from, to, low, high);
+    let limited = plan_limits::in_limits(n, m, marks, teams, from, to, low, high);
     if !limited {
         return Written::Refused(Refusal::PlanLimits);
     }

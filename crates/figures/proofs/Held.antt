@@ -6,7 +6,7 @@ use Prim.Native.Nat.{ℕ, _≤_, _<_}
 use native.Mathlib.Omega.{arith}
 use lib.ListN.{getD}
 use Rattle.arrays.specs.Tables.{stateOf, transitionOf}
-use Rattle.graph.specs.Graph.{State, Transition, marked, states, count, marksOf, transition, from, to, low, high}
+use Rattle.graph.specs.Graph.{State, Transition, marked, states, count, marksOf, teamOf, transition, from, to, low, high}
 use Rattle.plan.specs.declared.Plan.{Plan}
 use Rattle.plan.specs.View.{view}
 use Rattle.plan.proofs.Values.{states-view, count-view}
@@ -21,7 +21,11 @@ use Rattle.figures.specs.Figures.{arraysOf, OutOf}
 module _ (p : Plan) where
   pub marks-view : (s : ℕ) → s < p .states → marksOf (view p) s ≡ getD (p .marks) s 0
   unfolding marksOf view
-  marks-view s h = ap (λ (x : State). x .marks) (getD-tabulate (p .states) (stateOf (p .marks)) s (marked 0) h)
+  marks-view s h = ap (λ (x : State). x .marks) (getD-tabulate (p .states) (stateOf (p .marks) (p .teams)) s (marked 0) h)
+
+  pub teams-view : (s : ℕ) → s < p .states → teamOf (view p) s ≡ getD (p .teams) s 0
+  unfolding teamOf view
+  teams-view s h = ap (λ (x : State). x .team) (getD-tabulate (p .states) (stateOf (p .marks) (p .teams)) s (marked 0) h)
 
   transition-view : (t : ℕ) → t < p .transitions → transition (view p) t ≡ transitionOf (p .from) (p .to) (p .low) (p .high) t
   unfolding transition view

@@ -1,10 +1,13 @@
--- What a figure of a plan is searched over, by which figure it is. Assumes nothing.
-use mathlib.Core.List.{List}
+-- What a figure of a plan is searched over, by which figure it is and which states count. Assumes nothing.
+use mathlib.Core.Bool.{Bool}
 use Prim.Native.Nat.{ℕ, _≤_, _<_}
 use Rattle.graph.specs.declared.Which.{Which}
 use Rattle.graph.specs.declared.Which.the-variants.{LeastDelay, GreatestDelay, LeastCount, GreatestCount}
-use Rattle.graph.specs.Figure.{costFor}
-use Rattle.graph.specs.Route.{Cost}
+use Rattle.graph.specs.declared.Asked.{Asked}
+use Rattle.graph.specs.Class.{figureOf, counting}
+use Rattle.graph.specs.Figure.{costOver}
+use Rattle.graph.specs.Graph.{Graph}
+use Rattle.graph.specs.Route.{Cost, HasEndlessWalk, HasOpenWalk}
 use Rattle.costs.specs.Scaled.{Scaled, scale}
 use Rattle.plan.specs.declared.Plan.{Plan}
 use Rattle.plan.specs.View.{view}
@@ -32,14 +35,17 @@ pub record WeighsAs (times extra : ℕ) (p : Plan) (c : Cost) (w : Weights) : Ty
   pub light : Light w
   pub some : (t : ℕ) → t < p .transitions → extra ≤ at (w .weight) t
 
--- they are the figure's
-abbrev pub Weighs : Which → Plan → Weights → Type 0
-Weighs which p w = WeighsAs (timesFor which) (extraFor which) p (costFor which (view p)) w
+-- they are the figure's, over any yes-or-no on states
+abbrev pub WeighsOver : Which → (ℕ → Bool) → Plan → Weights → Type 0
+WeighsOver which test p w = WeighsAs (timesFor which) (extraFor which) p (costOver which test (view p)) w
 
--- the plan value of two counts and five arrays
-abbrev pub planOf : ℕ → ℕ → List ℕ → List ℕ → List ℕ → List ℕ → List ℕ → Plan
-planOf n m marks from to low high =
-    record { states = n; transitions = m; marks = marks; from = from; to = to; low = low; high = high }
+-- they are those of what is asked for
+abbrev pub Weighs : Asked → Plan → Weights → Type 0
+Weighs asked p w = WeighsOver (figureOf asked) (counting asked (view p)) p w
+
+-- no open transition decides it: a walk takes one that is open for it only beside an endless walk
+abbrev pub NoneOpen : Asked → Graph → Type 0
+NoneOpen asked g = HasOpenWalk g (costOver (figureOf asked) (counting asked g) g) → HasEndlessWalk g
 
 -- the arrays of a plan that the searches see
 abbrev pub arraysOf : Plan → Arrays

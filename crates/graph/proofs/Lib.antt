@@ -1,6 +1,7 @@
 -- The theorems, in the order to read them.
 -- Facts on small plans, straight from the definitions.
 pub mod Basic
+pub mod Classes
 -- Walks: what tests say; a list of numbers below n has a repeat; what every walk has; walks built step by step;
 -- simple walks; endless walks; what walks cost.
 pub mod Tests

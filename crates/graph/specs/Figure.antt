@@ -2,7 +2,7 @@
 -- Document 01, "Routes and figures", from "Least delay" on. Assumes nothing.
 use Prim.Native.Nat.{ℕ, _≤_, _<_}
 use mathlib.Core.Path.{_≡_}
-use mathlib.Core.Bool.{true}
+use mathlib.Core.Bool.{Bool, true}
 use mathlib.Core.List.{List}
 use mathlib.Core.Logic.{_⊎_}
 use lib.ListN.{length, take}
@@ -71,12 +71,17 @@ IsGreatest g c (number k) = (NoStart g → ⊥) × (GoesOnForever g c → ⊥) �
 
 -- ---- the four figures: least delay, greatest delay, least count, greatest count
 
--- what each sums: "the sum of its lows for a least figure, and of its highs for a greatest one", and "the number of counted states"
+-- what each sums: "the sum of its lows for a least figure, and of its highs for a greatest one", and "the number of counted states", "over any yes-or-no on states"
+-- (document 02, E4): p says which count
+abbrev pub costOver : Which → (ℕ → Bool) → Graph → Cost
+costOver LeastDelay p g = lows g
+costOver GreatestDelay p g = highs g
+costOver LeastCount p g = counts g p
+costOver GreatestCount p g = counts g p
+
+-- by the counted mark
 abbrev pub costFor : Which → Graph → Cost
-costFor LeastDelay g = lows g
-costFor GreatestDelay g = highs g
-costFor LeastCount g = counts g (counted g)
-costFor GreatestCount g = counts g (counted g)
+costFor which g = costOver which (counted g) g
 
 -- f is that figure of the plan
 abbrev pub IsFigure : Which → Graph → Figure → Type 0

@@ -37,13 +37,18 @@ finalMark v = eqb (finalBit v) 1
 abbrev pub countedMark : ℕ → Bool
 countedMark v = eqb (countedBit v) 1
 
--- "a marks value for each state": what a plan keeps of a state (E4 adds a team)
+-- "a marks value for each state", and "a team number, 0 to 31" (document 02, E4): what a plan keeps of a state
 pub record State : Type 0 where
   pub marks : ℕ
+  pub team : ℕ
 
--- the state with this marks value, and nothing else
+-- the state with this marks value and this team
+abbrev pub stateWith : ℕ → ℕ → State
+stateWith value team = record { marks = value; team = team }
+
+-- the state with this marks value, of team 0
 abbrev pub marked : ℕ → State
-marked value = record { marks = value }
+marked value = stateWith value 0
 
 -- a plan: a state for each number below n, "and a list of 0 to 2,048 transitions". Both are numbered from 0 by place
 pub record Graph : Type 0 where
@@ -58,13 +63,16 @@ states g = length (g .stateList)
 abbrev pub count : Graph → ℕ
 count g = length (g .transitions)
 
--- the state numbered s; one without marks for a number that is no state's
+-- the state numbered s; one without marks, of team 0, for a number that is no state's
 abbrev pub state : Graph → ℕ → State
 state g s = getD (g .stateList) s (marked 0)
 
--- its marks value
+-- its marks value, and its team
 unfoldable pub marksOf : Graph → ℕ → ℕ
 marksOf g s = (state g s) .marks
+
+unfoldable pub teamOf : Graph → ℕ → ℕ
+teamOf g s = (state g s) .team
 
 -- "4 for start"
 unfoldable pub start : Graph → ℕ → Bool
@@ -76,7 +84,7 @@ unfoldable pub final : Graph → ℕ → Bool
 unfolding marksOf
 final g s = finalMark (marksOf g s)
 
--- "1 for counted": which states count (E4 adds others, and the counts are over any yes-or-no on states)
+-- "1 for counted": which states count, where no class is named (Class.antt has the others)
 unfoldable pub counted : Graph → ℕ → Bool
 unfolding marksOf
 counted g s = countedMark (marksOf g s)

@@ -1,4 +1,5 @@
 pub mod Graph
+pub mod Class
 pub mod Walk
 pub mod Route
 pub mod Which

@@ -1,8 +1,8 @@
-// The grounds on which edits of a plan are refused, apart from the plan value: the rows of mark, join and unjoin in their order.
+// The grounds on which edits of a plan are refused, apart from the plan value: the rows of mark, team, join and unjoin in their order.
 ghost use mathlib.Core.List.{_∷_};
 ghost use mathlib.Core.Path.{_≡_};
 ghost use Rattle.rules.specs.Refusal.{said};
-ghost use Rattle.rules.specs.Rules.{limitsRow, markGrounds, joinGrounds, unjoinGrounds};
+ghost use Rattle.rules.specs.Rules.{limitsRow, markGrounds, teamGrounds, joinGrounds, unjoinGrounds};
 ghost use Rattle.rules.specs.Table.{first};
 ghost use Rattle.arrays.specs.Tables.{transition};
 use rules::Answer;
@@ -16,10 +16,26 @@ pub fn mark_grounds(limited: bool, n: usize, state: usize, value: usize) -> Answ
         return Answer::Refused(Refusal::PlanLimits);
     }
     if n <= state { // 7: the state
-        return Answer::Refused(Refusal::StateNumber);
+        return Answer::Refused(Refusal::StateNumber); // of mark
     }
     if 7 < value { // 12: the value
         return Answer::Refused(Refusal::MarksValue);
+    }
+    Answer::Accepted
+}
+
+// The grounds of a team, in their order.
+pub fn team_grounds(limited: bool, n: usize, state: usize, team: usize) -> Answer
+    ensures { λ r. ⌜ said r ≡ first (limitsRow limited ∷ teamGrounds n state team) ⌝ }
+{
+    if !limited {
+        return Answer::Refused(Refusal::PlanLimits);
+    }
+    if n <= state {
+        return Answer::Refused(Refusal::StateNumber);
+    }
+    if 31 < team { // 18: the team
+        return Answer::Refused(Refusal::TeamNumber);
     }
     Answer::Accepted
 }

@@ -5,14 +5,15 @@ use mathlib.Core.Path.{_≡_}
 use Prim.Native.Nat.{ℕ, _*_, _≤_}
 use lib.ListN.{length}
 use Rattle.rules.specs.declared.Answer.the-variants.{Accepted}
-use Rattle.rules.specs.Image.{stateCountOf, transitionCountOf, headerRows}
+use Rattle.rules.specs.Image.{versionOf, stateCountOf, transitionCountOf, headerRows}
 use Rattle.rules.specs.Refusal.{said}
 use Rattle.rules.specs.Table.{first}
 use Rattle.header.specs.declared.Heading.{Heading}
 
--- "version, 4 bits, the value 1; state count, 10 bits; transition count, 12 bits; pad, 6 bits": the position is past them, where there are so many
+-- "version, 4 bits ..; state count, 10 bits; transition count, 12 bits; pad, 6 bits": the position is past them, where there are so many
 pub record HeaderRead (os : List ℕ) (at : ℕ) (r : Heading) : Type 0 where
   pub answer : said (r .answer) ≡ first (headerRows os)
+  pub version : r .answer ≡ Accepted → r .version ≡ versionOf os
   pub states : r .answer ≡ Accepted → r .states ≡ stateCountOf os
   pub transitions : r .answer ≡ Accepted → r .transitions ≡ transitionCountOf os
   pub all : r .answer ≡ Accepted → at ≡ 32

@@ -4,9 +4,10 @@ ghost use Rattle.header.specs.Header.{HeaderRead};
 use rules::Answer;
 use rules::Refusal;
 
-// What a header says: whether the image is refused by it, and the two counts.
+// What a header says: whether the image is refused by it, its version, and the two counts.
 pub struct Heading {
     pub answer: Answer,
+    pub version: usize,
     pub states: usize,
     pub transitions: usize,
 }
@@ -19,6 +20,7 @@ pub fn header(octets: &[u8], at: &mut usize) -> Heading
     if octets.len() < 4 {
         return Heading {
             answer: Answer::Refused(Refusal::ImageShort),
+            version: 0,
             states: 0,
             transitions: 0,
         };
@@ -26,6 +28,7 @@ pub fn header(octets: &[u8], at: &mut usize) -> Heading
     let fields = reader::next(octets, at, 4, 10, 12, 6);
     Heading {
         answer: header_grounds::grounds(octets, fields),
+        version: fields.first,
         states: fields.second,
         transitions: fields.third,
     }

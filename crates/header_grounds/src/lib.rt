@@ -3,7 +3,7 @@ ghost use mathlib.Core.Path.{_≡_};
 ghost use Prim.Native.Nat.{_≤_};
 ghost use lib.ListN.{length};
 ghost use Rattle.field.specs.Field.{fourAt};
-ghost use Rattle.rules.specs.Image.{headerRows, imageLength};
+ghost use Rattle.rules.specs.Image.{headerRows, imageLength, versionOk};
 ghost use Rattle.rules.specs.Refusal.{said};
 ghost use Rattle.rules.specs.Table.{first};
 use arrays::limits;
@@ -19,6 +19,13 @@ pub fn size(n: usize, m: usize) -> usize
     4 + n + 5 * m
 }
 
+// Whether an image of this version is read.
+fn version_ok(version: usize) -> bool
+    ensures { λ r. ⌜ r ≡ versionOk version ⌝ }
+{
+    (version == 1) | (version == 2)
+}
+
 // The grounds of the header's fields and of the length, in their order.
 pub fn grounds(octets: &[u8], fields: Four) -> Answer
     requires { ⌜ (4 ≤ length (now octets)) × (fields ≡ fourAt (now octets) 0 4 10 12 6) ⌝ }
@@ -28,7 +35,7 @@ pub fn grounds(octets: &[u8], fields: Four) -> Answer
     let n = fields.second;
     let m = fields.third;
     let pad = fields.fourth;
-    if version != 1 {
+    if !version_ok(version) {
         return Answer::Refused(Refusal::Version);
     }
     if !limits::state_count_ok(n) {

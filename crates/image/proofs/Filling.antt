@@ -68,12 +68,12 @@ module _ (os : List ℕ) (n m : ℕ) (h : Head os n m) where
     by-transitions r e =
         past-states ∙ ap (λ (rows : List Row). byTable rows (graphIn os)) (sym (append-nil T)) ∙ after-refused T [] (graphIn os) r (same-transitions ∙ e)
 
-    by-none : (marks from to low high : List ℕ) → first (transitionsRows os n m) ≡ accepted tt
-        → statesOf n marks ≡ tabulate n (λ i. stateAt os (statePlace i))
+    by-none : (marks teams from to low high : List ℕ) → first (transitionsRows os n m) ≡ accepted tt
+        → statesOf n marks teams ≡ tabulate n (λ i. stateAt os (statePlace i))
         → transitionsOf m from to low high ≡ tabulate m (λ i. transitionAt os (transitionPlace n i))
-        → readImage os ≡ accepted (graphOf n m marks from to low high)
+        → readImage os ≡ accepted (graphOf n m marks teams from to low high)
     unfolding graphIn
-    by-none marks from to low high t es et =
+    by-none marks teams from to low high t es et =
         past-states ∙ accepted-where T (graphIn os) (clear T (same-transitions ∙ t))
         ∙ λ i. accepted (record {
           stateList = sym (es ∙ ap (λ (k : ℕ). tabulate k (λ i. stateAt os (statePlace i))) (h .states)) i;
@@ -81,9 +81,9 @@ module _ (os : List ℕ) (n m : ℕ) (h : Head os n m) where
         })
 
     -- so the answer of the transitions is the image's
-    pub by-answer : (a : Answer) (marks from to low high : List ℕ) → said a ≡ first (transitionsRows os n m)
-        → statesOf n marks ≡ tabulate n (λ i. stateAt os (statePlace i))
+    pub by-answer : (a : Answer) (marks teams from to low high : List ℕ) → said a ≡ first (transitionsRows os n m)
+        → statesOf n marks teams ≡ tabulate n (λ i. stateAt os (statePlace i))
         → (a ≡ Accepted → transitionsOf m from to low high ≡ tabulate m (λ i. transitionAt os (transitionPlace n i)))
-        → came a (graphOf n m marks from to low high) ≡ readImage os
-    by-answer Accepted marks from to low high t es et = sym (by-none marks from to low high (sym t) es (et refl))
-    by-answer (Refused r) marks from to low high t es et = sym (by-transitions r (sym t))
+        → came a (graphOf n m marks teams from to low high) ≡ readImage os
+    by-answer Accepted marks teams from to low high t es et = sym (by-none marks teams from to low high (sym t) es (et refl))
+    by-answer (Refused r) marks teams from to low high t es et = sym (by-transitions r (sym t))

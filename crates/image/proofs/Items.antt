@@ -14,7 +14,7 @@ pub record Bits (os : List ℕ) (at : ℕ) (f : Four) : Type 0 where
   pub start : f .first ≡ fieldAt os at 1
   pub final : f .second ≡ fieldAt os (at + 1) 1
   pub counted : f .third ≡ fieldAt os (at + 2) 1
-  pub spare : f .fourth ≡ fieldAt os (at + 3) 5
+  pub five : f .fourth ≡ fieldAt os (at + 3) 5
 
 pub state-fields : (os : List ℕ) (at place : ℕ) (f : Four) → at ≡ place → f ≡ fourAt os at 1 1 1 5 → Bits os place f
 state-fields os at place f h e =
@@ -24,7 +24,7 @@ state-fields os at place f h e =
       start = ap (λ (g : Four). g .first) e ∙ ap (λ (k : ℕ). fieldAt os k 1) h;
       final = ap (λ (g : Four). g .second) e ∙ ap (λ (k : ℕ). fieldAt os (k + 1) 1) h;
       counted = ap (λ (g : Four). g .third) e ∙ ap (λ (k : ℕ). fieldAt os k 1) two;
-      spare = ap (λ (g : Four). g .fourth) e ∙ ap (λ (k : ℕ). fieldAt os k 5) three;
+      five = ap (λ (g : Four). g .fourth) e ∙ ap (λ (k : ℕ). fieldAt os k 5) three;
     }
 
 pub transition-fields : (os : List ℕ) (at : ℕ) (f : Four) → f ≡ fourAt os at 9 9 11 11

@@ -13,11 +13,12 @@ use Rattle.rules.specs.Table.{first, byNumber}
 use Rattle.arrays.specs.Tables.{statesOf, transitionsOf, graphOf, Later, Fields, LaterFields}
 use Rattle.image.specs.declared.reading.Filled.{Filled}
 
--- "then states by number, 6"
-pub record StatesRead (os : List ℕ) (n : ℕ) (before after : List ℕ) (at : ℕ) (r : Answer) : Type 0 where
+-- "then states by number, 6", into the arrays of marks values and of teams
+pub record StatesRead (os : List ℕ) (n : ℕ) (before after teams teams′ : List ℕ) (at : ℕ) (r : Answer) : Type 0 where
   pub answer : said r ≡ first (byNumber (stateRows os) 0 n)
-  pub states : r ≡ Accepted → statesOf n after ≡ tabulate n (λ i. stateAt os (statePlace i))
+  pub states : r ≡ Accepted → statesOf n after teams′ ≡ tabulate n (λ i. stateAt os (statePlace i))
   pub later : Later n before after
+  pub later-teams : Later n teams teams′
   pub all : r ≡ Accepted → at ≡ statePlace n
   pub most : at ≤ statePlace n
 
@@ -31,9 +32,10 @@ pub record TransitionsRead (os : List ℕ) (n m : ℕ) (before after : Fields) (
 
 -- an image read into arrays: its answer and the plan in the arrays are the rule's; places past the counts stay; an accepted image costs its octets,
 -- eight bits each, and a refused one never more
-pub record Fills (os before after : List ℕ) (fields fields′ : Fields) (r : Filled) : Type 0 where
-  pub rule : came (r .answer) (graphOf (r .states) (r .transitions) after (fields′ .from) (fields′ .to) (fields′ .low) (fields′ .high)) ≡ readImage os
+pub record Fills (os before after teams teams′ : List ℕ) (fields fields′ : Fields) (r : Filled) : Type 0 where
+  pub rule : came (r .answer) (graphOf (r .states) (r .transitions) after teams′ (fields′ .from) (fields′ .to) (fields′ .low) (fields′ .high)) ≡ readImage os
   pub marks : Later (r .states) before after
+  pub later-teams : Later (r .states) teams teams′
   pub later : LaterFields (r .transitions) fields fields′
   pub all : r .answer ≡ Accepted → r .taken ≡ 8 * length os
   pub most : r .taken ≤ 8 * length os

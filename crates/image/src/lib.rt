@@ -1,4 +1,4 @@
-// A plan's image, read into the arrays that hold its marks and transitions: its header, states and transitions as packed fields.
+// A plan's image, read into the arrays that hold its marks, teams and transitions: its header, states and transitions as packed fields.
 
 pub mod reading;
 

@@ -1,8 +1,10 @@
 // A plan's states and transitions, read from the octets of an image: every field once, by a bit position that a reader moves.
+ghost use mathlib.Core.Bool.{not};
 ghost use mathlib.Core.Path.{_≡_};
 ghost use Prim.Native.Nat.{_+_, _*_, _≤_, _<_, _^_};
+ghost use lib.Dec.{eqb};
 ghost use lib.ListN.{length};
-ghost use Rattle.rules.specs.Image.{transitionAt};
+ghost use Rattle.rules.specs.Image.{spareIn, versionOf, transitionAt};
 ghost use Rattle.rules.specs.Table.{first};
 ghost use Rattle.arrays.specs.Tables.{fields};
 ghost use Rattle.image.specs.Read.{StatesRead, TransitionsRead, Fills};
@@ -33,18 +35,35 @@ fn marks_of(fields: Four) -> u8
     START * start + FINAL * last + counted
 }
 
-// Reads the marks values of n states, by number, 8 bits each; later places stay.
-fn states(octets: &[u8], at: &mut usize, n: usize, marks: &mut [u8; 512]) -> Answer
-    requires { ⌜ (n ≤ 512) × (n ≤ length (now marks)) × (4 + n ≤ length (now octets)) × (now at ≡ 32) ⌝ }
-    ensures { λ r. ⌜ StatesRead (now (octets .entry)) n (now (marks .entry)) (now (marks .exit)) (now (at .exit)) r ⌝ }
+// Whether the last field of a state has a spare bit set: five bits of version 1 are spare.
+fn is_spare(version: usize, five: usize) -> bool
+    ensures { λ r. ⌜ r ≡ not (eqb (spareIn version five) 0) ⌝ }
+{
+    if version == 1 { five != 0 } else { false }
+}
+
+// Reads the marks values and teams of n states, by number, 8 bits each; later places stay. Where no spare bit is set, version 1 has zero for every team.
+fn states(
+    octets: &[u8],
+    at: &mut usize,
+    version: usize,
+    n: usize,
+    marks: &mut [u8; 512],
+    teams: &mut [u8; 512],
+) -> Answer
+    requires { ⌜ (n ≤ 512) × (n ≤ length (now marks)) × (n ≤ length (now teams)) × (4 + n ≤ length (now octets)) × (now at ≡ 32)
+        × (version ≡ versionOf (now octets)) ⌝ }
+    ensures { λ r. ⌜ StatesRead (now (octets .entry)) n (now (marks .entry)) (now (marks .exit)) (now (teams .entry)) (now (teams .exit)) (now (at .exit)) r ⌝ }
 {
     let mut i = 0;
     while i < n {
         let fields = reader::next(octets, at, 1, 1, 1, 5);
-        if fields.fourth != 0 {
+        let five = fields.fourth;
+        if is_spare(version, five) {
             return Answer::Refused(Refusal::SpareBits); // 6: a state
         }
         marks[i] = marks_of(fields);
+        teams[i] = five as u8;
         i += 1;
     }
     Answer::Accepted
@@ -102,14 +121,15 @@ fn transitions(
 pub fn fill(
     octets: &[u8],
     marks: &mut [u8; 512],
+    teams: &mut [u8; 512],
     from: &mut [u16; 2048],
     to: &mut [u16; 2048],
     low: &mut [u16; 2048],
     high: &mut [u16; 2048],
 ) -> Filled
-    requires { ⌜ (512 ≤ length (now marks)) × (2048 ≤ length (now from)) × (2048 ≤ length (now to))
+    requires { ⌜ (512 ≤ length (now marks)) × (512 ≤ length (now teams)) × (2048 ≤ length (now from)) × (2048 ≤ length (now to))
         × (2048 ≤ length (now low)) × (2048 ≤ length (now high)) ⌝ }
-    ensures { λ r. ⌜ Fills (now (octets .entry)) (now (marks .entry)) (now (marks .exit))
+    ensures { λ r. ⌜ Fills (now (octets .entry)) (now (marks .entry)) (now (marks .exit)) (now (teams .entry)) (now (teams .exit))
         (fields (now (from .entry)) (now (to .entry)) (now (low .entry)) (now (high .entry)))
         (fields (now (from .exit)) (now (to .exit)) (now (low .exit)) (now (high .exit))) r ⌝ }
 {
@@ -127,7 +147,7 @@ pub fn fill(
     }
     let n = heading.states;
     let m = heading.transitions;
-    let marked = states(octets, at, n, marks);
+    let marked = states(octets, at, heading.version, n, marks, teams);
     if let Answer::Refused(_) = marked {
         return Filled {
             answer: marked,

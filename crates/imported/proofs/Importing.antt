@@ -250,12 +250,12 @@ module _ (text : List ℕ) (short : length text < 2 ^ 63) (f : First) (t : Told 
       unfolding xs ns
       by-rows r a = found-refused text ns xs ts (t .read) whole-lines r (sym by-cuts ∙ a)
 
-      pub by-plan : answer ≡ accepted tt → Head (f .initial) (f .transitions) (f .states) → (marks from to low high : List ℕ) → Marked (f .states) (f .initial) marks
-          → transitionsOf (f .transitions) from to low high ≡ ts → accepted (graphOf (f .states) (f .transitions) marks from to low high) ≡ importText text
+      pub by-plan : answer ≡ accepted tt → Head (f .initial) (f .transitions) (f .states) → (marks teams from to low high : List ℕ) → Marked (f .states) (f .initial) marks teams
+          → transitionsOf (f .transitions) from to low high ≡ ts → accepted (graphOf (f .states) (f .transitions) marks teams from to low high) ≡ importText text
       unfolding xs ns planOf
-      by-plan a d marks from to low high s l =
+      by-plan a d marks teams from to low high s l =
           let n : f .states ≡ getD ns 2 0 = t .cuts 2 ∙ cut-is (getD ns 2 0) (omega (arith, d .most, t .cuts 2)) in
           let i : f .initial ≡ getD ns 0 0 = t .cuts 0 ∙ cut-is (getD ns 0 0) (omega (arith, d .most, d .inside, t .cuts 0)) in
-          let states : statesOf (f .states) marks ≡ set (replicate (getD ns 2 0) (marked 0)) (getD ns 0 0) (marked 4) =
+          let states : statesOf (f .states) marks teams ≡ set (replicate (getD ns 2 0) (marked 0)) (getD ns 0 0) (marked 4) =
           s .states ∙ ap₂ (λ (x y : ℕ). set (replicate x (marked 0)) y (marked 4)) n i in
           (λ j. accepted (record { stateList = states j; transitions = l j })) ∙ sym (found-plan text ns xs ts (t .read) whole-lines (sym by-cuts ∙ a))

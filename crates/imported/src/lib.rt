@@ -1,4 +1,4 @@
-// A plan's text, read into the arrays that hold its marks and transitions. It is gone over once: the form decides first, so the first ground of another kind is kept until
+// A plan's text, read into the arrays that hold its marks, teams and transitions. It is gone over once: the form decides first, so the first ground of another kind is kept until
 // the end of the text was seen.
 ghost use mathlib.Core.Path.{_≡_};
 ghost use Prim.Native.Nat.{_≤_, _<_};
@@ -48,14 +48,15 @@ fn first_grounds(initial: usize, m: usize, n: usize) -> Answer
     Answer::Accepted
 }
 
-// Marks the initial state as start, and no other of the n states.
-fn mark_initial(marks: &mut [u8; 512], n: usize, initial: usize)
-    requires { ⌜ (512 ≤ length (now marks)) × (n ≤ 512) × (initial < n) ⌝ }
-    ensures { λ r. ⌜ Marked n initial (now (marks .exit)) ⌝ }
+// Marks the initial state as start, and no other of the n states; every team is 0.
+fn mark_initial(marks: &mut [u8; 512], teams: &mut [u8; 512], n: usize, initial: usize)
+    requires { ⌜ (512 ≤ length (now marks)) × (512 ≤ length (now teams)) × (n ≤ 512) × (initial < n) ⌝ }
+    ensures { λ r. ⌜ Marked n initial (now (marks .exit)) (now (teams .exit)) ⌝ }
 {
     let mut i = 0;
     while i < n {
         marks[i] = 0;
+        teams[i] = 0;
         i += 1;
     }
     marks[initial] = START;
@@ -65,13 +66,14 @@ fn mark_initial(marks: &mut [u8; 512], n: usize, initial: usize)
 pub fn fill(
     text: &[u8],
     marks: &mut [u8; 512],
+    teams: &mut [u8; 512],
     from: &mut [u16; 2048],
     to: &mut [u16; 2048],
     low: &mut [u16; 2048],
     high: &mut [u16; 2048],
 ) -> Found
-    requires { ⌜ (512 ≤ length (now marks)) × Room (fields (now from) (now to) (now low) (now high)) ⌝ }
-    ensures { λ r. ⌜ Imports (now (text .entry)) (now (marks .exit))
+    requires { ⌜ (512 ≤ length (now marks)) × (512 ≤ length (now teams)) × Room (fields (now from) (now to) (now low) (now high)) ⌝ }
+    ensures { λ r. ⌜ Imports (now (text .entry)) (now (marks .exit)) (now (teams .exit))
         (fields (now (from .exit)) (now (to .exit)) (now (low .exit)) (now (high .exit))) r ⌝ }
 {
     let heading = text_reading::read_first(text);
@@ -95,7 +97,7 @@ pub fn fill(
     if let Answer::Refused(r) = answer {
         return refuse(r);
     }
-    mark_initial(marks, n, initial);
+    mark_initial(marks, teams, n, initial);
     Found {
         answer,
         states: n,

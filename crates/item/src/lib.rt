@@ -1,11 +1,10 @@
 // One item of a list of calls, made on the plan that three lent slices hold. Each call is made by its own function, on the slices, so that no plan value is left
 // on the stack between two calls.
 ghost use mathlib.Core.Path.{_≡_};
-ghost use mathlib.Core.Bool.{true, _&&_, _||_};
-ghost use lib.Dec.{leb, ltb};
+ghost use mathlib.Core.Bool.{true};
 ghost use Prim.Native.Nat.{_≤_, _<_, _/_};
 ghost use lib.ListN.{length};
-ghost use Rattle.calls.specs.Slices.{callOf, callIn, isCall, itemAt};
+ghost use Rattle.calls.specs.Slices.{callOf, callIn, isOne, isCall, itemAt};
 ghost use Rattle.edits.specs.Lent.{LentTurn};
 ghost use Rattle.slices.specs.Lent.{slices};
 use rules::Format;
@@ -19,20 +18,21 @@ fn perform(
     d: usize,
     octets: &[u8],
     counts: &mut [usize],
-    marks: &mut [u8],
+    states: &mut [u8],
     fields: &mut [u16],
 ) -> u32
-    requires { ⌜ (ltb kind 3 || (ltb kind 5 && (leb a b && leb b (length (now octets))))) ≡ true ⌝ }
-    ensures { λ r. ⌜ LentTurn (slices (now (counts .entry)) (now (marks .entry)) (now (fields .entry)))
-        (slices (now (counts .exit)) (now (marks .exit)) (now (fields .exit)))
+    requires { ⌜ isOne (length (now octets)) kind a b ≡ true ⌝ }
+    ensures { λ r. ⌜ LentTurn (slices (now (counts .entry)) (now (states .entry)) (now (fields .entry)))
+        (slices (now (counts .exit)) (now (states .exit)) (now (fields .exit)))
         (callOf (now (octets .entry)) kind a b c d) r ⌝ }
 {
     match kind {
-        0 => edits::mark(counts, marks, fields, a, b),
-        1 => edits::join(counts, marks, fields, a, b, c, d),
-        2 => edits::unjoin(counts, marks, fields, a),
-        3 => edits::replace(Format::Image, counts, marks, fields, &octets[a..b]),
-        _ => edits::replace(Format::Text, counts, marks, fields, &octets[a..b]),
+        0 => edits::mark(counts, states, fields, a, b),
+        1 => edits::join(counts, states, fields, a, b, c, d),
+        2 => edits::unjoin(counts, states, fields, a),
+        3 => edits::replace(Format::Image, counts, states, fields, &octets[a..b]),
+        4 => edits::replace(Format::Text, counts, states, fields, &octets[a..b]),
+        _ => edits::team(counts, states, fields, a, b),
     }
 }
 
@@ -43,13 +43,13 @@ pub fn obey(
     arguments: &[usize],
     octets: &[u8],
     counts: &mut [usize],
-    marks: &mut [u8],
+    states: &mut [u8],
     fields: &mut [u16],
 ) -> u32
     requires { ⌜ (turn < length (now kinds)) × (length (now kinds) ≤ length (now arguments) / 4) ⌝ }
     requires { ⌜ isCall (length (now octets)) (itemAt (now kinds) (now arguments) turn) ≡ true ⌝ }
-    ensures { λ r. ⌜ LentTurn (slices (now (counts .entry)) (now (marks .entry)) (now (fields .entry)))
-        (slices (now (counts .exit)) (now (marks .exit)) (now (fields .exit)))
+    ensures { λ r. ⌜ LentTurn (slices (now (counts .entry)) (now (states .entry)) (now (fields .entry)))
+        (slices (now (counts .exit)) (now (states .exit)) (now (fields .exit)))
         (callIn (now (octets .entry)) (itemAt (now (kinds .entry)) (now (arguments .entry)) turn)) r ⌝ }
 {
     let at = 4 * turn;
@@ -57,5 +57,5 @@ pub fn obey(
     let b = arguments[at + 1];
     let c = arguments[at + 2];
     let d = arguments[at + 3];
-    perform(kinds[turn], a, b, c, d, octets, counts, marks, fields)
+    perform(kinds[turn], a, b, c, d, octets, counts, states, fields)
 }

@@ -5,7 +5,7 @@ ghost use Rattle.rules.specs.Quotations.{Write};
 ghost use Rattle.slices.specs.Lent.{slices};
 ghost use Rattle.lent.specs.Quoted.{LentQuote, LentQuotes};
 ghost use Rattle.lent.specs.Written.{LentFill, octetsOf, ruleOf};
-use graph::Which;
+use graph::Asked;
 use plan::Plan;
 use rules::Written;
 
@@ -32,17 +32,17 @@ fn put(content: Content, plan: Plan, buffer: &mut [u8]) -> Written
 pub fn fill(
     content: Content,
     counts: &[usize],
-    marks: &[u8],
+    states: &[u8],
     fields: &[u16],
     buffer: &mut [u8],
 ) -> u32
-    ensures { λ r. ⌜ LentFill content (slices (now (counts .entry)) (now (marks .entry)) (now (fields .entry)))
+    ensures { λ r. ⌜ LentFill content (slices (now (counts .entry)) (now (states .entry)) (now (fields .entry)))
         (now (buffer .entry)) (now (buffer .exit)) r ⌝ }
 {
-    if !slices::has_room(counts.len(), marks.len(), fields.len()) {
+    if !slices::has_room(counts.len(), states.len(), fields.len()) {
         return 255;
     }
-    let written = put(content, slices::load(counts, marks, fields), buffer);
+    let written = put(content, slices::load(counts, states, fields), buffer);
     match written {
         Written::Length(n) => 256 + n as u32,
         Written::Refused(r) => numbers::number(r),
@@ -51,23 +51,23 @@ pub fn fill(
 
 // One quotation of the plan that lent slices hold.
 pub fn quote(
-    which: Which,
+    asked: Asked,
     counts: &[usize],
-    marks: &[u8],
+    states: &[u8],
     fields: &[u16],
     walk: &mut [u16],
     out: &mut [u32],
 ) -> u32
-    ensures { λ r. ⌜ LentQuote which
-        (slices (now (counts .entry)) (now (marks .entry)) (now (fields .entry)))
+    ensures { λ r. ⌜ LentQuote asked
+        (slices (now (counts .entry)) (now (states .entry)) (now (fields .entry)))
         (now (walk .entry)) (now (walk .exit)) (now (out .entry)) (now (out .exit)) r ⌝ }
 {
-    if !slices::has_room(counts.len(), marks.len(), fields.len()) {
+    if !slices::has_room(counts.len(), states.len(), fields.len()) {
         return 255;
     }
     let end = answers::handed(walk.len(), out.len(), 4);
-    let plan = slices::load(counts, marks, fields);
-    let quotation = quotation::quote(which, plan, &mut walk[..end]);
+    let plan = slices::load(counts, states, fields);
+    let quotation = quotation::quote(asked, plan, &mut walk[..end]);
     answers::one(quotation, out)
 }
 

@@ -53,5 +53,6 @@ pub fn number(refusal: Refusal) -> u32
         Refusal::TextForm => 15,
         Refusal::FromState => 16,
         Refusal::ToState => 17,
+        Refusal::TeamNumber => 18,
     }
 }

@@ -28,14 +28,14 @@ pub fn lay(places: &mut [u16; 2048], over: &[u16; 2048], k: usize)
     }
 }
 
-// Lays the first k of some marks values over the first k of others.
-pub fn lay_marks(marks: &mut [u8; 512], over: &[u8; 512], k: usize)
-    requires { ⌜ (k ≤ length (now marks)) × (k ≤ length (now over)) × (k ≤ 512) ⌝ }
-    ensures { λ r. ⌜ now (marks .exit) ≡ paste (now (marks .entry)) 0 (now (over .entry)) k ⌝ }
+// Lays the first k of the states' marks values, or of their teams, over the first k of others.
+pub fn lay_states(states: &mut [u8; 512], over: &[u8; 512], k: usize)
+    requires { ⌜ (k ≤ length (now states)) × (k ≤ length (now over)) × (k ≤ 512) ⌝ }
+    ensures { λ r. ⌜ now (states .exit) ≡ paste (now (states .entry)) 0 (now (over .entry)) k ⌝ }
 {
     let mut i = 0;
     while i < k {
-        marks[i] = over[i];
+        states[i] = over[i];
         i += 1;
     }
 }

@@ -1,7 +1,7 @@
 -- What follows from the promises alone, of whatever keeps them. A refused call hands the plan value back, and after an accepted one every place past
 -- the counts is as it was: both are in the one equation of the whole value. A list of calls gives the answers and the plan that the rules give
 -- from the calls' arguments: each call's promise is one step of the rules, so the list is a run of them. What write puts reads back as the plan,
--- and what read accepts writes back as the octets; so it is with import and export, but for the marks that a text does not hold: the rules say so of images and of
+-- and what read accepts writes back as the version 2 image of its plan, so where that was its version as the octets; so it is with import and export, but for the marks that a text does not hold: the rules say so of images and of
 -- texts, and the promises equate the calls with the rules. And the plan
 -- value beside a refused fresh is refused by 0 in every call.
 -- Assumes nothing.
@@ -21,11 +21,11 @@ use Rattle.rules.specs.declared.Written.{Written}
 use Rattle.rules.specs.declared.Written.the-variants.{Length, Refused as NotWritten}
 use Rattle.rules.specs.declared.Refusal.{Refusal}
 use Rattle.rules.specs.declared.Refusal.the-variants.{PlanLimits}
-use Rattle.rules.specs.Calls.{Call, mark, join, unjoin, read, import, replacing, rowsOf, effectOf, step, run, runFresh}
+use Rattle.rules.specs.Calls.{Call, mark, team, join, unjoin, read, import, replacing, rowsOf, effectOf, step, run, runFresh}
 use Rattle.rules.specs.declared.Format.{Format}
 use Rattle.rules.specs.declared.Format.the-variants.{Image, Text}
 use Rattle.rules.specs.Aldebaran.{starts, importText, exportText, exportRows, exportRule, stripped}
-use Rattle.rules.specs.Image.{image, imageLength, readImage}
+use Rattle.rules.specs.Image.{imageBy, image, imageLength, versionOf, readImage}
 use Rattle.rules.specs.Limits.{within, stateCountOk}
 use Rattle.rules.specs.Quotations.{Write}
 use Rattle.rules.specs.Refusal.{Result, accepted, refused, answerOf, said, wrote}
@@ -34,7 +34,7 @@ use Rattle.rules.proofs.ImportExport.{import-within, import-export, import-star
 use Rattle.rules.proofs.Basic.{fresh-done, read-given, import-given}
 use Rattle.rules.proofs.Results.{never, not-false, accepted-as, accepted-answer}
 use Rattle.rules.proofs.Tables.{accepted-only}
-use Rattle.rules.proofs.ReadWrite.{length-image, read-image, image-read, read-within}
+use Rattle.rules.proofs.ReadWrite.{length-image-by, length-image, read-image, image-read, read-within}
 use Rattle.arrays.specs.Tables.{over}
 use Rattle.plan.specs.declared.Edited.{Edited}
 use Rattle.plan.specs.declared.Plan.{Plan}
@@ -55,12 +55,13 @@ same-value p o r r′ x y = x .whole ∙ sym (y .whole)
 
 -- after an accepted call every place past the counts of the new plan is as it was
 pub places-stay : (p : Plan) (o : Result Graph) (r : Edited) (g : Graph) → Edit p o r → o ≡ accepted g
-    → (drop (states g) (r .plan .marks) ≡ drop (states g) (p .marks)) × (drop (count g) (r .plan .from) ≡ drop (count g) (p .from))
+    → (drop (states g) (r .plan .marks) ≡ drop (states g) (p .marks)) × (drop (states g) (r .plan .teams) ≡ drop (states g) (p .teams)) × (drop (count g) (r .plan .from) ≡ drop (count g) (p .from))
     × (drop (count g) (r .plan .to) ≡ drop (count g) (p .to)) × (drop (count g) (r .plan .low) ≡ drop (count g) (p .low))
     × (drop (count g) (r .plan .high) ≡ drop (count g) (p .high))
 unfolding laid
 places-stay p o r g x e = rw (x .whole ∙ ap (nextValue p) e) (
   behind (λ (s : State). s .marks) (g .stateList) (p .marks),
+  behind (λ (s : State). s .team) (g .stateList) (p .teams),
   behind (λ (t : Transition). t .from) (g .transitions) (p .from),
   behind (λ (t : Transition). t .to) (g .transitions) (p .to),
   behind (λ (t : Transition). t .low) (g .transitions) (p .low),
@@ -155,17 +156,30 @@ accepted-read old octets e x a =
     let m = came-to old (step (view old) (read octets)) e x a in
     sym (read-given (view old) octets (within-old old Image octets (view (e .plan)) m)) ∙ m
 
--- every image read writes back as those octets, into any buffer that has room
-pub read-then-write : (old : Plan) (octets : List ℕ) (e : Edited) (before after : List ℕ) (w : Written) → Octets octets → Edit old (step (view old) (read octets)) e
+-- every image read writes back as the version 2 image of its plan, into any buffer that has room
+pub read-then-image : (old : Plan) (octets : List ℕ) (e : Edited) (before after : List ℕ) (w : Written) → Octets octets → Edit old (step (view old) (read octets)) e
     → e .answer ≡ Accepted → Write (image (view (e .plan))) (writeRule (view (e .plan)) before) before after w → length octets ≤ length before
-    → (w ≡ Length (length octets)) × (after ≡ octets ++ drop (length octets) before)
+    → (w ≡ Length (length octets)) × (after ≡ image (view (e .plan)) ++ drop (length octets) before)
 unfolding writeRule
-read-then-write old octets e before after w ho x a y room =
+read-then-image old octets e before after w ho x a y room =
     let g : Graph = view (e .plan) in
     let r : readImage octets ≡ accepted g = accepted-read old octets e x a in
-    let i : image g ≡ octets = image-read octets g r ho in
-    let k : imageLength (states g) (count g) ≡ length octets = sym (length-image g) ∙ ap length i in
-    puts (image g) octets (writeRule g before) before after w y i (rw (read-within octets g r, k, le-ltb (length before) (length octets) room))
+    let k : imageLength (states g) (count g) ≡ length octets = sym (length-image-by (versionOf octets) g) ∙ ap length (image-read octets g r ho) in
+    let l : length (image g) ≡ length octets = length-image g ∙ k in
+    let o : writeRule g before ≡ accepted (length (image g)) = rw (read-within octets g r, k, le-ltb (length before) (length octets) room) (ap accepted (sym l)) in
+    let (is, there) = puts (image g) (image g) (writeRule g before) before after w y refl o in
+    (is ∙ ap Length l, there ∙ ap {B = List ℕ} (λ (n : ℕ). image g ++ drop n before) l)
+
+-- so one of version 2 writes back as those octets
+pub read-then-write : (old : Plan) (octets : List ℕ) (e : Edited) (before after : List ℕ) (w : Written) → Octets octets → versionOf octets ≡ 2
+    → Edit old (step (view old) (read octets)) e
+    → e .answer ≡ Accepted → Write (image (view (e .plan))) (writeRule (view (e .plan)) before) before after w → length octets ≤ length before
+    → (w ≡ Length (length octets)) × (after ≡ octets ++ drop (length octets) before)
+read-then-write old octets e before after w ho two x a y room =
+    let g : Graph = view (e .plan) in
+    let i : image g ≡ octets = ap (λ (v : ℕ). imageBy v g) (sym two) ∙ image-read octets g (accepted-read old octets e x a) ho in
+    let (is, there) = read-then-image old octets e before after w ho x a y room in
+    (is, there ∙ ap {B = List ℕ} (λ (l : List ℕ). l ++ drop (length octets) before) i)
 
 -- ---- the text, both ways
 
@@ -210,10 +224,11 @@ import-then-export old text e before after w x a y room =
 
 -- "any plan value beside the number has 0 states, all else zero, and every call refuses it by 0"
 pub no-plan : within (view noPlan) ≡ false
-no-plan = sym (limits-view noPlan (states-out 0 0 (noPlan .marks) (noPlan .from) (noPlan .to) (noPlan .low) (noPlan .high) refl))
+no-plan = sym (limits-view noPlan (states-out 0 0 (noPlan .marks) (noPlan .teams) (noPlan .from) (noPlan .to) (noPlan .low) (noPlan .high) refl))
 
 pub no-plan-refused : (call : Call) → step (view noPlan) call ≡ refused PlanLimits
 no-plan-refused (mark state value) = rw no-plan
+no-plan-refused (team state number) = rw no-plan
 no-plan-refused (join t) = rw no-plan
 no-plan-refused (unjoin number) = rw no-plan
 no-plan-refused (read octets) = rw no-plan

@@ -2,11 +2,11 @@
 -- Assumes nothing.
 use mathlib.Core.Bool.{Bool}
 use mathlib.Core.List.{List, map}
-use mathlib.Core.Path.{_≡_, refl, sym, ap, _∙_}
+use mathlib.Core.Path.{_≡_, refl, sym, ap, ap₂, _∙_}
 use Prim.Native.Nat.{ℕ, _<_}
 use native.Mathlib.Omega.{arith}
 use lib.ListN.{length, getD, drop, length-map, List·getD-append, List·getD-map}
-use Rattle.graph.specs.Graph.{Graph, State, Transition, marked, states, count}
+use Rattle.graph.specs.Graph.{Graph, State, Transition, stateWith, marked, states, count}
 use Rattle.rules.specs.Limits.{within}
 use Rattle.rules.specs.Refusal.{Result, accepted, refused}
 use Rattle.rules.specs.Rules.{next}
@@ -20,6 +20,7 @@ use Rattle.arrays.proofs.Lists.{states-of, count-of, same-transition}
 -- a plan value's arrays have their lengths
 pub record Sized (p : Plan) : Type 0 where
   pub marks : length (p .marks) ≡ 512
+  pub teams : length (p .teams) ≡ 512
   pub from : length (p .from) ≡ 2048
   pub to : length (p .to) ≡ 2048
   pub low : length (p .low) ≡ 2048
@@ -27,14 +28,14 @@ pub record Sized (p : Plan) : Type 0 where
 
 pub states-view : (p : Plan) → states (view p) ≡ p .states
 unfolding view
-states-view p = states-of (p .states) (p .transitions) (p .marks) (p .from) (p .to) (p .low) (p .high)
+states-view p = states-of (p .states) (p .transitions) (p .marks) (p .teams) (p .from) (p .to) (p .low) (p .high)
 
 pub count-view : (p : Plan) → count (view p) ≡ p .transitions
 unfolding view
-count-view p = count-of (p .states) (p .transitions) (p .marks) (p .from) (p .to) (p .low) (p .high)
+count-view p = count-of (p .states) (p .transitions) (p .marks) (p .teams) (p .from) (p .to) (p .low) (p .high)
 
 -- the limits of the plan that the arrays hold
-pub limits-view : (p : Plan) {r : Bool} → r ≡ within (graphOf (p .states) (p .transitions) (p .marks) (p .from) (p .to) (p .low) (p .high)) → r ≡ within (view p)
+pub limits-view : (p : Plan) {r : Bool} → r ≡ within (graphOf (p .states) (p .transitions) (p .marks) (p .teams) (p .from) (p .to) (p .low) (p .high)) → r ≡ within (view p)
 unfolding view
 limits-view p e = e
 
@@ -43,8 +44,10 @@ pub view-laid : (p : Plan) (g : Graph) → view (laid p g) ≡ g
 unfolding view laid
 view-laid p g = λ i. record {
   stateList =
-      tabulate-of (marked 0) (g .stateList) (states g) (stateOf (over (map (λ (s : State). s .marks) (g .stateList)) (p .marks))) refl
-      (λ j h. ap marked (sym (at (λ (s : State). s .marks) (g .stateList) (p .marks) j (marked 0) refl h))) i;
+      tabulate-of (marked 0) (g .stateList) (states g)
+      (stateOf (over (map (λ (s : State). s .marks) (g .stateList)) (p .marks)) (over (map (λ (s : State). s .team) (g .stateList)) (p .teams))) refl
+      (λ j h. ap₂ stateWith (sym (at (λ (s : State). s .marks) (g .stateList) (p .marks) j (marked 0) refl h))
+      (sym (at (λ (s : State). s .team) (g .stateList) (p .teams) j (marked 0) refl h))) i;
   transitions =
       let ts = g .transitions in
       let o : Transition = record { from = 0; to = 0; low = 0; high = 0 } in

@@ -4,7 +4,7 @@ ghost use mathlib.Core.Path.{_≡_};
 ghost use Rattle.rules.specs.Limits.{within as withinLimits};
 ghost use Rattle.rules.specs.Aldebaran.{exportText, exportRule};
 ghost use Rattle.rules.specs.Image.{image};
-ghost use Rattle.rules.specs.Calls.{step, mark, join, unjoin, replacing};
+ghost use Rattle.rules.specs.Calls.{step, mark, team, join, unjoin, replacing};
 ghost use Rattle.rules.specs.Quotations.{Write};
 ghost use Rattle.rules.specs.Rules.{freshRule, writeRule};
 ghost use Rattle.arrays.specs.Tables.{transition};
@@ -17,11 +17,12 @@ use rules::Format;
 use rules::Refusal;
 use rules::Written;
 
-// A plan: the two counts, a marks value for each state, and four fields for each transition. Places past the counts hold no part of it.
+// A plan: the two counts, a marks value and a team for each state, and four fields for each transition. Places past the counts hold no part of it.
 pub struct Plan {
     pub states: usize,
     pub transitions: usize,
     pub marks: [u8; 512],
+    pub teams: [u8; 512],
     pub from: [u16; 2048],
     pub to: [u16; 2048],
     pub low: [u16; 2048],
@@ -41,7 +42,7 @@ pub fn within(p: Plan) -> bool
 {
     let n = p.states;
     let m = p.transitions;
-    plan_limits::in_limits(n, m, &p.marks, &p.from, &p.to, &p.low, &p.high)
+    plan_limits::in_limits(n, m, &p.marks, &p.teams, &p.from, &p.to, &p.low, &p.high)
 }
 
 // A refusal, with the plan as it was.
@@ -64,7 +65,7 @@ fn accept(plan: Plan) -> Edited
     }
 }
 
-// The plan with n states, all marks 0 and no transitions.
+// The plan with n states, all marks and teams 0 and no transitions.
 fn blank(n: usize) -> Plan
     ensures { λ r. ⌜ r ≡ blankPlan n ⌝ }
 {
@@ -72,6 +73,7 @@ fn blank(n: usize) -> Plan
         states: n,
         transitions: 0,
         marks: [0u8; 512],
+        teams: [0u8; 512],
         from: [0u16; 2048],
         to: [0u16; 2048],
         low: [0u16; 2048],
@@ -95,11 +97,28 @@ pub fn mark(mut p: Plan, state: usize, value: usize) -> Edited
 {
     let n = p.states;
     let m = p.transitions;
-    let limited = plan_limits::in_limits(n, m, &p.marks, &p.from, &p.to, &p.low, &p.high);
+    let limited = plan_limits::in_limits(n, m, &p.marks, &p.teams, &p.from, &p.to, &p.low, &p.high);
     let answer = grounds::mark_grounds(limited, n, state, value);
     match answer {
         Answer::Accepted => {
             p.marks[state] = value as u8;
+        }
+        Answer::Refused(_) => {}
+    }
+    Edited { plan: p, answer }
+}
+
+// Makes a state's team the team given.
+pub fn team(mut p: Plan, state: usize, number: usize) -> Edited
+    ensures { λ r. ⌜ Edit p (step (view p) (team state number)) r ⌝ }
+{
+    let n = p.states;
+    let m = p.transitions;
+    let limited = plan_limits::in_limits(n, m, &p.marks, &p.teams, &p.from, &p.to, &p.low, &p.high);
+    let answer = grounds::team_grounds(limited, n, state, number);
+    match answer {
+        Answer::Accepted => {
+            p.teams[state] = number as u8;
         }
         Answer::Refused(_) => {}
     }
@@ -112,7 +131,7 @@ pub fn join(mut p: Plan, from: usize, to: usize, low: usize, high: usize) -> Edi
 {
     let n = p.states;
     let m = p.transitions;
-    let limited = plan_limits::in_limits(n, m, &p.marks, &p.from, &p.to, &p.low, &p.high);
+    let limited = plan_limits::in_limits(n, m, &p.marks, &p.teams, &p.from, &p.to, &p.low, &p.high);
     let answer = grounds::join_grounds(limited, n, m, from, to, low, high);
     match answer {
         Answer::Accepted => {
@@ -133,7 +152,7 @@ pub fn unjoin(mut p: Plan, number: usize) -> Edited
 {
     let n = p.states;
     let m = p.transitions;
-    let limited = plan_limits::in_limits(n, m, &p.marks, &p.from, &p.to, &p.low, &p.high);
+    let limited = plan_limits::in_limits(n, m, &p.marks, &p.teams, &p.from, &p.to, &p.low, &p.high);
     let answer = grounds::unjoin_grounds(limited, m, number);
     match answer {
         Answer::Accepted => {
@@ -154,8 +173,9 @@ pub fn replace(mut p: Plan, format: Format, octets: &[u8]) -> Edited
 {
     let n = p.states;
     let m = p.transitions;
-    let limited = plan_limits::in_limits(n, m, &p.marks, &p.from, &p.to, &p.low, &p.high);
+    let limited = plan_limits::in_limits(n, m, &p.marks, &p.teams, &p.from, &p.to, &p.low, &p.high);
     let mut marks = [0u8; 512];
+    let mut teams = [0u8; 512];
     let mut from = [0u16; 2048];
     let mut to = [0u16; 2048];
     let mut low = [0u16; 2048];
@@ -165,6 +185,7 @@ pub fn replace(mut p: Plan, format: Format, octets: &[u8]) -> Edited
         limited,
         octets,
         &mut marks,
+        &mut teams,
         &mut from,
         &mut to,
         &mut low,
@@ -175,7 +196,8 @@ pub fn replace(mut p: Plan, format: Format, octets: &[u8]) -> Edited
         Answer::Accepted => {
             let states = taken.states;
             let transitions = taken.transitions;
-            places::lay_marks(&mut p.marks, &marks, states);
+            places::lay_states(&mut p.marks, &marks, states);
+            places::lay_states(&mut p.teams, &teams, states);
             places::lay(&mut p.from, &from, transitions);
             places::lay(&mut p.to, &to, transitions);
             places::lay(&mut p.low, &low, transitions);
@@ -193,16 +215,26 @@ pub fn held(octets: &[u8]) -> Edited
     ensures { λ r. ⌜ Held (now (octets .entry)) r ⌝ }
 {
     let mut marks = [0u8; 512];
+    let mut teams = [0u8; 512];
     let mut from = [0u16; 2048];
     let mut to = [0u16; 2048];
     let mut low = [0u16; 2048];
     let mut high = [0u16; 2048];
-    let filled = reading::fill(octets, &mut marks, &mut from, &mut to, &mut low, &mut high);
+    let filled = reading::fill(
+        octets,
+        &mut marks,
+        &mut teams,
+        &mut from,
+        &mut to,
+        &mut low,
+        &mut high,
+    );
     let answer = filled.answer;
     let mut plan = Plan {
         states: filled.states,
         transitions: filled.transitions,
         marks,
+        teams,
         from,
         to,
         low,
@@ -224,7 +256,17 @@ pub fn write(p: Plan, buffer: &mut [u8]) -> Written
 {
     let n = p.states;
     let m = p.transitions;
-    written::write(n, m, &p.marks, &p.from, &p.to, &p.low, &p.high, buffer)
+    written::write(
+        n,
+        m,
+        &p.marks,
+        &p.teams,
+        &p.from,
+        &p.to,
+        &p.low,
+        &p.high,
+        buffer,
+    )
 }
 
 // Puts the plan's text at the front of the buffer, and returns its length.
@@ -234,5 +276,15 @@ pub fn export(p: Plan, buffer: &mut [u8]) -> Written
 {
     let n = p.states;
     let m = p.transitions;
-    exported::export(n, m, &p.marks, &p.from, &p.to, &p.low, &p.high, buffer)
+    exported::export(
+        n,
+        m,
+        &p.marks,
+        &p.teams,
+        &p.from,
+        &p.to,
+        &p.low,
+        &p.high,
+        buffer,
+    )
 }

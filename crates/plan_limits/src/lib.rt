@@ -9,12 +9,13 @@ pub fn in_limits<'a>(
     n: usize,
     m: usize,
     marks: &'a [u8; 512],
+    teams: &'a [u8; 512],
     from: &'a [u16; 2048],
     to: &'a [u16; 2048],
     low: &'a [u16; 2048],
     high: &'a [u16; 2048],
 ) -> bool
-    ensures { λ r. ⌜ r ≡ within (graphOf n m (now (marks .entry))
+    ensures { λ r. ⌜ r ≡ within (graphOf n m (now (marks .entry)) (now (teams .entry))
         (now (from .entry)) (now (to .entry)) (now (low .entry)) (now (high .entry))) ⌝ }
 {
     if !limits::state_count_ok(n) {
@@ -23,7 +24,7 @@ pub fn in_limits<'a>(
     if 2048 < m {
         return false;
     }
-    if !array_limits::marks_within(marks, n) {
+    if !array_limits::states_within(marks, teams, n) {
         return false;
     }
     array_limits::transitions_within(from, to, low, high, n, m)

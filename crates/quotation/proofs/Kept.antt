@@ -7,7 +7,7 @@ use Prim.Native.Nat.{ℕ, _≤_, _<_}
 use native.Mathlib.Omega.{arith}
 use borrow.Author.Tests.{ltb-false, lt-ltb, le-ltb}
 use lib.ListN.{length}
-use Rattle.graph.specs.declared.Which.{Which}
+use Rattle.graph.specs.declared.Asked.{Asked}
 use Rattle.graph.specs.Graph.{Graph, states}
 use Rattle.rules.specs.declared.Refusal.{Refusal}
 use Rattle.rules.specs.declared.Refusal.the-variants.{BufferLength}
@@ -19,10 +19,10 @@ use Rattle.rules.specs.declared.Quotations.the-variants.{Quoted as AllQuoted, R
 use Rattle.rules.specs.Limits.{within}
 use Rattle.rules.specs.declared.Answer.{Answer}
 use Rattle.rules.specs.Image.{readImage, imageRows, graphIn}
-use Rattle.rules.specs.Quotations.{says, Stated, Quotes, quoteRows, quoteRule, AllStated, QuotesAll, QuotesHeld, allRows, allRule, heldRows, heldRule, saidQuotations}
+use Rattle.rules.specs.Quotations.{saysAsked, Stated, Quotes, nameRows, quoteRows, quoteRule, AllStated, QuotesAll, QuotesHeld, allRows, allRule, heldRows, heldRule, saidQuotations}
 use Rattle.rules.specs.Refusal.{accepted, refused, said}
 use Rattle.rules.specs.Rules.{bufferRow}
-use Rattle.rules.specs.Table.{first}
+use Rattle.rules.specs.Table.{first, NoneHolds}
 use Rattle.rules.proofs.ReadWrite.{read-within}
 use Rattle.rules.proofs.Results.{never, not-false}
 use Rattle.plan.specs.declared.Edited.{Edited}
@@ -33,25 +33,27 @@ use Rattle.rules.proofs.Tables.{accepted-only, accepted-where, answer-first, af
 
 -- ---- one quotation
 
-module _ (g : Graph) (places : List ℕ) (e : quoteRule g places ≡ accepted tt) where
-  pub accepted-within : within g ≡ true
+module _ (asked : Asked) (g : Graph) (places : List ℕ) (e : quoteRule asked g places ≡ accepted tt) where
+  none : NoneHolds (quoteRows asked g places)
   unfolding quoteRule
-  accepted-within = not-false (within g) (accepted-only (quoteRows g places) tt tt e .0 .0)
+  none = accepted-only (quoteRows asked g places) tt tt e .0
+
+  pub accepted-within : within g ≡ true
+  accepted-within = not-false (within g) (none .0)
 
   pub room : states g ≤ length places
-  unfolding quoteRule
-  room = ltb-false (length places) (states g) (accepted-only (quoteRows g places) tt tt e .0 .1 .0)
+  room = ltb-false (length places) (states g) (none-append (nameRows asked) (bufferRow places (states g) ∷ []) (none .1) .1 .0)
 
-module _ (which : Which) (g : Graph) (before : List ℕ) where
-  pub refusal : (r : Refusal) → refused r ≡ quoteRule g before → Quotes which g before before (Refused r)
+module _ (asked : Asked) (g : Graph) (before : List ℕ) where
+  pub refusal : (r : Refusal) → refused r ≡ quoteRule asked g before → Quotes asked g before before (Refused r)
   refusal r e = record {
     answer = e;
     kept = λ k f. refl;
     quoted = λ q f. let z : _≡_ {A = ℕ} 0 1 = cc in absurd (omega arith);
   }
 
-  pub acceptance : (after : List ℕ) (q : Quote) → quoteRule g before ≡ accepted tt → Stated (says which g) q before after
-      → Quotes which g before after (Quoted q)
+  pub acceptance : (after : List ℕ) (q : Quote) → quoteRule asked g before ≡ accepted tt → Stated (saysAsked asked g) q before after
+      → Quotes asked g before after (Quoted q)
   acceptance after q e h = record {
     answer = sym e;
     kept = λ k f. absurd (never tt k (sym f ∙ e));

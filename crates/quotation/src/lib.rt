@@ -4,11 +4,12 @@ ghost use mathlib.Core.List.{List};
 ghost use mathlib.Core.Path.{_≡_};
 ghost use Prim.Native.Nat.{ℕ, _<_};
 ghost use lib.ListN.{length};
-ghost use Rattle.graph.specs.declared.Which.{Which};
+ghost use Rattle.graph.specs.declared.Asked.the-variants.{One, LeastCountFor, GreatestCountFor};
 ghost use Rattle.graph.specs.declared.Which.the-variants.{LeastDelay, GreatestDelay, LeastCount, GreatestCount};
 ghost use Rattle.plan.specs.View.{view};
 ghost use Rattle.rules.specs.Quotations.{recordOctets, recordRule, quoteRule, Quotes, QuotesAll, QuotesHeld, Write};
 ghost use Rattle.rules.specs.Refusal.{said};
+use graph::Asked;
 use graph::Which;
 use plan::Plan;
 use rules::Answer;
@@ -17,52 +18,66 @@ use rules::Quotations;
 use rules::Refusal;
 use rules::Written;
 
-// Whether a quotation is refused that was lent so many places: the plan's limits, then the places.
-fn ask(p: Plan, places: usize) -> Answer
-    ensures { λ r. ⌜ ((lent : List ℕ) → length lent ≡ places → said r ≡ quoteRule (view p) lent) ⌝ }
+// Whether a quotation is refused that was lent so many places: the plan's limits, the team that it names, then the places.
+fn ask(asked: Asked, p: Plan, places: usize) -> Answer
+    ensures { λ r. ⌜ ((lent : List ℕ) → length lent ≡ places → said r ≡ quoteRule asked (view p) lent) ⌝ }
 {
     let limited = plan::within(p);
     let n = p.states;
-    quotation_grounds::ask(limited, n, places)
+    quotation_grounds::ask(asked, limited, n, places)
 }
 
-// A quotation of a figure, with the walk that shows it.
-pub fn quote(which: Which, p: Plan, walk: &mut [u16]) -> Quotation
-    ensures { λ r. ⌜ Quotes which (view p) (now (walk .entry)) (now (walk .exit)) r ⌝ }
+// A quotation of what is asked for, with the walk that shows it.
+pub fn quote(asked: Asked, p: Plan, walk: &mut [u16]) -> Quotation
+    ensures { λ r. ⌜ Quotes asked (view p) (now (walk .entry)) (now (walk .exit)) r ⌝ }
 {
-    let asked = ask(p, walk.len());
-    match asked {
-        Answer::Accepted => Quotation::Quoted(shown::show(which, p, walk)),
+    let grounds = ask(asked, p, walk.len());
+    match grounds {
+        Answer::Accepted => Quotation::Quoted(shown::show(asked, p, walk)),
         Answer::Refused(r) => Quotation::Refused(r),
     }
 }
 
 // The least delay, with a route that attains it.
 pub fn least_delay(plan: Plan, walk: &mut [u16]) -> Quotation
-    ensures { λ r. ⌜ Quotes LeastDelay (view plan) (now (walk .entry)) (now (walk .exit)) r ⌝ }
+    ensures { λ r. ⌜ Quotes (One LeastDelay) (view plan) (now (walk .entry)) (now (walk .exit)) r ⌝ }
 {
-    quote(Which::LeastDelay, plan, walk)
+    quote(Asked::One(Which::LeastDelay), plan, walk)
 }
 
 // The greatest delay, with the walk that shows it.
 pub fn greatest_delay(plan: Plan, walk: &mut [u16]) -> Quotation
-    ensures { λ r. ⌜ Quotes GreatestDelay (view plan) (now (walk .entry)) (now (walk .exit)) r ⌝ }
+    ensures { λ r. ⌜ Quotes (One GreatestDelay) (view plan) (now (walk .entry)) (now (walk .exit)) r ⌝ }
 {
-    quote(Which::GreatestDelay, plan, walk)
+    quote(Asked::One(Which::GreatestDelay), plan, walk)
 }
 
 // The least count, with a route that attains it.
 pub fn least_count(plan: Plan, walk: &mut [u16]) -> Quotation
-    ensures { λ r. ⌜ Quotes LeastCount (view plan) (now (walk .entry)) (now (walk .exit)) r ⌝ }
+    ensures { λ r. ⌜ Quotes (One LeastCount) (view plan) (now (walk .entry)) (now (walk .exit)) r ⌝ }
 {
-    quote(Which::LeastCount, plan, walk)
+    quote(Asked::One(Which::LeastCount), plan, walk)
 }
 
 // The greatest count, with the walk that shows it.
 pub fn greatest_count(plan: Plan, walk: &mut [u16]) -> Quotation
-    ensures { λ r. ⌜ Quotes GreatestCount (view plan) (now (walk .entry)) (now (walk .exit)) r ⌝ }
+    ensures { λ r. ⌜ Quotes (One GreatestCount) (view plan) (now (walk .entry)) (now (walk .exit)) r ⌝ }
 {
-    quote(Which::GreatestCount, plan, walk)
+    quote(Asked::One(Which::GreatestCount), plan, walk)
+}
+
+// The least count for the class of a team, with a route that attains it.
+pub fn least_count_for(team: usize, plan: Plan, walk: &mut [u16]) -> Quotation
+    ensures { λ r. ⌜ Quotes (LeastCountFor team) (view plan) (now (walk .entry)) (now (walk .exit)) r ⌝ }
+{
+    quote(Asked::LeastCountFor(team), plan, walk)
+}
+
+// The greatest count for the class of a team, with the walk that shows it.
+pub fn greatest_count_for(team: usize, plan: Plan, walk: &mut [u16]) -> Quotation
+    ensures { λ r. ⌜ Quotes (GreatestCountFor team) (view plan) (now (walk .entry)) (now (walk .exit)) r ⌝ }
+{
+    quote(Asked::GreatestCountFor(team), plan, walk)
 }
 
 // All four figures, with the walks that show them, one after another in four parts of 512 places.
@@ -76,7 +91,17 @@ pub fn all(p: Plan, walks: &mut [u16]) -> Quotations
     }
     let n = p.states;
     let m = p.transitions;
-    Quotations::Quoted(shown::show_all(n, m, &p.marks, &p.from, &p.to, &p.low, &p.high, walks))
+    Quotations::Quoted(shown::show_all(
+        n,
+        m,
+        &p.marks,
+        &p.teams,
+        &p.from,
+        &p.to,
+        &p.low,
+        &p.high,
+        walks,
+    ))
 }
 
 // All four figures of the plan that an image holds, with their walks, as `all` has them. The plan that was read is within the limits, so it is not
@@ -98,6 +123,7 @@ pub fn held(octets: &[u8], walks: &mut [u16]) -> Quotations
         n,
         m,
         &edited.plan.marks,
+        &edited.plan.teams,
         &edited.plan.from,
         &edited.plan.to,
         &edited.plan.low,
@@ -119,7 +145,17 @@ pub fn record(p: Plan, buffer: &mut [u8]) -> Written
     let mut walks = [0u16; 2048];
     let n = p.states;
     let m = p.transitions;
-    let quotes = shown::show_all(n, m, &p.marks, &p.from, &p.to, &p.low, &p.high, &mut walks);
+    let quotes = shown::show_all(
+        n,
+        m,
+        &p.marks,
+        &p.teams,
+        &p.from,
+        &p.to,
+        &p.low,
+        &p.high,
+        &mut walks,
+    );
     record_fields::put_record(buffer, quotes);
     Written::Length(11)
 }

@@ -15,9 +15,9 @@ use Rattle.imported.specs.declared.Found.{Found}
 
 -- octets taken into arrays, where the old plan is within the limits or not: the answer and the plan in the arrays are the rules', the plan has room in
 -- them, and its counts are a plan's
-pub record Takes (format : Format) (limited : Bool) (octets marks : List ℕ) (f : Fields) (r : Found) : Type 0 where
+pub record Takes (format : Format) (limited : Bool) (octets marks teams : List ℕ) (f : Fields) (r : Found) : Type 0 where
   pub rule : (old : Graph) → within old ≡ limited
-      → came (r .answer) (graphOf (r .states) (r .transitions) marks (f .from) (f .to) (f .low) (f .high)) ≡ step old (replacing format octets)
+      → came (r .answer) (graphOf (r .states) (r .transitions) marks teams (f .from) (f .to) (f .low) (f .high)) ≡ step old (replacing format octets)
   pub counts : r .answer ≡ Accepted → (r .states ≤ 512) × (r .transitions ≤ 2048)
-  pub states : r .states ≤ length marks
+  pub states : (r .states ≤ length marks) × (r .states ≤ length teams)
   pub transitions : (r .transitions ≤ length (f .from)) × (r .transitions ≤ length (f .to)) × (r .transitions ≤ length (f .low)) × (r .transitions ≤ length (f .high))

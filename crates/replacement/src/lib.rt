@@ -16,13 +16,14 @@ pub fn take(
     limited: bool,
     octets: &[u8],
     marks: &mut [u8; 512],
+    teams: &mut [u8; 512],
     from: &mut [u16; 2048],
     to: &mut [u16; 2048],
     low: &mut [u16; 2048],
     high: &mut [u16; 2048],
 ) -> Found
-    requires { ⌜ (512 ≤ length (now marks)) × Room (fields (now from) (now to) (now low) (now high)) ⌝ }
-    ensures { λ r. ⌜ Takes format limited (now (octets .entry)) (now (marks .exit))
+    requires { ⌜ (512 ≤ length (now marks)) × (512 ≤ length (now teams)) × Room (fields (now from) (now to) (now low) (now high)) ⌝ }
+    ensures { λ r. ⌜ Takes format limited (now (octets .entry)) (now (marks .exit)) (now (teams .exit))
         (fields (now (from .exit)) (now (to .exit)) (now (low .exit)) (now (high .exit))) r ⌝ }
 {
     if !limited {
@@ -34,7 +35,7 @@ pub fn take(
     }
     match format {
         Format::Image => {
-            let filled = reading::fill(octets, marks, from, to, low, high);
+            let filled = reading::fill(octets, marks, teams, from, to, low, high);
             let answer = filled.answer;
             Found {
                 answer,
@@ -42,6 +43,6 @@ pub fn take(
                 transitions: filled.transitions,
             }
         }
-        Format::Text => imported::fill(octets, marks, from, to, low, high),
+        Format::Text => imported::fill(octets, marks, teams, from, to, low, high),
     }
 }

@@ -1,37 +1,40 @@
 -- Facts that the definitions give at once; proof files are checked in the order of their names, so a wrong definition is refused here first.
--- The known octets are the image of their plan, and the known record is that plan's. Then what each event does, on small plans; the table on small calls in
+-- The known octets are the version 1 image of their plan, and the known record is that plan's. Then what each event does, on small plans; the table on small calls in
 -- which more than one row holds, where the first one answers, by its number; and what a promise rules out. Last, what callers cite of single calls.
 -- Assumes nothing.
-use mathlib.Core.Bool.{true, false}
+use mathlib.Core.Bool.{true, false, true≢false}
 use mathlib.Core.List.{List, [], _∷_, map}
 use mathlib.Core.Path.{_≡_, refl, ap}
 use Prim.Native.Nat.{ℕ}
 use Prim.Native.String.{String}
 use native.Mathlib.Omega.{arith}
 use lib.Dec.{ltb, lit<}
-use lib.ListN.{length, getD, replicate}
+use lib.ListN.{length, getD, drop, replicate}
 use Rattle.field.specs.Field.{pack, octetsOf, bits, bitsOf, bitsOfAll, widthOfAll, number, fieldAt}
 use Rattle.text.specs.Text.{octets as textOctets, leading, digits, valueAfter, value}
 use Rattle.aldebaran.specs.Form.{written as writtenForm, andThen, readWord, isDigit, front, isNumeral, readNumber, readForm}
 use Rattle.aldebaran.specs.Text.{Holding, firstForm, lineForm, lineText, linesText, textOf, readLines, whole, readText}
+use Rattle.graph.specs.declared.Asked.{Asked}
+use Rattle.graph.specs.declared.Asked.the-variants.{One, LeastCountFor, GreatestCountFor}
 use Rattle.graph.specs.declared.Which.the-variants.{LeastDelay}
+use Rattle.graph.specs.Class.{nameOk}
 use Rattle.graph.specs.Figure.{Figure, NONE, costFor}
 use Rattle.graph.specs.Known.{P1, P3, P4, P6, open-and-stranded, plan, join as to-join}
 use Rattle.graph.specs.Which.{some}
 use Rattle.graph.specs.Compute.{any, figureFor}
-use Rattle.graph.specs.Graph.{Graph, Transition, states, marksOf, start, final, counted, transition, from, to, low, high}
-use Rattle.rules.specs.declared.Refusal.the-variants.{PlanLimits, StateCount, BufferLength}
+use Rattle.graph.specs.Graph.{Graph, Transition, stateWith, states, marksOf, start, final, counted, transition, from, to, low, high}
+use Rattle.rules.specs.declared.Refusal.the-variants.{PlanLimits, StateCount, BufferLength, TeamNumber}
 use Rattle.rules.specs.declared.Quotation.the-variants.{Refused}
 use Rattle.rules.specs.declared.Format.{Format}
 use Rattle.rules.specs.declared.Format.the-variants.{Image, Text}
 use Rattle.rules.specs.Aldebaran.{planOf, holdingRows, textRows, graphInText, importText, passing, exportText, exportRows, stripped}
-use Rattle.rules.specs.Calls.{Call, mark, join, unjoin, read, import, replacing, step, rowsOf, run, runFresh}
-use Rattle.rules.specs.Image.{image, imageFields, fieldsOfEach, headerRows, imageRows, readImage}
+use Rattle.rules.specs.Calls.{Call, mark, team, join, unjoin, read, import, replacing, step, rowsOf, run, runFresh}
+use Rattle.rules.specs.Image.{imageBy, image, imageFields, fieldsOfEach, headerRows, imageRows, readImage, graphIn, tabulate}
 use Rattle.rules.specs.Limits.{within, all, stateCountOk}
 use Rattle.rules.specs.Quotations.{recordOctets, recordFields, recordRows, tooLarge, quoteRows, quoteRule, recordRule, allRows, heldRows, lentQuoteRows, lentHeldRows}
 use Rattle.rules.specs.Quotations.{Shows, Quotes, LeastQuoted}
 use Rattle.rules.specs.Refusal.{accepted, refused, code}
-use Rattle.rules.specs.Rules.{freshRows, writeRows, freshRule, writeRule, freshGraph, withMark, withTransition, without, written}
+use Rattle.rules.specs.Rules.{freshRows, writeRows, freshRule, writeRule, freshGraph, withMark, withTeam, withTransition, without, written}
 use Rattle.rules.specs.Table.{first, byNumber, each}
 
 -- ---- P1 and the 28 octets of "Plans with known figures"
@@ -41,9 +44,27 @@ octets =
     0x10 ∷ 0x10 ∷ 0x01 ∷ 0x00 ∷ 0x80 ∷ 0x20 ∷ 0x20 ∷ 0x40 ∷ 0x00 ∷ 0x00 ∷ 0x40 ∷ 0x28 ∷ 0x14 ∷ 0x00 ∷ 0x80 ∷ 0x80 ∷ 0x18 ∷ 0x0F ∷ 0x00 ∷ 0x80
     ∷ 0xC0 ∷ 0x10 ∷ 0x1E ∷ 0x01 ∷ 0x00 ∷ 0xC0 ∷ 0x20 ∷ 0x19 ∷ []
 
-pub image-of-plan : image (P1 .plan) ≡ octets
-unfolding octets image imageFields fieldsOfEach pack octetsOf bitsOf bitsOfAll widthOfAll number
+pub image-of-plan : imageBy 1 (P1 .plan) ≡ octets
+unfolding octets imageBy imageFields fieldsOfEach pack octetsOf bitsOf bitsOfAll widthOfAll number
 image-of-plan = refl
+
+-- "Write always produces version 2, so only version 2 images come back octet for octet" (document 02, E4): the first octet is another
+pub written-of-plan : image (P1 .plan) ≡ 0x20 ∷ drop 1 octets
+unfolding octets imageBy imageFields fieldsOfEach pack octetsOf bitsOf bitsOfAll widthOfAll number
+written-of-plan = refl
+
+-- version 2, "for each state start, final, counted and the team": states of every class
+abbrev pub teams : Graph
+teams = record { stateList = stateWith 4 0 ∷ stateWith 1 9 ∷ stateWith 0 10 ∷ stateWith 7 20 ∷ stateWith 2 31 ∷ []; transitions = [] }
+
+pub image-of-teams : image teams ≡ 0x20 ∷ 0x14 ∷ 0x00 ∷ 0x00 ∷ 0x80 ∷ 0x29 ∷ 0x0A ∷ 0xF4 ∷ 0x5F ∷ []
+unfolding imageBy imageFields fieldsOfEach pack octetsOf bitsOf bitsOfAll widthOfAll number
+image-of-teams = refl
+
+-- and back; by version 1 its five bits are spare, and 6
+pub teams-of-image : graphIn (0x20 ∷ 0x14 ∷ 0x00 ∷ 0x00 ∷ 0x80 ∷ 0x29 ∷ 0x0A ∷ 0xF4 ∷ 0x5F ∷ []) ≡ teams
+unfolding graphIn tabulate fieldAt bits bitsOf number
+teams-of-image = refl
 
 -- "The record of this plan is (hex) 00 00 1C 00 03 C0 00 00 40 00 02"
 pub record-of-plan : recordOctets (P1 .plan) ≡ 0x00 ∷ 0x00 ∷ 0x1C ∷ 0x00 ∷ 0x03 ∷ 0xC0 ∷ 0x00 ∷ 0x00 ∷ 0x40 ∷ 0x00 ∷ 0x02 ∷ []
@@ -80,6 +101,13 @@ fresh-is = refl
 pub mark-is : withMark (plan (1 ∷ 2 ∷ 3 ∷ []) (one-way ∷ [])) 1 4 ≡ plan (1 ∷ 4 ∷ 3 ∷ []) (one-way ∷ [])
 mark-is = refl
 
+-- "mark leaves" the team, and team the marks (document 02, E4)
+pub mark-leaves : withMark teams 3 1 .stateList ≡ stateWith 4 0 ∷ stateWith 1 9 ∷ stateWith 0 10 ∷ stateWith 1 20 ∷ stateWith 2 31 ∷ []
+mark-leaves = refl
+
+pub team-is : withTeam teams 3 5 .stateList ≡ stateWith 4 0 ∷ stateWith 1 9 ∷ stateWith 0 10 ∷ stateWith 7 5 ∷ stateWith 2 31 ∷ []
+team-is = refl
+
 -- "the transition goes to the end of the list"
 pub join-is : withTransition (plan (4 ∷ 2 ∷ []) (one-way ∷ [])) back ≡ plan (4 ∷ 2 ∷ []) (one-way ∷ back ∷ [])
 join-is = refl
@@ -98,11 +126,25 @@ pub run-in-turn : map code (runFresh 2 (join one-way ∷ unjoin 0 ∷ unjoin 0 �
 unfolding run within all
 run-in-turn = refl
 
+-- team and mark in one list, refused ones included: the team stays where a mark comes after it; a read of version 1, or an import, clears the teams (E4)
+abbrev teamed : List Call
+teamed = team 0 31 ∷ mark 0 4 ∷ team 1 3 ∷ team 0 32 ∷ team 0 259 ∷ []
+
+pub run-teams : (map code (runFresh 1 teamed .answers) ≡ 256 ∷ 256 ∷ 7 ∷ 18 ∷ 18 ∷ []) × (runFresh 1 teamed .last .stateList ≡ stateWith 4 31 ∷ [])
+unfolding run within all
+run-teams = (refl, refl)
+
+pub run-clears : (runFresh 1 (team 0 31 ∷ read (0x10 ∷ 0x04 ∷ 0x00 ∷ 0x00 ∷ 0x80 ∷ []) ∷ []) .last ≡ plan (4 ∷ []) [])
+    × (runFresh 1 (team 0 31 ∷ import (textOctets "des (0, 0, 1)\n") ∷ []) .last ≡ plan (4 ∷ []) [])
+    × (runFresh 1 (team 0 31 ∷ read (0x20 ∷ 0x04 ∷ 0x00 ∷ 0x00 ∷ 0x9E ∷ []) ∷ []) .last .stateList ≡ stateWith 4 30 ∷ [])
+unfolding run within all imageRows headerRows byNumber graphIn tabulate fieldAt bits bitsOf number textOctets valueAfter value andThen readWord isDigit front isNumeral readNumber readForm firstForm lineForm readLines whole readText textRows holdingRows each graphInText planOf
+run-clears = (refl, refl, refl)
+
 -- "number 7 remains for mark and for an import's initial state" (document 02, E3): in one list, a mark, three joins, a read and two imports
 pub run-ends : map code (runFresh 1 (mark 1 0 ∷ join (to-join 1 1 5 3) ∷ join (to-join 0 1 5 3) ∷ join (to-join 0 0 5 3) ∷ read (image (plan (4 ∷ []) (to-join 0 1 5 3 ∷ [])))
     ∷ import (textOctets "des (1, 1, 1)\n(1, \"5..3\", 1)\n") ∷ import (textOctets "des (0, 1, 1)\n(1, \"5..3\", 1)\n") ∷ []) .answers)
     ≡ 7 ∷ 16 ∷ 17 ∷ 8 ∷ 17 ∷ 7 ∷ 16 ∷ []
-unfolding run within all imageRows headerRows byNumber image imageFields fieldsOfEach pack octetsOf bitsOf bitsOfAll widthOfAll number fieldAt bits textOctets valueAfter value andThen readWord isDigit front isNumeral readNumber readForm firstForm lineForm readLines whole readText textRows holdingRows each
+unfolding run within all imageRows headerRows byNumber imageBy imageFields fieldsOfEach pack octetsOf bitsOf bitsOfAll widthOfAll number fieldAt bits textOctets valueAfter value andThen readWord isDigit front isNumeral readNumber readForm firstForm lineForm readLines whole readText textRows holdingRows each
 run-ends = refl
 
 -- "and returns its length"
@@ -124,17 +166,28 @@ answer call = code (first (rowsOf (freshGraph 1) call))
 abbrev no-states : Graph
 no-states = freshGraph 0
 
-pub limits-first : (code (first (rowsOf no-states (mark 0 8))) ≡ 0) × (code (first (rowsOf no-states (join one-way))) ≡ 0)
+pub limits-first : (code (first (rowsOf no-states (mark 0 8))) ≡ 0) × (code (first (rowsOf no-states (team 0 32))) ≡ 0) × (code (first (rowsOf no-states (join one-way))) ≡ 0)
     × (code (first (rowsOf no-states (unjoin 0))) ≡ 0) × (code (first (rowsOf no-states (read []))) ≡ 0)
     × (code (first (writeRows no-states [])) ≡ 0) × (code (first (recordRows no-states [])) ≡ 0)
     × (code (first (rowsOf no-states (import []))) ≡ 0) × (code (first (exportRows no-states [])) ≡ 0)
 unfolding within imageRows headerRows
-limits-first = (refl, refl, refl, refl, refl, refl, refl, refl)
+limits-first = (refl, refl, refl, refl, refl, refl, refl, refl, refl)
 
--- and a quotation of a plan whose one state has a marks value of 8
-pub quote-limits-first : code (first (quoteRows (plan (8 ∷ []) []) [])) ≡ 0
+-- and a quotation of a plan whose one state has a marks value of 8, or a team of 32
+pub quote-limits-first : (code (first (quoteRows (One LeastDelay) (plan (8 ∷ []) []) [])) ≡ 0)
+    × (code (first (quoteRows (LeastCountFor 32) (record { stateList = stateWith 0 32 ∷ []; transitions = [] }) [])) ≡ 0)
 unfolding within all
-quote-limits-first = refl
+quote-limits-first = (refl, refl)
+
+-- "A team above 31 returns 18, after 7 and before 11" (document 02, E4): in team, and in the counts for a class
+pub team-7-18 : (answer (team 1 32) ≡ 7) × (answer (team 0 32) ≡ 18) × (answer (team 0 259) ≡ 18) × (answer (team 0 31) ≡ 256)
+unfolding within all
+team-7-18 = (refl, refl, refl, refl)
+
+pub quote-18-11 : (code (first (quoteRows (LeastCountFor 32) (freshGraph 1) [])) ≡ 18) × (code (first (quoteRows (GreatestCountFor 259) (freshGraph 1) [])) ≡ 18)
+    × (code (first (quoteRows (LeastCountFor 31) (freshGraph 1) [])) ≡ 11) × (code (first (quoteRows (GreatestCountFor 31) (freshGraph 1) (0 ∷ []))) ≡ 256)
+unfolding within all
+quote-18-11 = (refl, refl, refl, refl)
 
 pub fresh-513 : (code (first (freshRows 0)) ≡ 4) × (code (first (freshRows 512)) ≡ 256) × (code (first (freshRows 513)) ≡ 4)
 fresh-513 = (refl, refl, refl)
@@ -164,12 +217,12 @@ pub unjoin-10 : answer (unjoin 0) ≡ 10
 unfolding within all
 unjoin-10 = refl
 
--- "Order in read": under 4 octets; a version of 2 and no state; no state and 4,095 transitions; 4,095 transitions and a pad bit set
+-- "Order in read": under 4 octets; a version of 3 and no state; no state and 4,095 transitions; 4,095 transitions and a pad bit set
 pub read-1 : answer (read (0x20 ∷ [])) ≡ 1
 unfolding within all imageRows headerRows
 read-1 = refl
 
-pub read-3-4 : answer (read (0x20 ∷ 0x00 ∷ 0x00 ∷ 0x00 ∷ [])) ≡ 3
+pub read-3-4 : answer (read (0x30 ∷ 0x00 ∷ 0x00 ∷ 0x00 ∷ [])) ≡ 3
 unfolding within all imageRows headerRows fieldAt bits bitsOf number
 read-3-4 = refl
 
@@ -199,17 +252,30 @@ pub read-6-17 : answer (read (0x10 ∷ 0x04 ∷ 0x00 ∷ 0x40 ∷ 0x01 ∷ 0x00 
 unfolding within all imageRows headerRows byNumber fieldAt bits bitsOf number
 read-6-17 = refl
 
+-- an image of one state whose last bit is set, by its version (document 02, E4): "other versions return 3", and in version 1 it is a spare bit, in version 2 team 1; the
+-- pad's ground stays in both
+abbrev version : ℕ → ℕ
+version first = answer (read (first ∷ 0x04 ∷ 0x00 ∷ 0x00 ∷ 0x01 ∷ []))
+
+pub read-versions : (version 0x00 ≡ 3) × (version 0x10 ≡ 6) × (version 0x20 ≡ 256) × (version 0x30 ≡ 3) × (version 0xF0 ≡ 3)
+unfolding within all imageRows headerRows byNumber fieldAt bits bitsOf number
+read-versions = (refl, refl, refl, refl, refl)
+
+pub read-pad : answer (read (0x20 ∷ 0x04 ∷ 0x00 ∷ 0x01 ∷ 0x01 ∷ [])) ≡ 6
+unfolding within all imageRows headerRows byNumber fieldAt bits bitsOf number
+read-pad = refl
+
 -- the number that an image of two states answers, by its transitions: "In .. read .. a bad from returns 16, then a bad to 17, both before 8", in the same four cases
 abbrev reads : List Transition → ℕ
 reads ts = answer (read (image (plan (4 ∷ 2 ∷ []) ts)))
 
 pub read-16-17-8 : (reads (to-join 2 2 5 3 ∷ []) ≡ 16) × (reads (to-join 2 1 5 3 ∷ []) ≡ 16) × (reads (to-join 0 2 5 3 ∷ []) ≡ 17) × (reads (to-join 0 1 5 3 ∷ []) ≡ 8)
-unfolding within all imageRows headerRows byNumber image imageFields fieldsOfEach pack octetsOf bitsOf bitsOfAll widthOfAll number fieldAt bits
+unfolding within all imageRows headerRows byNumber imageBy imageFields fieldsOfEach pack octetsOf bitsOf bitsOfAll widthOfAll number fieldAt bits
 read-16-17-8 = (refl, refl, refl, refl)
 
 -- "transitions by number": the first one's low above its high, or the first one to no state, and the second one from no state
 pub read-by-number : (reads (to-join 0 1 5 3 ∷ to-join 2 1 1 1 ∷ []) ≡ 8) × (reads (to-join 0 2 1 1 ∷ to-join 2 1 1 1 ∷ []) ≡ 17)
-unfolding within all imageRows headerRows byNumber image imageFields fieldsOfEach pack octetsOf bitsOf bitsOfAll widthOfAll number fieldAt bits
+unfolding within all imageRows headerRows byNumber imageBy imageFields fieldsOfEach pack octetsOf bitsOf bitsOfAll widthOfAll number fieldAt bits
 read-by-number = (refl, refl)
 
 -- ---- texts
@@ -266,6 +332,9 @@ pub export-is : exportText one-start ≡ textOctets "des (1, 2, 2)\n(0, \"5..20\
 unfolding textOctets leading digits writtenForm firstForm lineForm lineText linesText textOf start marksOf passing exportText
 export-is = refl
 
+pub stripped-teams : stripped teams ≡ plan (4 ∷ 0 ∷ 0 ∷ 4 ∷ 0 ∷ []) []
+stripped-teams = refl
+
 pub stripped-is : stripped one-start ≡ plan (0 ∷ 4 ∷ []) (one-way ∷ back ∷ [])
 stripped-is = refl
 
@@ -285,7 +354,7 @@ pub write-27 : (code (first (writeRows (P1 .plan) (replicate 27 0))) ≡ 11) × 
 unfolding within all
 write-27 = (refl, refl)
 
-pub quote-3 : (code (first (quoteRows (P1 .plan) (replicate 3 0))) ≡ 11) × (code (first (quoteRows (P1 .plan) (replicate 4 0))) ≡ 256)
+pub quote-3 : (code (first (quoteRows (One LeastDelay) (P1 .plan) (replicate 3 0))) ≡ 11) × (code (first (quoteRows (One LeastDelay) (P1 .plan) (replicate 4 0))) ≡ 256)
 unfolding within all
 quote-3 = (refl, refl)
 
@@ -294,10 +363,11 @@ unfolding within all figureFor any marksOf start final counted transition from t
 record-10 = (refl, refl)
 
 -- the answer's places, after the walk's: one too few, just enough, and 0 before both
-pub lent-quote-3 : (code (first (lentQuoteRows (P1 .plan) (replicate 4 0) (replicate 3 0))) ≡ 11)
-    × (code (first (lentQuoteRows (P1 .plan) (replicate 4 0) (replicate 4 0))) ≡ 256) × (code (first (lentQuoteRows (freshGraph 0) [] [])) ≡ 0)
+pub lent-quote-3 : (code (first (lentQuoteRows (One LeastDelay) (P1 .plan) (replicate 4 0) (replicate 3 0))) ≡ 11)
+    × (code (first (lentQuoteRows (One LeastDelay) (P1 .plan) (replicate 4 0) (replicate 4 0))) ≡ 256) × (code (first (lentQuoteRows (One LeastDelay) (freshGraph 0) [] [])) ≡ 0)
+    × (code (first (lentQuoteRows (LeastCountFor 32) (P1 .plan) (replicate 4 0) [])) ≡ 18)
 unfolding within all
-lent-quote-3 = (refl, refl, refl)
+lent-quote-3 = (refl, refl, refl, refl)
 
 -- all four, of a plan and of an image: too few places for the walks, and the plan's or the image's ground before that
 pub all-few : (code (first (allRows (P1 .plan) (replicate 4 0))) ≡ 11) × (code (first (allRows (freshGraph 0) [])) ≡ 0)
@@ -320,7 +390,7 @@ pub touched : (f : Figure) (j : ℕ) → Shows (P6 .plan) (costFor LeastDelay (P
 touched f j x = let e : _≡_ {A = ℕ} 8 9 = ap (λ (l : List ℕ). getD l 0 0) (x .later) in omega arith
 
 -- "a refusal changes neither the plan nor any lent buffer": a quotation with too few places, and one of them touched
-pub refused-and-touched : Quotes LeastDelay (P1 .plan) (9 ∷ []) (8 ∷ []) (Refused BufferLength) → ⊥
+pub refused-and-touched : Quotes (One LeastDelay) (P1 .plan) (9 ∷ []) (8 ∷ []) (Refused BufferLength) → ⊥
 unfolding quoteRule within all
 refused-and-touched x = let e : _≡_ {A = ℕ} 8 9 = ap (λ (l : List ℕ). getD l 0 0) (x .kept BufferLength refl) in omega arith
 
@@ -354,13 +424,21 @@ replacing-refused g Image octets w = rw w
 replacing-refused g Text octets w = rw w
 
 module _ (g : Graph) (b : List ℕ) where
-  pub quote-limits : within g ≡ false → quoteRule g b ≡ refused PlanLimits
+  pub quote-limits : (asked : Asked) → within g ≡ false → quoteRule asked g b ≡ refused PlanLimits
   unfolding quoteRule
-  quote-limits w = rw w
+  quote-limits asked w = rw w
 
-  pub quote-done : within g ≡ true → ltb (length b) (states g) ≡ false → quoteRule g b ≡ accepted tt
+  pub quote-unnamed : (asked : Asked) → within g ≡ true → nameOk asked ≡ false → quoteRule asked g b ≡ refused TeamNumber
   unfolding quoteRule
-  quote-done w h = rw (w, h)
+  quote-unnamed (One which) w h = absurd (true≢false h)
+  quote-unnamed (LeastCountFor k) w h = rw (w, h)
+  quote-unnamed (GreatestCountFor k) w h = rw (w, h)
+
+  pub quote-done : (asked : Asked) → within g ≡ true → nameOk asked ≡ true → ltb (length b) (states g) ≡ false → quoteRule asked g b ≡ accepted tt
+  unfolding quoteRule
+  quote-done (One which) w h l = rw (w, l)
+  quote-done (LeastCountFor k) w h l = rw (w, h, l)
+  quote-done (GreatestCountFor k) w h l = rw (w, h, l)
 
   pub record-limits : within g ≡ false → recordRule g b ≡ refused PlanLimits
   unfolding recordRule

@@ -1,7 +1,7 @@
 -- Every call keeps a plan within the limits: fresh makes one, each event that is accepted leaves one, and a refused one leaves the plan. So
 -- every plan that a list of calls from a fresh plan comes to is within the limits.
 -- Assumes nothing.
-use mathlib.Core.Bool.{true}
+use mathlib.Core.Bool.{true, false}
 use mathlib.Core.List.{List, [], _∷_, _++_}
 use mathlib.Core.Path.{_≡_, refl, sym, ap, ap₂, _∙_}
 use Prim.Native.Nat.{ℕ, suc, _+_, _-_, _<_, min}
@@ -9,16 +9,17 @@ use native.Mathlib.Omega.{arith}
 use lib.Dec.{leb}
 use lib.ListN.{length, take, drop, set, replicate, length-append, length-take, length-drop, length-set, length-replicate}
 use borrow.Author.Tests.{leb-true, leb-false}
-use Rattle.graph.specs.Graph.{Graph, Transition, marked, states, count}
+use Rattle.graph.specs.Class.{teamOk}
+use Rattle.graph.specs.Graph.{Graph, State, Transition, stateWith, marked, states, count, state}
 use Rattle.rules.specs.declared.Refusal.the-variants.{ListFull}
 use Rattle.rules.specs.Refusal.{Result, accepted, refused}
 use Rattle.rules.specs.Limits.{all, within, stateCountOk, marksOk, stateOk, transitionOk}
 use Rattle.rules.specs.Image.{transitionRows, imageRows, graphIn, readImage}
-use Rattle.rules.specs.Rules.{freshGraph, withMark, withTransition, without, next}
+use Rattle.rules.specs.Rules.{freshGraph, withTransition, without, next}
 use Rattle.rules.specs.Table.{NoneHolds}
 use Rattle.rules.specs.Aldebaran.{textRows, graphInText, importText}
-use Rattle.rules.specs.Calls.{Call, mark, join, unjoin, read, import, rowsOf, effectOf, step, run}
-use Rattle.rules.proofs.Results.{not-false, and-true, all-append, all-take, all-drop, all-set, all-replicate}
+use Rattle.rules.specs.Calls.{Call, mark, team, join, unjoin, read, import, rowsOf, effectOf, step, run}
+use Rattle.rules.proofs.Results.{not-false, and-true, both-true, all-getD, all-append, all-take, all-drop, all-set, all-replicate}
 use Rattle.rules.proofs.Tables.{accepted-where, accepted-only, none-append}
 use Rattle.rules.proofs.ReadWrite.{limited, within-limits, rows-ok, read-within}
 use Rattle.rules.proofs.ImportExport.{import-within}
@@ -39,20 +40,37 @@ fresh-within n h =
       each-transition = refl;
     })
 
+-- a state set to one within the limits: its marks value, or its team
+set-within : (g : Graph) (s : ℕ) (x : State) → within g ≡ true → stateOk x ≡ true → within (record { stateList = set (g .stateList) s x; transitions = g .transitions }) ≡ true
+set-within g s x w h =
+    let l = limited g w in
+    let k : length (set (g .stateList) s x) ≡ states g = length-set (g .stateList) s x in
+    within-limits (record { stateList = set (g .stateList) s x; transitions = g .transitions })
+    (record {
+      least = omega (arith, l .least, k);
+      most = omega (arith, l .most, k);
+      transitions = l .transitions;
+      each-state = all-set stateOk (g .stateList) s x (l .each-state) h;
+      each-transition = ap (λ (n : ℕ). all (transitionOk n) (g .transitions)) k ∙ l .each-transition;
+    })
+
+-- the marks value and the team of a state of the plan
+state-parts : (g : Graph) (s : ℕ) → within g ≡ true → leb (states g) s ≡ false → (marksOk (state g s .marks) ≡ true) × (teamOk (state g s .team) ≡ true)
+state-parts g s w h =
+    and-true (marksOk (state g s .marks)) (teamOk (state g s .team))
+    (all-getD stateOk (g .stateList) s (marked 0) (limited g w .each-state) (leb-false (states g) s h))
+
 -- of each call, where none of its rows holds
 effect-within : (g : Graph) (call : Call) → NoneHolds (rowsOf g call) → within (effectOf g call) ≡ true
 unfolding all readImage importText
-effect-within g (mark state value) (w, (s, (v, u))) =
-    let l = limited g (not-false (within g) w) in
-    let k : length (set (g .stateList) state (marked value)) ≡ states g = length-set (g .stateList) state (marked value) in
-    within-limits (withMark g state value)
-    (record {
-      least = omega arith;
-      most = omega arith;
-      transitions = l .transitions;
-      each-state = all-set stateOk (g .stateList) state (marked value) (l .each-state) (not-false (marksOk value) v);
-      each-transition = ap (λ (n : ℕ). all (transitionOk n) (g .transitions)) k ∙ l .each-transition;
-    })
+effect-within g (mark s value) (w, (h, (v, u))) =
+    let inside = not-false (within g) w in
+    set-within g s (stateWith value (state g s .team)) inside
+    (both-true (marksOk value) (teamOk (state g s .team)) (not-false (marksOk value) v) (state-parts g s inside h .1))
+effect-within g (team s number) (w, (h, (v, u))) =
+    let inside = not-false (within g) w in
+    set-within g s (stateWith (state g s .marks) number) inside
+    (both-true (marksOk (state g s .marks)) (teamOk number) (state-parts g s inside h .0) (not-false (teamOk number) v))
 effect-within g (join t) (w, grounds) =
     let l = limited g (not-false (within g) w) in
     let (own, full) = none-append (transitionRows (states g) t) ((ListFull, leb 2048 (count g)) ∷ []) grounds in

@@ -1,9 +1,10 @@
 -- The image, both ways. A plan within the limits has fields that fit their widths, so the bits of its image give each field back: the header's,
 -- each state's and each transition's, and no ground of read holds. The other way, where read accepts octets, each header field, state and
 -- transition taken has its fields' bits where they were taken, spare and pad bits are zero and the length is what the counts give; so the
--- octets' bits are those of the plan's fields, one after another, and the image is the octets.
+-- octets' bits are those of the plan's fields, one after another, and the image by the octets' own version is the octets. In version 1 the five bits are zero, and so
+-- are the teams.
 -- Assumes nothing.
-use mathlib.Core.Bool.{Bool, true, not, _&&_}
+use mathlib.Core.Bool.{Bool, true, false, not, cond, _&&_, _||_}
 use mathlib.Core.List.{List, [], _∷_, _++_, append-assoc, append-nil}
 use mathlib.Core.Logic.{_⊎_, inl, inr}
 use mathlib.Core.Path.{_≡_, refl, sym, ap, ap₂, _∙_, subst}
@@ -14,7 +15,7 @@ use lib.Dec.{leb, ltb, eqb}
 use lib.ListN.{length, getD, take, drop, take-append-drop, length-drop}
 use lib.Seq.{take-all, drop-drop, drop-at}
 use borrow.Author.Tests.{leb-true, leb-false, ltb-true, ltb-false, eqb-true, le-leb, lt-leb, lt-ltb, le-ltb}
-use Rattle.graph.specs.Graph.{Graph, State, Transition, marked, states, count}
+use Rattle.graph.specs.Graph.{Graph, State, Transition, marked, states, count, teamOf}
 use Rattle.field.specs.Field.{Field, AllFit, Octets, fieldAt, bits, bitsOfAll, widthOfAll, unpack, putAll}
 use Rattle.field.proofs.Bits.{length-bits}
 use Rattle.field.proofs.Laws.{field-lt}
@@ -23,12 +24,12 @@ use Rattle.rules.specs.declared.Refusal.{Refusal}
 use Rattle.rules.specs.Refusal.{Result, accepted, refused}
 use Rattle.rules.specs.Table.{Row, byNumber, Holds, NoneHolds}
 use Rattle.rules.specs.Limits.{all, within, stateCountOk, transitionCountOk, stateOk, endsOk, durationsOk, transitionOk}
-use Rattle.rules.specs.Image.{field, headerFields, stateFields, transitionFields, fieldsOfEach, imageFields, image, imageLength}
+use Rattle.rules.specs.Image.{field, headerFields, stateFields, transitionFields, fieldsOfEach, imageFields, imageBy, image, imageLength, spareIn, teamIn, versionOk}
 use Rattle.rules.specs.Image.{versionOf, stateCountOf, transitionCountOf, padOf, stateAt, spareAt, statePlace, transitionAt, transitionPlace}
 use Rattle.rules.specs.Image.{tabulate, graphIn, headerRows, stateRows, transitionRows, imageRows, readImage}
 use Rattle.rules.proofs.Results.{not-false, and-true, both-true, all-getD}
 use Rattle.rules.proofs.Tables.{only-grounds, accepted-where, accepted-only, none-append, append-none, each-none, none-each}
-use Rattle.rules.proofs.Tabulated.{length-tabulate, tabulate-of, all-tabulate}
+use Rattle.rules.proofs.Tabulated.{length-tabulate, getD-tabulate, tabulate-of, all-tabulate}
 use Rattle.rules.proofs.Fields.{width-each, bits-at, bits-of-items}
 
 -- ---- the length
@@ -41,55 +42,58 @@ pub transition-width : (t : Transition) → widthOfAll (transitionFields t) ≡ 
 unfolding widthOfAll
 transition-width t = refl
 
-pub header-width : (n m : ℕ) → widthOfAll (headerFields n m) ≡ 32
+pub header-width : (v n m : ℕ) → widthOfAll (headerFields v n m) ≡ 32
 unfolding widthOfAll
-header-width n m = refl
+header-width v n m = refl
 
-image-width : (g : Graph) → widthOfAll (imageFields g) ≡ 8 * imageLength (states g) (count g)
+image-width : (v : ℕ) (g : Graph) → widthOfAll (imageFields v g) ≡ 8 * imageLength (states g) (count g)
 unfolding imageFields
-image-width g =
+image-width v g =
     let n : ℕ = states g in
     let m : ℕ = count g in
     let s : List Field = fieldsOfEach stateFields (g .stateList) in
     let t : List Field = fieldsOfEach transitionFields (g .transitions) in
-    widthOfAll-append (headerFields n m ++ s) t
+    widthOfAll-append (headerFields v n m ++ s) t
     ∙ ap₂ _+_
-    (widthOfAll-append (headerFields n m) s ∙ ap₂ _+_ (header-width n m) (width-each stateFields 8 state-width (g .stateList)))
+    (widthOfAll-append (headerFields v n m) s ∙ ap₂ _+_ (header-width v n m) (width-each stateFields 8 state-width (g .stateList)))
     (width-each transitionFields 40 transition-width (g .transitions))
     ∙ omega arith
 
 -- "The length is 4 + n + 5 × m octets"
+pub length-image-by : (v : ℕ) (g : Graph) → length (imageBy v g) ≡ imageLength (states g) (count g)
+unfolding imageBy
+length-image-by v g = length-pack (imageFields v g) (imageLength (states g) (count g)) (image-width v g)
+
 pub length-image : (g : Graph) → length (image g) ≡ imageLength (states g) (count g)
-unfolding image
-length-image g = length-pack (imageFields g) (imageLength (states g) (count g)) (image-width g)
+length-image g = length-image-by 2 g
 
-pub image-octets : (g : Graph) → Octets (image g)
-unfolding image
-image-octets g = pack-octets (imageFields g)
+pub image-octets : (v : ℕ) (g : Graph) → Octets (imageBy v g)
+unfolding imageBy
+image-octets v g = pack-octets (imageFields v g)
 
-bits-image : (g : Graph) → bits (image g) ≡ bitsOfAll (imageFields g)
-unfolding image
-bits-image g = bits-pack (imageFields g) (imageLength (states g) (count g)) (image-width g)
+bits-image : (v : ℕ) (g : Graph) → bits (imageBy v g) ≡ bitsOfAll (imageFields v g)
+unfolding imageBy
+bits-image v g = bits-pack (imageFields v g) (imageLength (states g) (count g)) (image-width v g)
 
 -- the header's, the states' and the transitions' fields put one after another at the front of a buffer leave the image there, and the rest
 pub put-image : (g : Graph) (os : List ℕ) → Octets os → imageLength (states g) (count g) ≤ length os
     → putAll
-    (putAll (putAll os 0 (headerFields (states g) (count g))) 32 (fieldsOfEach stateFields (g .stateList)))
+    (putAll (putAll os 0 (headerFields 2 (states g) (count g))) 32 (fieldsOfEach stateFields (g .stateList)))
     (32 + 8 * states g) (fieldsOfEach transitionFields (g .transitions))
     ≡ image g ++ drop (imageLength (states g) (count g)) os
-unfolding image imageFields
+unfolding imageBy imageFields
 put-image g os ho h =
     let n : ℕ = states g in
     let m : ℕ = count g in
-    let H : List Field = headerFields n m in
+    let H : List Field = headerFields 2 n m in
     let S : List Field = fieldsOfEach stateFields (g .stateList) in
     let T : List Field = fieldsOfEach transitionFields (g .transitions) in
     let w : 0 + widthOfAll (H ++ S) ≡ 32 + 8 * n =
-    zero-add (widthOfAll (H ++ S)) ∙ widthOfAll-append H S ∙ ap₂ _+_ (header-width n m) (width-each stateFields 8 state-width (g .stateList)) in
-    let v : 0 + widthOfAll H ≡ 32 = zero-add (widthOfAll H) ∙ header-width n m in
+    zero-add (widthOfAll (H ++ S)) ∙ widthOfAll-append H S ∙ ap₂ _+_ (header-width 2 n m) (width-each stateFields 8 state-width (g .stateList)) in
+    let v : 0 + widthOfAll H ≡ 32 = zero-add (widthOfAll H) ∙ header-width 2 n m in
     ap₂ (λ (b : List ℕ) (k : ℕ). putAll b k T) (ap (λ (k : ℕ). putAll (putAll os 0 H) k S) (sym v) ∙ sym (putAll-append H S os 0)) (sym w)
     ∙ sym (putAll-append (H ++ S) T os 0)
-    ∙ putAll-pack (H ++ S ++ T) (imageLength n m) os ho (image-width g) h
+    ∙ putAll-pack (H ++ S ++ T) (imageLength n m) os ho (image-width 2 g) h
 
 -- ---- four fields one after another: the header, a state and a transition are such
 
@@ -107,6 +111,13 @@ nowhere = field 0 0
 valueAt : ℕ → List Field → ℕ
 valueAt i fs = getD fs i nowhere .value
 
+-- an image has the version by which it was made
+pub version-by : (v : ℕ) (g : Graph) → v < 16 → versionOf (imageBy v g) ≡ v
+unfolding imageFields unpack AllFit valueAt
+version-by v g h =
+    let rest : List Field = drop 1 (imageFields v g) in
+    ap (valueAt 0) (unpack-of-bits (imageBy v g) (field 4 v ∷ []) 0 (bitsOfAll rest) (h, tt) (bits-image v g ∙ bitsOfAll-append (field 4 v ∷ []) rest))
+
 -- ---- one state
 
 digit : (x : ℕ) → x % 2 < 2 ^ 1
@@ -120,18 +131,35 @@ marks-bits v h =
     let m : v / 4 % 2 ≡ v / 4 = mod-eq-of-lt l in
     omega (arith, div-add-mod' v 2, div-add-mod' (v / 2) 2)
 
-state-of-bits : (os : List ℕ) (at : ℕ) (x : State) (rest : List Bool) → stateOk x ≡ true → drop at (bits os) ≡ bitsOfAll (stateFields x) ++ rest
+-- its last five bits are the team, in either version where the spare bits are zero
+pub five-is : (version five : ℕ) → spareIn version five ≡ 0 → five ≡ teamIn version five
+five-is version five = go (eqb version 1)
+  where
+    go : (b : Bool) → cond b five 0 ≡ 0 → five ≡ cond b 0 five
+    go true e = e
+    go false e = refl
+
+team-most : (version five : ℕ) → teamIn version five ≤ five
+team-most version five = go (eqb version 1)
+  where
+    go : (b : Bool) → cond b 0 five ≤ five
+    go true = omega arith
+    go false = omega arith
+
+state-of-bits : (os : List ℕ) (at : ℕ) (x : State) (rest : List Bool) → versionOf os ≡ 2 → stateOk x ≡ true → drop at (bits os) ≡ bitsOfAll (stateFields x) ++ rest
     → (stateAt os at ≡ x) × (spareAt os at ≡ 0)
 unfolding AllFit valueAt
-state-of-bits os at x rest h e =
+state-of-bits os at x rest two h e =
     let v = x .marks in
-    let u = sym (four os at 1 1 1 5) ∙ unpack-of-bits os (stateFields x) at rest (digit (v / 4), (digit (v / 2), (digit v, (omega arith, tt)))) e in
+    let ok = and-true (leb v 7) (leb (x .team) 31) h in
+    let t : x .team < 2 ^ 5 = omega (arith, leb-true (x .team) 31 (ok .1)) in
+    let u = sym (four os at 1 1 1 5) ∙ unpack-of-bits os (stateFields x) at rest (digit (v / 4), (digit (v / 2), (digit v, (t, tt)))) e in
     let a : fieldAt os at 1 ≡ v / 4 % 2 = ap (valueAt 0) u in
     let b : fieldAt os (at + 1) 1 ≡ v / 2 % 2 = ap (valueAt 1) u in
     let c : fieldAt os (at + 2) 1 ≡ v % 2 = ap (valueAt 2) u in
-    let d : fieldAt os (at + 3) 5 ≡ 0 = ap (valueAt 3) u in
-    let s : 4 * (v / 4 % 2) + 2 * (v / 2 % 2) + v % 2 ≡ v = marks-bits v (leb-true v 7 h) in
-    (rw (a, b, c, s) refl, d)
+    let d : fieldAt os (at + 3) 5 ≡ x .team = ap (valueAt 3) u in
+    let s : 4 * (v / 4 % 2) + 2 * (v / 2 % 2) + v % 2 ≡ v = marks-bits v (leb-true v 7 (ok .0)) in
+    (rw (a, b, c, s, two, d) refl, rw two refl)
 
 bits-of-state : (os : List ℕ) (at : ℕ) → at + 8 ≤ length (bits os) → spareAt os at ≡ 0
     → (take 8 (drop at (bits os)) ≡ bitsOfAll (stateFields (stateAt os at))) × (stateOk (stateAt os at) ≡ true)
@@ -144,11 +172,14 @@ bits-of-state os at h d =
     let a : fieldAt os at 1 ≡ v / 4 % 2 = omega arith in
     let b : fieldAt os (at + 1) 1 ≡ v / 2 % 2 = omega arith in
     let c : fieldAt os (at + 2) 1 ≡ v % 2 = omega arith in
-    let u : unpack os at (1 ∷ 1 ∷ 1 ∷ 5 ∷ []) ≡ stateFields (stateAt os at) = four os at 1 1 1 5 ∙ four-fields a b c d in
+    let five : ℕ = fieldAt os (at + 3) 5 in
+    let t : five ≡ teamIn (versionOf os) five = five-is (versionOf os) five d in
+    let u : unpack os at (1 ∷ 1 ∷ 1 ∷ 5 ∷ []) ≡ stateFields (stateAt os at) = four os at 1 1 1 5 ∙ four-fields a b c t in
     let w : widthOfAll (unpack os at (1 ∷ 1 ∷ 1 ∷ 5 ∷ [])) ≡ 8 = ap widthOfAll u in (
       ap (λ (k : ℕ). take k (drop at (bits os))) (sym w)
           ∙ sym (bits-of-unpack os (1 ∷ 1 ∷ 1 ∷ 5 ∷ []) at (rw w (omega (arith, length-bits os)))) ∙ ap bitsOfAll u,
-      le-leb v 7 (omega arith),
+      both-true (leb v 7) (leb (teamIn (versionOf os) five) 31) (le-leb v 7 (omega arith))
+          (le-leb (teamIn (versionOf os) five) 31 (omega (arith, team-most (versionOf os) five, field-lt os (at + 3) 5))),
     )
   where
     four-fields : {a b c d a′ b′ c′ d′ : ℕ} → a ≡ a′ → b ≡ b′ → c ≡ c′ → d ≡ d′
@@ -267,18 +298,18 @@ module _ (g : Graph) (l : Limited g) where
   T = bitsOfAll (fieldsOfEach transitionFields (g .transitions))
 
   H : List Bool
-  H = bitsOfAll (headerFields n m)
+  H = bitsOfAll (headerFields 2 n m)
 
   image-bits : bits os ≡ H ++ (S ++ T)
   unfolding os S T H imageFields n m
   image-bits =
-      bits-image g ∙ bitsOfAll-append (headerFields n m ++ fieldsOfEach stateFields (g .stateList)) (fieldsOfEach transitionFields (g .transitions))
-      ∙ ap {B = List Bool} (λ (x : List Bool). x ++ bitsOfAll (fieldsOfEach transitionFields (g .transitions))) (bitsOfAll-append (headerFields n m) (fieldsOfEach stateFields (g .stateList)))
-      ∙ append-assoc (bitsOfAll (headerFields n m)) (bitsOfAll (fieldsOfEach stateFields (g .stateList))) (bitsOfAll (fieldsOfEach transitionFields (g .transitions)))
+      bits-image 2 g ∙ bitsOfAll-append (headerFields 2 n m ++ fieldsOfEach stateFields (g .stateList)) (fieldsOfEach transitionFields (g .transitions))
+      ∙ ap {B = List Bool} (λ (x : List Bool). x ++ bitsOfAll (fieldsOfEach transitionFields (g .transitions))) (bitsOfAll-append (headerFields 2 n m) (fieldsOfEach stateFields (g .stateList)))
+      ∙ append-assoc (bitsOfAll (headerFields 2 n m)) (bitsOfAll (fieldsOfEach stateFields (g .stateList))) (bitsOfAll (fieldsOfEach transitionFields (g .transitions)))
 
   at-states : drop 32 (bits os) ≡ S ++ T
   unfolding H
-  at-states = ap (λ (x : List Bool). drop 32 x) image-bits ∙ drop-at H (S ++ T) 32 (length-bitsOfAll (headerFields n m) ∙ header-width n m)
+  at-states = ap (λ (x : List Bool). drop 32 x) image-bits ∙ drop-at H (S ++ T) 32 (length-bitsOfAll (headerFields 2 n m) ∙ header-width 2 n m)
 
   at-transitions : drop (32 + 8 * n) (bits os) ≡ T
   unfolding S n
@@ -286,12 +317,12 @@ module _ (g : Graph) (l : Limited g) where
       sym (drop-drop (8 * n) 32 (bits os)) ∙ ap (λ (x : List Bool). drop (8 * n) x) at-states
       ∙ drop-at S T (8 * n) (length-bitsOfAll (fieldsOfEach stateFields (g .stateList)) ∙ width-each stateFields 8 state-width (g .stateList))
 
-  header : (versionOf os ≡ 1) × (stateCountOf os ≡ n) × (transitionCountOf os ≡ m) × (padOf os ≡ 0)
+  header : (versionOf os ≡ 2) × (stateCountOf os ≡ n) × (transitionCountOf os ≡ m) × (padOf os ≡ 0)
   unfolding AllFit valueAt H n m
   header =
       let hn : states g < 2 ^ 10 = omega arith in
       let hm : count g < 2 ^ 12 = omega arith in
-      let u = sym (four os 0 4 10 12 6) ∙ unpack-of-bits os (headerFields (states g) (count g)) 0 (S ++ T) (omega arith, (hn, (hm, (omega arith, tt)))) image-bits in
+      let u = sym (four os 0 4 10 12 6) ∙ unpack-of-bits os (headerFields 2 (states g) (count g)) 0 (S ++ T) (omega arith, (hn, (hm, (omega arith, tt)))) image-bits in
       (ap (valueAt 0) u, ap (valueAt 1) u, ap (valueAt 2) u, ap (valueAt 3) u)
 
   header-clear : NoneHolds (headerRows os)
@@ -316,7 +347,7 @@ module _ (g : Graph) (l : Limited g) where
   unfolding S
   state-there k h =
       let (rest, e) = bits-at stateFields 8 state-width (bits os) (marked 0) (g .stateList) 32 T at-states k h in
-      state-of-bits os (statePlace k) (getD (g .stateList) k (marked 0)) rest (all-getD stateOk (g .stateList) k (marked 0) (l .each-state) h) e
+      state-of-bits os (statePlace k) (getD (g .stateList) k (marked 0)) rest (header .0) (all-getD stateOk (g .stateList) k (marked 0) (l .each-state) h) e
 
   nothing : Transition
   nothing = record { from = 0; to = 0; low = 0; high = 0 }
@@ -363,7 +394,7 @@ read-image g h = read-os g (limited g h)
 
 -- what read has looked at where it accepts the header
 pub record Header (os : List ℕ) : Type 0 where
-  pub version : versionOf os ≡ 1
+  pub version : versionOk (versionOf os) ≡ true
   pub least : 1 ≤ stateCountOf os
   pub most : stateCountOf os ≤ 512
   pub transitions : transitionCountOf os ≤ 2048
@@ -380,7 +411,7 @@ clear-header os (short, (version, (n-ok, (m-ok, (pad, (few, (many, u))))))) =
     let low : k ≤ length os = ltb-false (length os) k few in
     let high : length os ≤ k = ltb-false k (length os) many in
     record {
-      version = eqb-true (versionOf os) 1 (not-false (eqb (versionOf os) 1) version);
+      version = not-false (versionOk (versionOf os)) version;
       least = leb-true 1 n (s .0);
       most = leb-true n 512 (s .1);
       transitions = leb-true m 2048 (not-false (transitionCountOk m) m-ok);
@@ -414,7 +445,7 @@ module _ (os : List ℕ) (clear : NoneHolds (imageRows os)) where
       let c = each-none rows (transitionCountOf os) 0 (parts .2) k h in
       rows-ok (stateCountOf os) (transitionAt os (transitionPlace (stateCountOf os) k)) (subst (λ (i : ℕ). NoneHolds (rows i)) (zero-add k) c)
 
--- every image read writes back as those octets, and holds a plan within the limits
+-- every image read is by its own version the image of the plan that it holds, and that is within the limits
 module _ (os : List ℕ) (clear : NoneHolds (imageRows os)) where
   N : ℕ
   N = stateCountOf os
@@ -442,11 +473,14 @@ module _ (os : List ℕ) (clear : NoneHolds (imageRows os)) where
       bits-of-items transitionFields 40 transition-width (bits os) (λ i. transitionAt os (transitionPlace (stateCountOf os) i)) (32 + 8 * stateCountOf os) (transitionCountOf os)
       (λ k l. bits-of-transition os (transitionPlace (stateCountOf os) k) (omega (arith, length-bits os, h .long)))
 
-  header-bits : take 32 (bits os) ≡ bitsOfAll (headerFields N M)
-  unfolding widthOfAll N M
+  W : ℕ
+  W = versionOf os
+
+  header-bits : take 32 (bits os) ≡ bitsOfAll (headerFields W N M)
+  unfolding widthOfAll N M W
   header-bits =
       let h = read-header os clear in
-      let u : unpack os 0 (4 ∷ 10 ∷ 12 ∷ 6 ∷ []) ≡ headerFields (stateCountOf os) (transitionCountOf os) = four os 0 4 10 12 6 ∙ rw (h .version, h .pad) refl in
+      let u : unpack os 0 (4 ∷ 10 ∷ 12 ∷ 6 ∷ []) ≡ headerFields (versionOf os) (stateCountOf os) (transitionCountOf os) = four os 0 4 10 12 6 ∙ rw (h .pad) refl in
       let w : widthOfAll (unpack os 0 (4 ∷ 10 ∷ 12 ∷ 6 ∷ [])) ≡ 32 = ap widthOfAll u in
       ap (λ (k : ℕ). take k (bits os)) (sym w) ∙ sym (bits-of-unpack os (4 ∷ 10 ∷ 12 ∷ 6 ∷ []) 0 (rw w (omega (arith, h .long)))) ∙ ap bitsOfAll u
 
@@ -458,8 +492,8 @@ module _ (os : List ℕ) (clear : NoneHolds (imageRows os)) where
   unfolding ts
   m-transitions = length-tabulate M (λ i. transitionAt os (transitionPlace N i))
 
-  read-bits : bits os ≡ bitsOfAll (imageFields (graphIn os))
-  unfolding imageFields graphIn N M ss ts
+  read-bits : bits os ≡ bitsOfAll (imageFields (versionOf os) (graphIn os))
+  unfolding imageFields graphIn N M W ss ts
   read-bits =
       let h = read-header os clear in
       let s : List Field = fieldsOfEach stateFields ss in
@@ -470,10 +504,10 @@ module _ (os : List ℕ) (clear : NoneHolds (imageRows os)) where
       ∙ ap₂ {C = List Bool} (λ (x y : List Bool). x ++ y) header-bits
       (sym (take-append-drop (8 * N) (drop 32 (bits os)))
       ∙ ap₂ {C = List Bool} (λ (x y : List Bool). x ++ y) states-bits (drop-drop (8 * N) 32 (bits os) ∙ sym end ∙ transitions-bits))
-      ∙ sym (append-assoc (bitsOfAll (headerFields N M)) (bitsOfAll s) (bitsOfAll t))
-      ∙ ap {B = List Bool} (λ (x : List Bool). x ++ bitsOfAll t) (sym (bitsOfAll-append (headerFields N M) s))
-      ∙ sym (bitsOfAll-append (headerFields N M ++ s) t)
-      ∙ ap₂ (λ (a b : ℕ). bitsOfAll (headerFields a b ++ s ++ t)) (sym n-states) (sym m-transitions)
+      ∙ sym (append-assoc (bitsOfAll (headerFields W N M)) (bitsOfAll s) (bitsOfAll t))
+      ∙ ap {B = List Bool} (λ (x : List Bool). x ++ bitsOfAll t) (sym (bitsOfAll-append (headerFields W N M) s))
+      ∙ sym (bitsOfAll-append (headerFields W N M ++ s) t)
+      ∙ ap₂ (λ (a b : ℕ). bitsOfAll (headerFields W a b ++ s ++ t)) (sym n-states) (sym m-transitions)
 
   clear-within : within (graphIn os) ≡ true
   unfolding graphIn N M ss ts
@@ -491,16 +525,35 @@ module _ (os : List ℕ) (clear : NoneHolds (imageRows os)) where
             ∙ all-tabulate (transitionOk N) M (λ i. transitionAt os (transitionPlace N i)) (transition-ok os clear);
       })
 
+no-teams-held : (os : List ℕ) → versionOf os ≡ 1 → (s : ℕ) → s < states (graphIn os) → teamOf (graphIn os) s ≡ 0
+unfolding graphIn teamOf
+no-teams-held os one s h =
+    let f : ℕ → State = λ i. stateAt os (statePlace i) in
+    ap (λ (x : State). x .team) (getD-tabulate (stateCountOf os) f s (marked 0) (rw (length-tabulate (stateCountOf os) f) at h)) ∙ rw one refl
+
 module _ (os : List ℕ) (g : Graph) (e : readImage os ≡ accepted g) where
   accepted-as-held : NoneHolds (imageRows os) × (graphIn os ≡ g)
   unfolding readImage
   accepted-as-held = accepted-only (imageRows os) (graphIn os) g e
 
-  pub image-read : Octets os → image g ≡ os
-  unfolding image
+  pub image-read : Octets os → imageBy (versionOf os) g ≡ os
+  unfolding imageBy
   image-read ho =
       let (c, s) = accepted-as-held in
-      pack-of-bits os (imageFields g) ho (read-bits os c ∙ ap (λ (x : Graph). bitsOfAll (imageFields x)) s)
+      pack-of-bits os (imageFields (versionOf os) g) ho (read-bits os c ∙ ap (λ (x : Graph). bitsOfAll (imageFields (versionOf os) x)) s)
+
+  -- by one of the two versions, and by version 1 all teams are zero
+  no-teams : versionOf os ≡ 1 → (s : ℕ) → s < states g → teamOf g s ≡ 0
+  no-teams one s h =
+      let e = accepted-as-held .1 in
+      ap (λ (x : Graph). teamOf x s) (sym e) ∙ no-teams-held os one s (subst (λ (x : Graph). s < states x) (sym e) h)
+
+  pub read-version : ((versionOf os ≡ 1) × ((s : ℕ) → s < states g → teamOf g s ≡ 0)) ⊎ (versionOf os ≡ 2)
+  read-version = go (eqb (versionOf os) 1) refl (read-header os (accepted-as-held .0) .version)
+    where
+      go : (b : Bool) → eqb (versionOf os) 1 ≡ b → (b || eqb (versionOf os) 2) ≡ true → ((versionOf os ≡ 1) × ((s : ℕ) → s < states g → teamOf g s ≡ 0)) ⊎ (versionOf os ≡ 2)
+      go true e h = let one = eqb-true (versionOf os) 1 e in inl (one, no-teams one)
+      go false e h = inr (eqb-true (versionOf os) 2 h)
 
   pub read-within : within g ≡ true
   read-within = let (c, s) = accepted-as-held in ap within (sym s) ∙ clear-within os c
@@ -513,17 +566,18 @@ image-inj g h p q e =
     let s : _≡_ {A = Result Graph} (accepted g) (accepted h) = sym (read-image g p) ∙ ap readImage e ∙ read-image h q in
     cc
 
--- octets that hold a plan are its image and no others are
-pub read-unique : (os ps : List ℕ) (g : Graph) → Octets os → Octets ps → readImage os ≡ accepted g → readImage ps ≡ accepted g → os ≡ ps
-read-unique os ps g ho hp e f = sym (image-read os g e ho) ∙ image-read ps g f hp
+-- octets of one version that hold a plan are its image and no others are
+pub read-unique : (os ps : List ℕ) (g : Graph) → Octets os → Octets ps → versionOf os ≡ versionOf ps → readImage os ≡ accepted g → readImage ps ≡ accepted g
+    → os ≡ ps
+read-unique os ps g ho hp v e f = sym (image-read os g e ho) ∙ ap (λ (w : ℕ). imageBy w g) v ∙ image-read ps g f hp
 
--- every list of octets is the image of a plan within the limits, or is refused by a row of the image that holds
+-- every list of octets is by its version the image of a plan within the limits, or is refused by a row of the image that holds
 pub read-decided : (os : List ℕ) → Octets os
-    → ((g : Graph) × (readImage os ≡ accepted g) × (within g ≡ true) × (image g ≡ os)) ⊎ ((r : Refusal) × (readImage os ≡ refused r) × Holds r (imageRows os))
+    → ((g : Graph) × (readImage os ≡ accepted g) × (within g ≡ true) × (imageBy (versionOf os) g ≡ os)) ⊎ ((r : Refusal) × (readImage os ≡ refused r) × Holds r (imageRows os))
 unfolding readImage
 read-decided os ho = go (readImage os) refl
   where
     go : (o : Result Graph) → readImage os ≡ o
-        → ((g : Graph) × (readImage os ≡ accepted g) × (within g ≡ true) × (image g ≡ os)) ⊎ ((r : Refusal) × (readImage os ≡ refused r) × Holds r (imageRows os))
+        → ((g : Graph) × (readImage os ≡ accepted g) × (within g ≡ true) × (imageBy (versionOf os) g ≡ os)) ⊎ ((r : Refusal) × (readImage os ≡ refused r) × Holds r (imageRows os))
     go (accepted g) e = inl (g, e, read-within os g e, image-read os g e ho)
     go (refused r) e = inr (r, e, only-grounds (imageRows os) (graphIn os) r e)

@@ -16,7 +16,7 @@ use Rattle.rules.specs.Rules.{limitRow, bufferRow}
 
 -- ---- import
 
--- "Import marks only the initial state, as start": n states so
+-- "Import marks only the initial state, as start": n states so; "Aldebaran text read with all teams zero" (E4)
 abbrev pub statesFrom : ℕ → ℕ → List State
 statesFrom n initial = set (replicate n (marked 0)) initial (marked (marksFrom 1 0 0))
 
@@ -83,7 +83,7 @@ exportRows g buffer = limitRow g ∷ (StartCount, not (eqb (length (starts g)) 1
 unfoldable pub exportRule : Graph → List ℕ → Result ℕ
 exportRule g buffer = byTable (exportRows g buffer) (length (exportText g))
 
--- "the plan stripped of its final and counted marks"
+-- "the plan stripped of its final and counted marks", and "exported text comes back without its teams too" (E4)
 abbrev pub stripped : Graph → Graph
 stripped g =
     record {

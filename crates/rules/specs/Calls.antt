@@ -7,12 +7,14 @@ use Rattle.rules.specs.declared.Format.the-variants.{Image, Text}
 use Rattle.rules.specs.Refusal.{Result, answerOf}
 use Rattle.rules.specs.Table.{Row, byTable}
 use Rattle.rules.specs.Image.{graphIn}
-use Rattle.rules.specs.Rules.{freshGraph, withMark, withTransition, without, markRows, joinRows, unjoinRows, readRows, next}
+use Rattle.rules.specs.Rules.{freshGraph, withMark, withTeam, withTransition, without, markRows, teamRows, joinRows, unjoinRows, readRows, next}
 use Rattle.rules.specs.Aldebaran.{importRows, graphInText}
 
--- a call with its arguments, "for read the octets lent to it"; document 02, E1, of import: "demand 3's lists may hold it"
+-- a call with its arguments, "for read the octets lent to it"; document 02, E1, of import: "demand 3's lists may hold it"; E4, of team: "The list of edits behind a
+-- quotation may include the new call"
 pub data Call : Type 0 where
   mark : ℕ → ℕ → Call
+  team : ℕ → ℕ → Call
   join : Transition → Call
   unjoin : ℕ → Call
   read : List ℕ → Call
@@ -26,6 +28,7 @@ replacing Text octets = import octets
 -- its rows of the table
 abbrev pub rowsOf : Graph → Call → List Row
 rowsOf g (mark state value) = markRows g state value
+rowsOf g (team state number) = teamRows g state number
 rowsOf g (join t) = joinRows g t
 rowsOf g (unjoin number) = unjoinRows g number
 rowsOf g (read octets) = readRows g octets
@@ -34,6 +37,7 @@ rowsOf g (import text) = importRows g text
 -- what "the plan changes" to; for read "the one that the octets hold by the layout"
 abbrev pub effectOf : Graph → Call → Graph
 effectOf g (mark state value) = withMark g state value
+effectOf g (team state number) = withTeam g state number
 effectOf g (join t) = withTransition g t
 effectOf g (unjoin number) = without g number
 effectOf g (read octets) = graphIn octets

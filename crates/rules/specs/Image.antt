@@ -1,10 +1,10 @@
 -- The image of a plan, and the plan that octets hold. Document 01, "The image", and the order of read's refusals. Assumes nothing.
-use mathlib.Core.Bool.{not}
+use mathlib.Core.Bool.{Bool, not, cond, _||_}
 use mathlib.Core.List.{List, [], _∷_, _++_}
 use Prim.Native.Nat.{ℕ, zero, suc, _+_, _*_}
 use lib.Dec.{leb, ltb, eqb}
 use lib.ListN.{length}
-use Rattle.graph.specs.Graph.{Graph, State, Transition, marked, states, count, startBit, finalBit, countedBit, marksFrom}
+use Rattle.graph.specs.Graph.{Graph, State, Transition, stateWith, states, count, startBit, finalBit, countedBit, marksFrom}
 use Rattle.field.specs.Field.{Field, fieldAt, pack}
 use Rattle.rules.specs.declared.Refusal.the-variants.{ImageShort, ImageLong, Version, StateCount, TransitionCount}
 use Rattle.rules.specs.declared.Refusal.the-variants.{SpareBits, Duration, FromState, ToState}
@@ -23,7 +23,7 @@ tabulate (suc n) f = tabulate n f ++ (f n ∷ [])
 abbrev pub field : ℕ → ℕ → Field
 field w v = record { width = w; value = v }
 
--- the widths of the four fields of the header, of a state and of a transition: "version, 4 bits, the value 1; state count, 10 bits; transition count,
+-- the widths of the four fields of the header, of a state and of a transition: "version, 4 bits ..; state count, 10 bits; transition count,
 -- 12 bits; pad, 6 bits, zero"
 pub record Widths : Type 0 where
   pub first : ℕ
@@ -34,7 +34,7 @@ pub record Widths : Type 0 where
 abbrev pub header : Widths
 header = record { first = 4; second = 10; third = 12; fourth = 6 }
 
--- "for each state, one octet: start, final, counted, one bit each; then 5 spare bits, zero"
+-- "for each state, one octet: start, final, counted, one bit each; then 5" bits: "The five spare bits become a team number" (document 02, E4)
 abbrev pub stateItem : Widths
 stateItem = record { first = 1; second = 1; third = 1; fourth = 5 }
 
@@ -46,11 +46,11 @@ transitionItem = record { first = 9; second = 9; third = 11; fourth = 11 }
 abbrev pub fieldsOf : Widths → ℕ → ℕ → ℕ → ℕ → List Field
 fieldsOf w a b c d = field (w .first) a ∷ field (w .second) b ∷ field (w .third) c ∷ field (w .fourth) d ∷ []
 
-abbrev pub headerFields : ℕ → ℕ → List Field
-headerFields n m = fieldsOf header 1 n m 0
+abbrev pub headerFields : ℕ → ℕ → ℕ → List Field
+headerFields version n m = fieldsOf header version n m 0
 
 abbrev pub stateFields : State → List Field
-stateFields s = fieldsOf stateItem (startBit (s .marks)) (finalBit (s .marks)) (countedBit (s .marks)) 0
+stateFields s = fieldsOf stateItem (startBit (s .marks)) (finalBit (s .marks)) (countedBit (s .marks)) (s .team)
 
 abbrev pub transitionFields : Transition → List Field
 transitionFields t = fieldsOf transitionItem (t .from) (t .to) (t .low) (t .high)
@@ -60,14 +60,18 @@ unfoldable pub fieldsOfEach : {A : Type 0} → (A → List Field) → List A →
 fieldsOfEach fields [] = []
 fieldsOfEach fields (x ∷ xs) = fields x ++ fieldsOfEach fields xs
 
--- "in this order"
-unfoldable pub imageFields : Graph → List Field
-imageFields g =
-    headerFields (states g) (count g) ++ fieldsOfEach stateFields (g .stateList) ++ fieldsOfEach transitionFields (g .transitions)
+-- "in this order"; a version 1 image has zeros for the teams, so it holds no other plan
+unfoldable pub imageFields : ℕ → Graph → List Field
+imageFields version g =
+    headerFields version (states g) (count g) ++ fieldsOfEach stateFields (g .stateList) ++ fieldsOfEach transitionFields (g .transitions)
 
--- the octets of a plan's image
-unfoldable pub image : Graph → List ℕ
-image g = pack (imageFields g)
+-- the octets of a plan's image by a version
+unfoldable pub imageBy : ℕ → Graph → List ℕ
+imageBy version g = pack (imageFields version g)
+
+-- "The image version becomes 2. .. Write always produces version 2" (document 02, E4)
+abbrev pub image : Graph → List ℕ
+image g = imageBy 2 g
 
 -- "The length is 4 + n + 5 × m octets"
 abbrev pub imageLength : ℕ → ℕ → ℕ
@@ -108,12 +112,22 @@ statePlace i = 32 + 8 * i
 abbrev pub transitionPlace : ℕ → ℕ → ℕ
 transitionPlace n i = 32 + 8 * n + 40 * i
 
+-- what the last five bits of a state are: spare in version 1, a team in version 2. "Version 1 .. read with all teams zero"; "in version 2 the spare-bit ground of 6
+-- lapses" (document 02, E4)
+abbrev pub spareIn : ℕ → ℕ → ℕ
+spareIn version five = cond (eqb version 1) five 0
+
+abbrev pub teamIn : ℕ → ℕ → ℕ
+teamIn version five = cond (eqb version 1) 0 five
+
 -- the state at a bit position, and its spare bits
 abbrev pub stateAt : List ℕ → ℕ → State
-stateAt os at = marked (marksFrom (firstOf stateItem os at) (secondOf stateItem os at) (thirdOf stateItem os at))
+stateAt os at =
+    stateWith (marksFrom (firstOf stateItem os at) (secondOf stateItem os at) (thirdOf stateItem os at))
+    (teamIn (versionOf os) (fourthOf stateItem os at))
 
 abbrev pub spareAt : List ℕ → ℕ → ℕ
-spareAt os at = fourthOf stateItem os at
+spareAt os at = spareIn (versionOf os) (fourthOf stateItem os at)
 
 -- the transition at a bit position
 abbrev pub transitionAt : List ℕ → ℕ → Transition
@@ -135,11 +149,15 @@ graphIn os =
 
 -- ---- the rows of read
 
+-- "Version 1 and Aldebaran text read ..; other versions return 3." (document 02, E4)
+abbrev pub versionOk : ℕ → Bool
+versionOk version = eqb version 1 || eqb version 2
+
 -- the header and the length: "1 for under 4 octets, 3, 4, 5, 6 for pad, 1, 2"
 unfoldable pub headerRows : List ℕ → List Row
 headerRows os =
     (ImageShort, ltb (length os) 4)
-    ∷ (Version, not (eqb (versionOf os) 1))
+    ∷ (Version, not (versionOk (versionOf os)))
     ∷ (StateCount, not (stateCountOk (stateCountOf os)))
     ∷ (TransitionCount, not (transitionCountOk (transitionCountOf os)))
     ∷ (SpareBits, not (eqb (padOf os) 0))
@@ -147,7 +165,7 @@ headerRows os =
     ∷ (ImageLong, ltb (imageLength (stateCountOf os) (transitionCountOf os)) (length os))
     ∷ []
 
--- a state: 6
+-- a state: 6, of version 1
 abbrev pub stateRows : List ℕ → ℕ → List Row
 stateRows os i = (SpareBits, not (eqb (spareAt os (statePlace i)) 0)) ∷ []
 

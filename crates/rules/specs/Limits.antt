@@ -3,6 +3,7 @@ use mathlib.Core.Bool.{Bool, true, _&&_}
 use mathlib.Core.List.{List, [], _∷_}
 use Prim.Native.Nat.{ℕ}
 use lib.Dec.{leb, ltb}
+use Rattle.graph.specs.Class.{teamOk}
 use Rattle.graph.specs.Graph.{Graph, State, Transition, states, count}
 
 -- a test holds of every element
@@ -22,9 +23,9 @@ transitionCountOk m = leb m 2048
 abbrev pub marksOk : ℕ → Bool
 marksOk v = leb v 7
 
--- the limits of a state
+-- the limits of a state: its marks value, and "a team number, 0 to 31" (document 02, E4)
 abbrev pub stateOk : State → Bool
-stateOk s = marksOk (s .marks)
+stateOk s = marksOk (s .marks) && teamOk (s .team)
 
 -- "a from state, a to state": both are states of a plan with n of them
 abbrev pub endsOk : ℕ → Transition → Bool

@@ -7,11 +7,14 @@ use mathlib.Core.Path.{_≡_}
 use Prim.Native.Nat.{ℕ, _*_, _≤_}
 use lib.Dec.{ltb}
 use lib.ListN.{length, take, drop}
-use Rattle.graph.specs.Graph.{Graph, states}
+use Rattle.graph.specs.Class.{figureOf, counting}
+use Rattle.graph.specs.Graph.{Graph, states, counted}
 use Rattle.graph.specs.Route.{Cost, Route, GoesOnForever, EndsUnanswered, total}
-use Rattle.graph.specs.Figure.{Figure, number, NONE, STRANDED, ENDLESS, kind, value, NoStart, Shown, costFor}
+use Rattle.graph.specs.Figure.{Figure, number, NONE, STRANDED, ENDLESS, kind, value, NoStart, Shown, costOver}
 use Rattle.graph.specs.Compute.{least, greatest, figureFor}
 use Rattle.graph.specs.Which.{place, four, inTurn, some}
+use Rattle.graph.specs.declared.Asked.{Asked}
+use Rattle.graph.specs.declared.Asked.the-variants.{One, LeastCountFor, GreatestCountFor}
 use Rattle.graph.specs.declared.Which.{Which}
 use Rattle.graph.specs.declared.Which.the-variants.{LeastDelay, GreatestDelay, LeastCount, GreatestCount}
 use Rattle.field.specs.Field.{Field, pack}
@@ -29,7 +32,7 @@ use Rattle.rules.specs.declared.Refusal.{Refusal}
 use Rattle.rules.specs.declared.Written.{Written}
 use Rattle.rules.specs.Refusal.{Result, accepted, refused, wrote}
 use Rattle.rules.specs.Table.{Row, byTable, first}
-use Rattle.rules.specs.Rules.{limitRow, bufferRow, written}
+use Rattle.rules.specs.Rules.{limitRow, bufferRow, teamRow, written}
 
 -- ---- the answers
 
@@ -51,12 +54,18 @@ saidQuotations (NoneQuoted r) = refused r
 
 -- ---- the rules
 
--- a quotation that was lent places for its walk: 0, then 11 for fewer than "n places"
-abbrev pub quoteRows : Graph → List ℕ → List Row
-quoteRows g places = limitRow g ∷ bufferRow places (states g) ∷ []
+-- "A team above 31 returns 18, after 7 and before 11" (document 02, E4), of what is quoted for a team's class
+abbrev pub nameRows : Asked → List Row
+nameRows (One which) = []
+nameRows (LeastCountFor team) = teamRow team ∷ []
+nameRows (GreatestCountFor team) = teamRow team ∷ []
 
-unfoldable pub quoteRule : Graph → List ℕ → Result (Unit {0})
-quoteRule g places = first (quoteRows g places)
+-- a quotation that was lent places for its walk: 0, 18 for one that names no team, then 11 for fewer than "n places"
+abbrev pub quoteRows : Asked → Graph → List ℕ → List Row
+quoteRows asked g places = limitRow g ∷ (nameRows asked ++ (bufferRow places (states g) ∷ []))
+
+unfoldable pub quoteRule : Asked → Graph → List ℕ → Result (Unit {0})
+quoteRule asked g places = first (quoteRows asked g places)
 
 -- "a kind of 2 bits (0 number, 1 NONE, 2 STRANDED, 3 ENDLESS) and a figure of 20 bits, zero unless the kind is 0"
 abbrev pub figureFields : Figure → List Field
@@ -103,11 +112,11 @@ unfoldable pub heldRule : List ℕ → List ℕ → Result (Unit {0})
 heldRule image walks = first (heldRows image walks)
 
 -- a quotation for other languages: its own rows, then 11 for fewer than 4 places of the answer
-abbrev pub lentQuoteRows : Graph → List ℕ → List ℕ → List Row
-lentQuoteRows g walk out = quoteRows g walk ++ (bufferRow out 4 ∷ [])
+abbrev pub lentQuoteRows : Asked → Graph → List ℕ → List ℕ → List Row
+lentQuoteRows asked g walk out = quoteRows asked g walk ++ (bufferRow out 4 ∷ [])
 
-unfoldable pub lentQuoteRule : Graph → List ℕ → List ℕ → Result (Unit {0})
-lentQuoteRule g walk out = first (lentQuoteRows g walk out)
+unfoldable pub lentQuoteRule : Asked → Graph → List ℕ → List ℕ → Result (Unit {0})
+lentQuoteRule asked g walk out = first (lentQuoteRows asked g walk out)
 
 -- all four of an image for other languages: their own rows, then 11 for fewer than 16
 abbrev pub lentHeldRows : List ℕ → List ℕ → List ℕ → List Row
@@ -178,17 +187,25 @@ Says = Figure → ℕ → ℕ → List ℕ → List ℕ → Type 0
 abbrev pub Stated : Says → Quote → List ℕ → List ℕ → Type 0
 Stated P q before after = P (meant (q .figure)) (q .k) (q .j) before after
 
-abbrev pub says : Which → Graph → Says
-says LeastDelay g = LeastQuoted g (costFor LeastDelay g)
-says GreatestDelay g = GreatestQuoted g (costFor GreatestDelay g)
-says LeastCount g = LeastQuoted g (costFor LeastCount g)
-says GreatestCount g = GreatestQuoted g (costFor GreatestCount g)
+-- of each figure, "once, over any yes-or-no on states" (document 02, E4): p says which states count
+abbrev pub saysOver : Which → (ℕ → Bool) → Graph → Says
+saysOver LeastDelay p g = LeastQuoted g (costOver LeastDelay p g)
+saysOver GreatestDelay p g = GreatestQuoted g (costOver GreatestDelay p g)
+saysOver LeastCount p g = LeastQuoted g (costOver LeastCount p g)
+saysOver GreatestCount p g = GreatestQuoted g (costOver GreatestCount p g)
 
--- a quotation of the plan g: its answer is the rule's, a refusal leaves every lent place, and an accepted one says what its figure's does
-pub record Quotes (which : Which) (g : Graph) (before after : List ℕ) (r : Quotation) : Type 0 where
-  pub answer : saidQuotation r ≡ quoteRule g before
-  pub kept : (k : Refusal) → quoteRule g before ≡ refused k → after ≡ before
-  pub quoted : (q : Quote) → r ≡ Quoted q → Stated (says which g) q before after
+-- of what is quoted; and of one of the four, by the counted mark
+abbrev pub saysAsked : Asked → Graph → Says
+saysAsked asked g = saysOver (figureOf asked) (counting asked g) g
+
+abbrev pub says : Which → Graph → Says
+says which g = saysOver which (counted g) g
+
+-- a quotation of the plan g: its answer is the rule's, a refusal leaves every lent place, and an accepted one says what it should
+pub record Quotes (asked : Asked) (g : Graph) (before after : List ℕ) (r : Quotation) : Type 0 where
+  pub answer : saidQuotation r ≡ quoteRule asked g before
+  pub kept : (k : Refusal) → quoteRule asked g before ≡ refused k → after ≡ before
+  pub quoted : (q : Quote) → r ≡ Quoted q → Stated (saysAsked asked g) q before after
 
 -- ---- all four at once
 

@@ -7,9 +7,9 @@ use Rattle.rules.specs.declared.Refusal.{Refusal}
 use Rattle.rules.specs.declared.Written.{Written}
 use Rattle.rules.specs.declared.Refusal.the-variants.{PlanLimits, ImageShort, ImageLong, Version, StateCount, TransitionCount}
 use Rattle.rules.specs.declared.Refusal.the-variants.{SpareBits, StateNumber, Duration, ListFull, TransitionNumber, BufferLength}
-use Rattle.rules.specs.declared.Refusal.the-variants.{MarksValue, FigureSize, StartCount, TextForm, FromState, ToState}
+use Rattle.rules.specs.declared.Refusal.the-variants.{MarksValue, FigureSize, StartCount, TextForm, FromState, ToState, TeamNumber}
 
--- the column "returned" of the table; 14 and 15 by document 02, E1, 16 and 17 by E3
+-- the column "returned" of the table; 14 and 15 by document 02, E1, 16 and 17 by E3, 18 by E4
 abbrev pub number : Refusal → ℕ
 number PlanLimits = 0
 number ImageShort = 1
@@ -29,6 +29,7 @@ number StartCount = 14
 number TextForm = 15
 number FromState = 16
 number ToState = 17
+number TeamNumber = 18
 
 -- "whether it is refused, and by which number": accepted with a result, or refused by a row of the table and "no other result"
 pub data Result (A : Type 0) : Type 0 where

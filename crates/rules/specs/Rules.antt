@@ -5,9 +5,10 @@ use mathlib.Core.List.{List, [], _∷_, _++_}
 use Prim.Native.Nat.{ℕ, suc}
 use lib.Dec.{leb, ltb}
 use lib.ListN.{length, take, drop, set, replicate}
-use Rattle.graph.specs.Graph.{Graph, Transition, marked, states, count}
+use Rattle.graph.specs.Class.{teamOk}
+use Rattle.graph.specs.Graph.{Graph, Transition, stateWith, marked, states, count, state}
 use Rattle.rules.specs.declared.Refusal.the-variants.{PlanLimits, StateCount, StateNumber, ListFull}
-use Rattle.rules.specs.declared.Refusal.the-variants.{TransitionNumber, BufferLength, MarksValue}
+use Rattle.rules.specs.declared.Refusal.the-variants.{TransitionNumber, BufferLength, MarksValue, TeamNumber}
 use Rattle.rules.specs.Refusal.{Result, accepted, refused}
 use Rattle.rules.specs.Table.{Row, byTable}
 use Rattle.rules.specs.Limits.{within, stateCountOk, marksOk}
@@ -15,13 +16,17 @@ use Rattle.rules.specs.Image.{imageRows, transitionRows, imageLength}
 
 -- ---- the events
 
--- "n states, all marks 0, no transitions"
+-- "n states, all marks 0, no transitions", and a team that is "zero after fresh" (document 02, E4)
 abbrev pub freshGraph : ℕ → Graph
 freshGraph n = record { stateList = replicate n (marked 0); transitions = [] }
 
--- "that state's value becomes it"
+-- "that state's value becomes it"; "mark leaves" the team (E4)
 abbrev pub withMark : Graph → ℕ → ℕ → Graph
-withMark g state value = record { stateList = set (g .stateList) state (marked value); transitions = g .transitions }
+withMark g s value = record { stateList = set (g .stateList) s (stateWith value (state g s .team)); transitions = g .transitions }
+
+-- "a team number, 0 to 31, set by its own call" (E4); it leaves the marks
+abbrev pub withTeam : Graph → ℕ → ℕ → Graph
+withTeam g s team = record { stateList = set (g .stateList) s (stateWith (state g s .marks) team); transitions = g .transitions }
 
 -- "the transition goes to the end of the list"
 abbrev pub withTransition : Graph → Transition → Graph
@@ -57,6 +62,17 @@ markGrounds n state value = (StateNumber, leb n state) ∷ (MarksValue, not (mar
 
 abbrev pub markRows : Graph → ℕ → ℕ → List Row
 markRows g state value = limitRow g ∷ markGrounds (states g) state value
+
+-- "A team above 31 returns 18, after 7 and before 11" (document 02, E4)
+abbrev pub teamRow : ℕ → Row
+teamRow team = (TeamNumber, not (teamOk team))
+
+-- team: 7, 18, of n states
+abbrev pub teamGrounds : ℕ → ℕ → ℕ → List Row
+teamGrounds n state team = (StateNumber, leb n state) ∷ teamRow team ∷ []
+
+abbrev pub teamRows : Graph → ℕ → ℕ → List Row
+teamRows g state team = limitRow g ∷ teamGrounds (states g) state team
 
 -- "In join": the transition's, 16, 17, 8, and then 9, of n states and m transitions
 abbrev pub joinGrounds : ℕ → ℕ → Transition → List Row

@@ -8,15 +8,15 @@ pub enum Refusal {
     ImageShort,
     // more octets than the counts give
     ImageLong,
-    // version not 1
+    // version neither 1 nor 2
     Version,
     // state count 0 or above 512
     StateCount,
     // transition count above 2,048
     TransitionCount,
-    // a pad or spare bit set
+    // a pad bit set, or a spare bit of version 1
     SpareBits,
-    // a state number not below n: of mark, or an initial state
+    // a state number not below n: of mark or team, or an initial state
     StateNumber,
     // low above high, or high above 2,047
     Duration,
@@ -38,6 +38,8 @@ pub enum Refusal {
     FromState,
     // a transition's to not below n
     ToState,
+    // a team above 31
+    TeamNumber,
 }
 
 // What the octets that replace a plan are: its image, which is read, or its text, which is imported.

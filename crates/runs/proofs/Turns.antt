@@ -29,6 +29,9 @@ over-over : (xs ys zs : List ℕ) → length xs ≡ length ys → over xs (over 
 over-over xs ys zs e =
     ap {B = List ℕ} (λ (l : List ℕ). xs ++ l) (drop-at ys (drop (length ys) zs) (length xs) (sym e) ∙ ap (λ (k : ℕ). drop k zs) (sym e))
 
+states-long : (p : Plan) → Sized p → length (p .marks ++ p .teams) ≡ 1024
+states-long p z = omega (arith, length-append (p .marks) (p .teams), z .marks, z .teams)
+
 fields-long : (p : Plan) → Sized p → length (p .from ++ p .to ++ p .low ++ p .high) ≡ 8192
 fields-long p z =
     omega (arith, length-append (p .from ++ p .to ++ p .low) (p .high), length-append (p .from ++ p .to) (p .low), length-append (p .from) (p .to), z .from, z .to, z .low, z .high)
@@ -38,18 +41,19 @@ unfolding storing
 storing-twice p q s y z =
     λ i. record {
       counts = over-over (p .states ∷ p .transitions ∷ []) (q .states ∷ q .transitions ∷ []) (s .counts) refl i;
-      marks = over-over (p .marks) (q .marks) (s .marks) (y .marks ∙ sym (z .marks)) i;
+      states = over-over (p .marks ++ p .teams) (q .marks ++ q .teams) (s .states) (states-long p y ∙ sym (states-long q z)) i;
       fields = over-over (p .from ++ p .to ++ p .low ++ p .high) (q .from ++ q .to ++ q .low ++ q .high) (s .fields) (fields-long p y ∙ sym (fields-long q z)) i;
     }
 
 -- slices with room hold a plan value with arrays as long as a plan's
 held-sized : (s : Slices) → hasRoom s ≡ true → Sized (planIn s)
 held-sized s h =
-    let r = has-room (s .counts) (s .marks) (s .fields) h in
+    let r = has-room (s .counts) (s .states) (s .fields) h in
     let at : (k : ℕ) → k + 2048 ≤ 8192 → length (take 2048 (drop k (s .fields))) ≡ 2048 =
     λ k l. length-take-le 2048 (drop k (s .fields)) (omega (arith, length-drop k (s .fields), r .transitions)) in
     record {
-      marks = length-take-le 512 (s .marks) (r .states);
+      marks = length-take-le 512 (s .states) (omega (arith, r .states));
+      teams = length-take-le 512 (drop 512 (s .states)) (omega (arith, length-drop 512 (s .states), r .states));
       from = at 0 (omega arith);
       to = at 2048 (omega arith);
       low = at 4096 (omega arith);

@@ -9,19 +9,19 @@ pub fn in_turn(
     arguments: &[usize],
     octets: &[u8],
     counts: &mut [usize],
-    marks: &mut [u8],
+    states: &mut [u8],
     fields: &mut [u16],
     answers: &mut [u32],
 )
-    requires { ⌜ Callable (now kinds) (now arguments) (now octets) (now answers) × Roomy (now counts) (now marks) (now fields) ⌝ }
+    requires { ⌜ Callable (now kinds) (now arguments) (now octets) (now answers) × Roomy (now counts) (now states) (now fields) ⌝ }
     ensures { λ r. ⌜ LentTurns (callsIn (now (kinds .entry)) (now (arguments .entry)) (now (octets .entry)))
         (now (answers .entry)) (now (answers .exit))
-        (slices (now (counts .entry)) (now (marks .entry)) (now (fields .entry)))
-        (slices (now (counts .exit)) (now (marks .exit)) (now (fields .exit))) ⌝ }
+        (slices (now (counts .entry)) (now (states .entry)) (now (fields .entry)))
+        (slices (now (counts .exit)) (now (states .exit)) (now (fields .exit))) ⌝ }
 {
     let mut turn = 0;
     while turn < kinds.len() {
-        answers[turn] = item::obey(turn, kinds, arguments, octets, counts, marks, fields);
+        answers[turn] = item::obey(turn, kinds, arguments, octets, counts, states, fields);
         turn += 1;
     }
 }

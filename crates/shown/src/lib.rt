@@ -1,13 +1,13 @@
-// The figures of a plan within the limits, with the walks that show them: one, by which it is, or all four, by one search for what the starts reach.
+// The figures of a plan within the limits, with the walks that show them: what is asked for, or all four, by one search for what the starts reach.
 ghost use mathlib.Core.Bool.{true};
 ghost use mathlib.Core.Path.{_≡_};
 ghost use Prim.Native.Nat.{_≤_};
 ghost use lib.ListN.{length};
-ghost use Rattle.figures.specs.Figures.{planOf};
-ghost use Rattle.plan.specs.View.{view};
+ghost use Rattle.plan.specs.View.{planOf, view};
 ghost use Rattle.rules.specs.Limits.{within};
-ghost use Rattle.rules.specs.Quotations.{says, Stated, AllStated};
+ghost use Rattle.rules.specs.Quotations.{saysAsked, Stated, AllStated};
 ghost use Rattle.shown.specs.Places.{figureAt};
+use graph::Asked;
 use graph::Which;
 use plan::Plan;
 use reach::explore;
@@ -16,20 +16,21 @@ use rules::FourQuotes;
 use rules::Quote;
 use search::chain;
 
-// A figure of a plan, with the walk that shows it.
-pub fn show(which: Which, p: Plan, walk: &mut [u16]) -> Quote
+// What is asked for of a plan, with the walk that shows it.
+pub fn show(asked: Asked, p: Plan, walk: &mut [u16]) -> Quote
     requires { ⌜ (within (view p) ≡ true) × (p .states ≤ length (now walk)) ⌝ }
-    ensures { λ r. ⌜ Stated (says which (view p)) r (now (walk .entry)) (now (walk .exit)) ⌝ }
+    ensures { λ r. ⌜ Stated (saysAsked asked (view p)) r (now (walk .entry)) (now (walk .exit)) ⌝ }
 {
     let n = p.states;
     let m = p.transitions;
     let out = chain::chains(&p.from, m);
     let reached = explore::reach(n, &p.marks, &p.to, &out.head, &out.link);
     figures::figure(
-        which,
+        asked,
         n,
         m,
         &p.marks,
+        &p.teams,
         &p.from,
         &p.to,
         &p.low,
@@ -57,15 +58,16 @@ pub fn show_all<'a>(
     n: usize,
     m: usize,
     marks: &'a [u8; 512],
+    teams: &'a [u8; 512],
     from: &'a [u16; 2048],
     to: &'a [u16; 2048],
     low: &'a [u16; 2048],
     high: &'a [u16; 2048],
     walks: &mut [u16],
 ) -> FourQuotes
-    requires { ⌜ (within (view (planOf n m (now marks) (now from) (now to) (now low) (now high))) ≡ true) × (2048 ≤ length (now walks)) ⌝ }
+    requires { ⌜ (within (view (planOf n m (now marks) (now teams) (now from) (now to) (now low) (now high))) ≡ true) × (2048 ≤ length (now walks)) ⌝ }
     ensures { λ r. ⌜ AllStated
-        (view (planOf n m (now (marks .entry)) (now (from .entry)) (now (to .entry)) (now (low .entry)) (now (high .entry))))
+        (view (planOf n m (now (marks .entry)) (now (teams .entry)) (now (from .entry)) (now (to .entry)) (now (low .entry)) (now (high .entry))))
         r (now (walks .entry)) (now (walks .exit)) ⌝ }
 {
     let out = chain::chains(from, m);
@@ -79,11 +81,13 @@ pub fn show_all<'a>(
     while i < 4 {
         let at = 512 * i;
         let end = at + 512;
+        let which = figure_at(i);
         quotes[i] = figures::figure(
-            figure_at(i),
+            Asked::One(which),
             n,
             m,
             marks,
+            teams,
             from,
             to,
             low,

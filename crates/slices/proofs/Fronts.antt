@@ -31,6 +31,9 @@ past d s at n k hd hs l =
     ∙ drop-drop j (at + n) d ∙ ap (λ (i : ℕ). drop i d) e
 
 module _ (p : Plan) (z : Sized p) (c m f : List ℕ) (room : Roomy c m f) (same : SameLater p (slices c m f)) where
+  abbrev S₁ : List ℕ
+  S₁ = paste m 0 (p .marks) (p .states)
+
   abbrev M : ℕ
   M = p .transitions
 
@@ -43,6 +46,9 @@ module _ (p : Plan) (z : Sized p) (c m f : List ℕ) (room : Roomy c m f) (same 
   abbrev F₃ : List ℕ
   F₃ = paste F₂ 4096 (p .low) M
 
+  long-marks : length S₁ ≡ length m
+  long-marks = length-paste m 0 (p .marks) (p .states) (omega (arith, same .states, room .states)) (omega (arith, same .states, z .marks))
+
   long₁ : length F₁ ≡ length f
   long₁ = length-paste f 0 (p .from) M (omega (arith, same .transitions, room .transitions)) (omega (arith, same .transitions, z .from))
 
@@ -51,6 +57,9 @@ module _ (p : Plan) (z : Sized p) (c m f : List ℕ) (room : Roomy c m f) (same 
 
   long₃ : length F₃ ≡ length f
   long₃ = length-paste F₂ 4096 (p .low) M (omega (arith, same .transitions, room .transitions, long₂)) (omega (arith, same .transitions, z .low)) ∙ long₂
+
+  behind-marks : drop 512 S₁ ≡ drop 512 m
+  behind-marks = past m (p .marks) 0 (p .states) 512 (omega arith) (omega (arith, same .states, z .marks)) (omega (arith, same .states))
 
   behind₁ : (k : ℕ) → 2048 ≤ k → drop k F₁ ≡ drop k f
   behind₁ k l = past f (p .from) 0 M k (omega arith) (omega (arith, same .transitions, z .from)) (omega (arith, same .transitions))
@@ -62,10 +71,13 @@ module _ (p : Plan) (z : Sized p) (c m f : List ℕ) (room : Roomy c m f) (same 
   behind₃ k l = past F₂ (p .low) 4096 M k (omega (arith, long₂, room .transitions)) (omega (arith, same .transitions, z .low)) (omega (arith, same .transitions)) ∙ behind₂ k (omega arith)
 
   -- what was copied up to the counts is what `store` copies
-  pub fronts-stored : (m′ f′ : List ℕ) → m′ ≡ paste m 0 (p .marks) (p .states) → f′ ≡ paste F₃ 6144 (p .high) M
+  pub fronts-stored : (m′ f′ : List ℕ) → m′ ≡ paste S₁ 512 (p .teams) (p .states) → f′ ≡ paste F₃ 6144 (p .high) M
       → (slices (set (set c 0 (p .states)) 1 (p .transitions)) m′ f′ ≡ storing p (slices c m f)) × (planIn (slices (set (set c 0 (p .states)) 1 (p .transitions)) m′ f′) ≡ p)
   fronts-stored m′ f′ em ef =
       let T : List ℕ → List ℕ = λ l. take 2048 l in
+      let marks : S₁ ≡ paste m 0 (p .marks) 512 = rest-same m (p .marks) 0 (p .states) 512 (z .marks) (same .states) (omega (arith, room .states)) (same .marks) in
+      let teams : paste S₁ 512 (p .teams) (p .states) ≡ paste S₁ 512 (p .teams) 512 =
+      rest-same S₁ (p .teams) 512 (p .states) 512 (z .teams) (same .states) (omega (arith, room .states, long-marks)) (same .teams ∙ ap (λ (l : List ℕ). drop (p .states) (take 512 l)) (sym behind-marks)) in
       let one : F₁ ≡ paste f 0 (p .from) 2048 = rest-same f (p .from) 0 M 2048 (z .from) (same .transitions) (omega (arith, room .transitions)) (same .from) in
       let two : F₂ ≡ paste F₁ 2048 (p .to) 2048 =
       rest-same F₁ (p .to) 2048 M 2048 (z .to) (same .transitions) (omega (arith, room .transitions, long₁)) (same .to ∙ ap (λ (l : List ℕ). drop M (take 2048 l)) (sym (behind₁ 2048 (omega arith)))) in
@@ -73,6 +85,6 @@ module _ (p : Plan) (z : Sized p) (c m f : List ℕ) (room : Roomy c m f) (same 
       rest-same F₂ (p .low) 4096 M 2048 (z .low) (same .transitions) (omega (arith, room .transitions, long₂)) (same .low ∙ ap (λ (l : List ℕ). drop M (take 2048 l)) (sym (behind₂ 4096 (omega arith)))) in
       let four : paste F₃ 6144 (p .high) M ≡ paste F₃ 6144 (p .high) 2048 =
       rest-same F₃ (p .high) 6144 M 2048 (z .high) (same .transitions) (omega (arith, room .transitions, long₃)) (same .high ∙ ap (λ (l : List ℕ). drop M (take 2048 l)) (sym (behind₃ 6144 (omega arith)))) in
-      stored p z c m f m′ f′ room (em ∙ rest-same m (p .marks) 0 (p .states) 512 (z .marks) (same .states) (omega (arith, room .states)) (same .marks))
+      stored p z c m f m′ f′ room (em ∙ teams ∙ ap (λ (l : List ℕ). paste l 512 (p .teams) 512) marks)
       (ef ∙ four
       ∙ ap (λ (l : List ℕ). paste l 6144 (p .high) 2048) (three ∙ ap (λ (l : List ℕ). paste l 4096 (p .low) 2048) (two ∙ ap (λ (l : List ℕ). paste l 2048 (p .to) 2048) one)))

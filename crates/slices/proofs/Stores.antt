@@ -39,19 +39,21 @@ module _ (p : Plan) (z : Sized p) where
       let L = p .low in
       let H = p .high in
       let r : List ℕ = drop (length (F ++ T ++ L ++ H)) (s .fields) in
+      let q : List ℕ = drop (length (p .marks ++ p .teams)) (s .states) in
       let at : (k : ℕ) (l : List ℕ) → F ++ T ++ L ++ H ++ r ≡ l → take 2048 (drop k (F ++ T ++ L ++ H ++ r)) ≡ take 2048 (drop k l) =
       λ k l e. ap (λ (x : List ℕ). take 2048 (drop k x)) e in
       λ i. record {
         states = p .states;
         transitions = p .transitions;
-        marks = take-at (p .marks) (drop (length (p .marks)) (s .marks)) 512 (z .marks) i;
+        marks = (ap (λ (x : List ℕ). take 512 x) (append-assoc (p .marks) (p .teams) q) ∙ take-at (p .marks) (p .teams ++ q) 512 (z .marks)) i;
+        teams = (ap (λ (x : List ℕ). take 512 (drop 512 x)) (append-assoc (p .marks) (p .teams) q) ∙ part (p .marks) (p .teams) q 512 512 (z .marks) (z .teams)) i;
         from = (at 0 (F ++ (T ++ (L ++ (H ++ r)))) (simp append-assoc) ∙ take-at F (T ++ (L ++ (H ++ r))) 2048 (z .from)) i;
         to = (at 2048 (F ++ (T ++ (L ++ (H ++ r)))) (simp append-assoc) ∙ part F T (L ++ (H ++ r)) 2048 2048 (z .from) (z .to)) i;
         low = (at 4096 (F ++ T ++ (L ++ (H ++ r))) (simp append-assoc) ∙ part (F ++ T) L (H ++ r) 4096 2048 front (z .low)) i;
         high = (at 6144 (F ++ T ++ L ++ (H ++ r)) (simp append-assoc) ∙ part (F ++ T ++ L) H r 6144 2048 middle (z .high)) i;
       }
 
-  pub stored : (c m f m′ f′ : List ℕ) → Roomy c m f → m′ ≡ paste m 0 (p .marks) 512
+  pub stored : (c m f m′ f′ : List ℕ) → Roomy c m f → m′ ≡ paste (paste m 0 (p .marks) 512) 512 (p .teams) 512
       → f′ ≡ paste (paste (paste (paste f 0 (p .from) 2048) 2048 (p .to) 2048) 4096 (p .low) 2048) 6144 (p .high) 2048
       → (slices (set (set c 0 (p .states)) 1 (p .transitions)) m′ f′ ≡ storing p (slices c m f)) × (planIn (slices (set (set c 0 (p .states)) 1 (p .transitions)) m′ f′) ≡ p)
   unfolding storing
@@ -59,7 +61,9 @@ module _ (p : Plan) (z : Sized p) where
       let e : slices (set (set c 0 (p .states)) 1 (p .transitions)) m′ f′ ≡ storing p (slices c m f) =
       λ i. record {
         counts = counts-stored c (p .states) (p .transitions) (room .two) i;
-        marks = (em ∙ paste-over m [] (p .marks) 0 512 refl (z .marks)) i;
+        states =
+            (em ∙ ap (λ (l : List ℕ). paste l 512 (p .teams) 512) (paste-over m [] (p .marks) 0 512 refl (z .marks))
+            ∙ paste-over m (p .marks) (p .teams) 512 512 (z .marks) (z .teams)) i;
         fields = (ef ∙ four-copied (p .from) (p .to) (p .low) (p .high) 2048 (z .from) (z .to) (z .low) (z .high) f) i;
       } in
       (e, ap planIn e ∙ stored-back (slices c m f))
@@ -68,14 +72,14 @@ module _ (p : Plan) (z : Sized p) where
 
 pub has-room : (c m f : List ℕ) → roomy (length c) (length m) (length f) ≡ true → Roomy c m f
 has-room c m f e =
-    let a = and-true (leb 2 (length c)) (leb 512 (length m) && leb 8192 (length f)) e in
-    let b = and-true (leb 512 (length m)) (leb 8192 (length f)) (a .1) in
-    record { two = leb-true 2 (length c) (a .0); states = leb-true 512 (length m) (b .0); transitions = leb-true 8192 (length f) (b .1) }
+    let a = and-true (leb 2 (length c)) (leb 1024 (length m) && leb 8192 (length f)) e in
+    let b = and-true (leb 1024 (length m)) (leb 8192 (length f)) (a .1) in
+    record { two = leb-true 2 (length c) (a .0); states = leb-true 1024 (length m) (b .0); transitions = leb-true 8192 (length f) (b .1) }
 
-pub room-of : (s : Slices) → Roomy (s .counts) (s .marks) (s .fields) → hasRoom s ≡ true
+pub room-of : (s : Slices) → Roomy (s .counts) (s .states) (s .fields) → hasRoom s ≡ true
 room-of s r =
-    both-true (leb 2 (length (s .counts))) (leb 512 (length (s .marks)) && leb 8192 (length (s .fields))) (le-leb 2 (length (s .counts)) (r .two))
-    (both-true (leb 512 (length (s .marks))) (leb 8192 (length (s .fields))) (le-leb 512 (length (s .marks)) (r .states)) (le-leb 8192 (length (s .fields)) (r .transitions)))
+    both-true (leb 2 (length (s .counts))) (leb 1024 (length (s .states)) && leb 8192 (length (s .fields))) (le-leb 2 (length (s .counts)) (r .two))
+    (both-true (leb 1024 (length (s .states))) (leb 8192 (length (s .fields))) (le-leb 1024 (length (s .states)) (r .states)) (le-leb 8192 (length (s .fields)) (r .transitions)))
 
 -- a test does not come out both ways: slices have room, or they have none
 pub true-false : {A : Type 0} (b : Bool) → b ≡ true → b ≡ false → A

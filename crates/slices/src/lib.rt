@@ -1,4 +1,4 @@
-// A plan in three lent slices: the two counts; the marks values, 512 places; and the transitions' fields, 2,048 places each for from, to, low and
+// A plan in three lent slices: the two counts; the states, 512 marks values and 512 teams; and the transitions' fields, 2,048 places each for from, to, low and
 // high. Whether they have the room, a plan value loaded from them, and one stored in them,
 // by itself or as the plan of an accepted call. A call on the plan that they hold leaves the places past the new plan's counts, so only those up to them are
 // stored.
@@ -12,21 +12,21 @@ use plan::Plan;
 use rules::Answer;
 
 // Whether three lent slices have the places of a plan.
-pub fn has_room(counts: usize, marks: usize, fields: usize) -> bool
-    ensures { λ r. ⌜ r ≡ roomy counts marks fields ⌝ }
+pub fn has_room(counts: usize, states: usize, fields: usize) -> bool
+    ensures { λ r. ⌜ r ≡ roomy counts states fields ⌝ }
 {
-    (2 <= counts) & ((512 <= marks) & (8192 <= fields))
+    (2 <= counts) & ((1024 <= states) & (8192 <= fields))
 }
 
-// The first 512 octets of a slice, as an array.
-fn marks_of(places: &[u8]) -> [u8; 512]
-    requires { ⌜ 512 ≤ length (now places) ⌝ }
-    ensures { λ r. ⌜ r ≡ take 512 (now (places .entry)) ⌝ }
+// The 512 octets of a slice from a place on, as an array.
+fn states_of(places: &[u8], at: usize) -> [u8; 512]
+    requires { ⌜ at + 512 ≤ length (now places) ⌝ }
+    ensures { λ r. ⌜ r ≡ take 512 (drop at (now (places .entry))) ⌝ }
 {
     let mut out = [0u8; 512];
     let mut i = 0;
     while i < 512 {
-        out[i] = places[i];
+        out[i] = places[at + i];
         i += 1;
     }
     out
@@ -46,14 +46,14 @@ fn field_of(places: &[u16], at: usize) -> [u16; 2048]
     out
 }
 
-// Puts the first n of 512 octets at the front of a slice.
-fn put_marks(places: &mut [u8], marks: &[u8; 512], n: usize)
-    requires { ⌜ (n ≤ 512) × (512 ≤ length (now places)) × (length (now marks) ≡ 512) ⌝ }
-    ensures { λ r. ⌜ now (places .exit) ≡ paste (now (places .entry)) 0 (now (marks .entry)) n ⌝ }
+// Puts the first n of 512 octets into a slice, from a place on.
+fn put_states(places: &mut [u8], at: usize, octets: &[u8; 512], n: usize)
+    requires { ⌜ (n ≤ 512) × (at + 512 ≤ length (now places)) × (length (now octets) ≡ 512) ⌝ }
+    ensures { λ r. ⌜ now (places .exit) ≡ paste (now (places .entry)) at (now (octets .entry)) n ⌝ }
 {
     let mut i = 0;
     while i < n {
-        places[i] = marks[i];
+        places[at + i] = octets[i];
         i += 1;
     }
 }
@@ -71,14 +71,15 @@ fn put_field(places: &mut [u16], at: usize, field: &[u16; 2048], n: usize)
 }
 
 // The plan value that three lent slices hold.
-pub fn load(counts: &[usize], marks: &[u8], fields: &[u16]) -> Plan
-    requires { ⌜ Roomy (now counts) (now marks) (now fields) ⌝ }
-    ensures { λ r. ⌜ r ≡ lentPlan (now (counts .entry)) (now (marks .entry)) (now (fields .entry)) ⌝ }
+pub fn load(counts: &[usize], states: &[u8], fields: &[u16]) -> Plan
+    requires { ⌜ Roomy (now counts) (now states) (now fields) ⌝ }
+    ensures { λ r. ⌜ r ≡ lentPlan (now (counts .entry)) (now (states .entry)) (now (fields .entry)) ⌝ }
 {
     Plan {
         states: counts[0],
         transitions: counts[1],
-        marks: marks_of(marks),
+        marks: states_of(states, 0),
+        teams: states_of(states, 512),
         from: field_of(fields, 0),
         to: field_of(fields, 2048),
         low: field_of(fields, 4096),
@@ -87,15 +88,16 @@ pub fn load(counts: &[usize], marks: &[u8], fields: &[u16]) -> Plan
 }
 
 // Stores a plan value in three lent slices.
-pub fn store(plan: Plan, counts: &mut [usize], marks: &mut [u8], fields: &mut [u16])
-    requires { ⌜ Roomy (now counts) (now marks) (now fields) ⌝ }
-    ensures { λ r. ⌜ (slices (now (counts .exit)) (now (marks .exit)) (now (fields .exit))
-        ≡ storing plan (slices (now (counts .entry)) (now (marks .entry)) (now (fields .entry))))
-        × (planIn (slices (now (counts .exit)) (now (marks .exit)) (now (fields .exit))) ≡ plan) ⌝ }
+pub fn store(plan: Plan, counts: &mut [usize], states: &mut [u8], fields: &mut [u16])
+    requires { ⌜ Roomy (now counts) (now states) (now fields) ⌝ }
+    ensures { λ r. ⌜ (slices (now (counts .exit)) (now (states .exit)) (now (fields .exit))
+        ≡ storing plan (slices (now (counts .entry)) (now (states .entry)) (now (fields .entry))))
+        × (planIn (slices (now (counts .exit)) (now (states .exit)) (now (fields .exit))) ≡ plan) ⌝ }
 {
     counts[0] = plan.states;
     counts[1] = plan.transitions;
-    put_marks(marks, &plan.marks, 512);
+    put_states(states, 0, &plan.marks, 512);
+    put_states(states, 512, &plan.teams, 512);
     put_field(fields, 0, &plan.from, 2048);
     put_field(fields, 2048, &plan.to, 2048);
     put_field(fields, 4096, &plan.low, 2048);
@@ -103,17 +105,17 @@ pub fn store(plan: Plan, counts: &mut [usize], marks: &mut [u8], fields: &mut [u
 }
 
 // Stores the plan of an accepted call, and gives the number of its answer.
-pub fn finish(edited: Edited, counts: &mut [usize], marks: &mut [u8], fields: &mut [u16]) -> u32
-    requires { ⌜ Roomy (now counts) (now marks) (now fields) ⌝ }
+pub fn finish(edited: Edited, counts: &mut [usize], states: &mut [u8], fields: &mut [u16]) -> u32
+    requires { ⌜ Roomy (now counts) (now states) (now fields) ⌝ }
     ensures { λ r. ⌜ Finished (edited .answer) (edited .plan)
-        (slices (now (counts .entry)) (now (marks .entry)) (now (fields .entry)))
-        (slices (now (counts .exit)) (now (marks .exit)) (now (fields .exit))) r ⌝ }
+        (slices (now (counts .entry)) (now (states .entry)) (now (fields .entry)))
+        (slices (now (counts .exit)) (now (states .exit)) (now (fields .exit))) r ⌝ }
 {
     let answer = edited.answer;
     match answer {
         Answer::Accepted => {
             let plan = edited.plan;
-            store(plan, counts, marks, fields);
+            store(plan, counts, states, fields);
             256
         }
         Answer::Refused(r) => numbers::number(r),
@@ -121,12 +123,12 @@ pub fn finish(edited: Edited, counts: &mut [usize], marks: &mut [u8], fields: &m
 }
 
 // The same for a call on the plan that the slices hold. Its fields are lent where they lie: a plan value of its own would be one more copy.
-pub fn update(edited: Edited, counts: &mut [usize], marks: &mut [u8], fields: &mut [u16]) -> u32
-    requires { ⌜ Roomy (now counts) (now marks) (now fields)
-        × Updates (edited .answer) (edited .plan) (slices (now counts) (now marks) (now fields)) ⌝ }
+pub fn update(edited: Edited, counts: &mut [usize], states: &mut [u8], fields: &mut [u16]) -> u32
+    requires { ⌜ Roomy (now counts) (now states) (now fields)
+        × Updates (edited .answer) (edited .plan) (slices (now counts) (now states) (now fields)) ⌝ }
     ensures { λ r. ⌜ Finished (edited .answer) (edited .plan)
-        (slices (now (counts .entry)) (now (marks .entry)) (now (fields .entry)))
-        (slices (now (counts .exit)) (now (marks .exit)) (now (fields .exit))) r ⌝ }
+        (slices (now (counts .entry)) (now (states .entry)) (now (fields .entry)))
+        (slices (now (counts .exit)) (now (states .exit)) (now (fields .exit))) r ⌝ }
 {
     let answer = edited.answer;
     if let Answer::Refused(r) = answer {
@@ -136,7 +138,8 @@ pub fn update(edited: Edited, counts: &mut [usize], marks: &mut [u8], fields: &m
     let m = edited.plan.transitions;
     counts[0] = n;
     counts[1] = m;
-    put_marks(marks, &edited.plan.marks, n);
+    put_states(states, 0, &edited.plan.marks, n);
+    put_states(states, 512, &edited.plan.teams, n);
     put_field(fields, 0, &edited.plan.from, m);
     put_field(fields, 2048, &edited.plan.to, m);
     put_field(fields, 4096, &edited.plan.low, m);

@@ -44,10 +44,10 @@ passing-same f g (suc k) h =
     ap₂ {C = List ℕ} (λ (l : List ℕ) (b : Bool). l ++ cond b (k ∷ []) []) (passing-same f g k (λ i l. h i (omega (arith, l)))) (h k (omega arith))
 
 -- the starts of the plan that arrays hold
-pub starts-of : (n m : ℕ) (marks from to low high : List ℕ) → starts (graphOf n m marks from to low high) ≡ startsIn marks n
+pub starts-of : (n m : ℕ) (marks teams from to low high : List ℕ) → starts (graphOf n m marks teams from to low high) ≡ startsIn marks n
 unfolding start marksOf
-starts-of n m marks from to low high =
-    let g : Graph = graphOf n m marks from to low high in
-    ap (λ (k : ℕ). passing (start g) k) (states-of n m marks from to low high)
+starts-of n m marks teams from to low high =
+    let g : Graph = graphOf n m marks teams from to low high in
+    ap (λ (k : ℕ). passing (start g) k) (states-of n m marks teams from to low high)
     ∙ passing-same (start g) (λ (i : ℕ). startMark (getD marks i 0)) n
-    (λ i l. ap (λ (s : State). startMark (s .marks)) (getD-tabulate n (stateOf marks) i (marked 0) l))
+    (λ i l. ap (λ (s : State). startMark (s .marks)) (getD-tabulate n (stateOf marks teams) i (marked 0) l))

@@ -1,11 +1,11 @@
-// A plan's image, written from the arrays that hold its marks and transitions: its header, states and transitions as packed fields.
+// A plan's image, of version 2, written from the arrays that hold its marks, teams and transitions: its header, states and transitions as packed fields.
 ghost use mathlib.Core.Path.{_≡_};
 ghost use Prim.Native.Nat.{_+_, _*_, _%_, _≤_, _<_};
 ghost use lib.ListN.{length};
 ghost use Rattle.field.specs.Field.{Spans, AllFit, putAll};
-ghost use Rattle.graph.specs.Graph.{marked};
+ghost use Rattle.graph.specs.Graph.{stateWith};
 ghost use Rattle.rules.specs.Image.{headerFields, stateFields, transitionFields, fieldsOfEach};
-ghost use Rattle.rules.specs.Limits.{all, transitionOk};
+ghost use Rattle.rules.specs.Limits.{all, stateOk, transitionOk};
 ghost use mathlib.Core.Bool.{true};
 ghost use Rattle.arrays.specs.Tables.{statesOf, transitionOf, transitionsOf};
 use arrays::FINAL;
@@ -16,10 +16,10 @@ use field::Four;
 // Puts the fields of the header at the front.
 pub fn header(buffer: &mut [u8], n: usize, m: usize)
     requires { ⌜ (n ≤ 512) × (m ≤ 2048) × (4 ≤ length (now buffer)) ⌝ }
-    ensures { λ r. ⌜ now (buffer .exit) ≡ putAll (now (buffer .entry)) 0 (headerFields n m) ⌝ }
+    ensures { λ r. ⌜ now (buffer .exit) ≡ putAll (now (buffer .entry)) 0 (headerFields 2 n m) ⌝ }
 {
     let fields = Four {
-        first: 1,
+        first: 2,
         second: n,
         third: m,
         fourth: 0,
@@ -28,15 +28,15 @@ pub fn header(buffer: &mut [u8], n: usize, m: usize)
 }
 
 // Puts the fields of a state at a bit position.
-fn state(buffer: &mut [u8], at: usize, value: u8)
-    requires { ⌜ Spans (now buffer) at 8 × (at % 8 ≡ 0) ⌝ }
-    ensures { λ r. ⌜ now (buffer .exit) ≡ putAll (now (buffer .entry)) at (stateFields (marked value)) ⌝ }
+fn state(buffer: &mut [u8], at: usize, value: u8, team: u8)
+    requires { ⌜ Spans (now buffer) at 8 × (at % 8 ≡ 0) × (team ≤ 31) ⌝ }
+    ensures { λ r. ⌜ now (buffer .exit) ≡ putAll (now (buffer .entry)) at (stateFields (stateWith value team)) ⌝ }
 {
     let fields = Four {
         first: (value / START % 2) as usize,
         second: (value / FINAL % 2) as usize,
         third: (value % 2) as usize,
-        fourth: 0,
+        fourth: team as usize,
     };
     store::put_four(buffer, at, 1, 1, 1, 5, fields);
 }
@@ -66,13 +66,14 @@ fn transition<'a>(
 }
 
 // Puts the fields of the first n states, by number.
-pub fn states(buffer: &mut [u8], marks: &[u8; 512], n: usize)
+pub fn states<'a>(buffer: &mut [u8], marks: &'a [u8; 512], teams: &'a [u8; 512], n: usize)
     requires { ⌜ (n ≤ 512) × (4 + n ≤ length (now buffer)) ⌝ }
-    ensures { λ r. ⌜ now (buffer .exit) ≡ putAll (now (buffer .entry)) 32 (fieldsOfEach stateFields (statesOf n (now (marks .entry)))) ⌝ }
+    requires { ⌜ all stateOk (statesOf n (now marks) (now teams)) ≡ true ⌝ }
+    ensures { λ r. ⌜ now (buffer .exit) ≡ putAll (now (buffer .entry)) 32 (fieldsOfEach stateFields (statesOf n (now (marks .entry)) (now (teams .entry)))) ⌝ }
 {
     let mut i = 0;
     while i < n {
-        state(buffer, 32 + 8 * i, marks[i]);
+        state(buffer, 32 + 8 * i, marks[i], teams[i]);
         i += 1;
     }
 }

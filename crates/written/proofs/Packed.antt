@@ -11,17 +11,17 @@ use Rattle.rules.proofs.ReadWrite.{put-image}
 use Rattle.arrays.specs.Tables.{graphOf, statesOf, transitionsOf}
 use Rattle.arrays.proofs.Lists.{states-of, count-of}
 
-pub put-arrays : (n m : ℕ) (marks from to low high : List ℕ) (b : List ℕ) → Octets b → imageLength n m ≤ length b
+pub put-arrays : (n m : ℕ) (marks teams from to low high : List ℕ) (b : List ℕ) → Octets b → imageLength n m ≤ length b
     → putAll
-    (putAll (putAll b 0 (headerFields n m)) 32 (fieldsOfEach stateFields (statesOf n marks)))
+    (putAll (putAll b 0 (headerFields 2 n m)) 32 (fieldsOfEach stateFields (statesOf n marks teams)))
     (32 + 8 * n) (fieldsOfEach transitionFields (transitionsOf m from to low high))
-    ≡ image (graphOf n m marks from to low high) ++ drop (imageLength n m) b
-put-arrays n m marks from to low high b ho h =
-    let g : Graph = graphOf n m marks from to low high in
-    let es = states-of n m marks from to low high in
-    let et = count-of n m marks from to low high in
-    let S : List Field = fieldsOfEach stateFields (statesOf n marks) in
+    ≡ image (graphOf n m marks teams from to low high) ++ drop (imageLength n m) b
+put-arrays n m marks teams from to low high b ho h =
+    let g : Graph = graphOf n m marks teams from to low high in
+    let es = states-of n m marks teams from to low high in
+    let et = count-of n m marks teams from to low high in
+    let S : List Field = fieldsOfEach stateFields (statesOf n marks teams) in
     let T : List Field = fieldsOfEach transitionFields (transitionsOf m from to low high) in
-    ap₂ (λ (n m : ℕ). putAll (putAll (putAll b 0 (headerFields n m)) 32 S) (32 + 8 * n) T) (sym es) (sym et)
+    ap₂ (λ (n m : ℕ). putAll (putAll (putAll b 0 (headerFields 2 n m)) 32 S) (32 + 8 * n) T) (sym es) (sym et)
     ∙ put-image g b ho (omega (arith, es, et))
     ∙ ap₂ (λ (n m : ℕ). image g ++ drop (imageLength n m) b) es et

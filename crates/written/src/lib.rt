@@ -11,17 +11,18 @@ pub fn write<'a>(
     n: usize,
     m: usize,
     marks: &'a [u8; 512],
+    teams: &'a [u8; 512],
     from: &'a [u16; 2048],
     to: &'a [u16; 2048],
     low: &'a [u16; 2048],
     high: &'a [u16; 2048],
     buffer: &mut [u8],
 ) -> Written
-    ensures { λ r. ⌜ Write (image (graphOf n m (now (marks .entry)) (now (from .entry)) (now (to .entry)) (now (low .entry)) (now (high .entry))))
-        (writeRule (graphOf n m (now (marks .entry)) (now (from .entry)) (now (to .entry)) (now (low .entry)) (now (high .entry))) (now (buffer .entry)))
+    ensures { λ r. ⌜ Write (image (graphOf n m (now (marks .entry)) (now (teams .entry)) (now (from .entry)) (now (to .entry)) (now (low .entry)) (now (high .entry))))
+        (writeRule (graphOf n m (now (marks .entry)) (now (teams .entry)) (now (from .entry)) (now (to .entry)) (now (low .entry)) (now (high .entry))) (now (buffer .entry)))
         (now (buffer .entry)) (now (buffer .exit)) r ⌝ }
 {
-    let limited = plan_limits::in_limits(n, m, marks, from, to, low, high);
+    let limited = plan_limits::in_limits(n, m, marks, teams, from, to, low, high);
     if !limited {
         return Written::Refused(Refusal::PlanLimits);
     }
@@ -30,7 +31,7 @@ pub fn write<'a>(
         return Written::Refused(Refusal::BufferLength);
     }
     writing::header(buffer, n, m);
-    writing::states(buffer, marks, n);
+    writing::states(buffer, marks, teams, n);
     writing::transitions(buffer, n, m, from, to, low, high);
     Written::Length(length)
 }

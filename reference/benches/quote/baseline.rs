@@ -2,7 +2,8 @@
 //!
 //! The transitions stand by state in one array. The least figures take states nearest first, with
 //! a 4-ary heap, and stop at the first final state. One depth-first search gives both greatest
-//! figures, and keeps the walk to the first open transition that it takes. Nothing is allocated.
+//! figures, and keeps the walk to the first open transition that it takes. For the counts of a class
+//! the states that count are set anew, and the search keeps no delays. Nothing is allocated.
 
 const STATES: usize = 512;
 const TRANSITIONS: usize = 2048;
@@ -16,6 +17,11 @@ const START: u8 = 4;
 const FINAL: u8 = 2;
 const COUNTED: u8 = 1;
 
+/// The class of each team, by a number.
+const CLASSES: [u8; 32] = [
+    0, 1, 1, 1, 1, 1, 1, 1, 1, 1, 2, 2, 2, 2, 2, 2, 2, 2, 2, 2, 3, 3, 3, 3, 3, 3, 3, 3, 3, 3, 4, 4,
+];
+
 /// The high that means no limit.
 const OPEN: u16 = 2047;
 
@@ -26,15 +32,34 @@ pub type Answer = [u32; 4];
 
 /// Reads an image and quotes the four figures, or gives the number that the image is refused by.
 pub fn quote(octets: &[u8], walks: &mut Walks, answers: &mut [Answer; 4]) -> Result<(), u32> {
-    let graph = Graph::read(octets)?;
+    let mut graph = NO_GRAPH;
+    graph.read(octets)?;
     let [least_delay, greatest_delay, least_count, greatest_count] = walks;
     answers[0] = graph.least(|step| u32::from(step.low), |_| 0, least_delay);
-    answers[2] = graph.least(
-        |step| graph.counted(usize::from(step.to)),
-        |state| graph.counted(state),
-        least_count,
-    );
-    [answers[1], answers[3]] = graph.greatest([greatest_delay, greatest_count]);
+    answers[2] = graph.least_count(least_count);
+    [answers[1], answers[3]] = graph.greatest::<true>([greatest_delay, greatest_count]);
+    Ok(())
+}
+
+/// Reads an image and quotes the least and the greatest count for the class of a team, or gives the
+/// number that the image or the team is refused by.
+pub fn quote_class(
+    octets: &[u8],
+    team: u32,
+    walks: &mut [[u16; STATES]; 2],
+    answers: &mut [Answer; 2],
+) -> Result<(), u32> {
+    let mut graph = NO_GRAPH;
+    graph.read(octets)?;
+    let class = *CLASSES.get(team as usize).ok_or(18u32)?;
+    for state in 0..graph.n {
+        let team = usize::from(graph.teams[state] % 32);
+        graph.counted[state] = u8::from(CLASSES[team] == class);
+    }
+    let [least, greatest] = walks;
+    answers[0] = graph.least_count(least);
+    let mut no_walk = [0; STATES];
+    [_, answers[1]] = graph.greatest::<false>([&mut no_walk, greatest]);
     Ok(())
 }
 
@@ -56,22 +81,37 @@ const NO_STEP: Step = Step {
 struct Graph {
     n: usize,
     marks: [u8; STATES],
+    teams: [u8; STATES],
+    /// 1 for each state that counts.
+    counted: [u8; STATES],
     /// The steps of state s stand from place first[s] up to first[s + 1].
     first: [u16; STATES + 1],
     steps: [Step; TRANSITIONS],
 }
 
+/// All zero, for `read` to fill in its place: it is too large to be copied.
+const NO_GRAPH: Graph = Graph {
+    n: 0,
+    marks: [0; STATES],
+    teams: [0; STATES],
+    counted: [0; STATES],
+    first: [0; STATES + 1],
+    steps: [NO_STEP; TRANSITIONS],
+};
+
 impl Graph {
-    fn read(octets: &[u8]) -> Result<Graph, u32> {
+    fn read(&mut self, octets: &[u8]) -> Result<(), u32> {
         let Some((header, body)) = octets.split_first_chunk::<4>() else {
             return Err(1);
         };
         let header = u32::from_be_bytes(*header);
         let n = (header >> 18 & 0x3FF) as usize;
         let m = (header >> 6 & 0xFFF) as usize;
-        if header >> 28 != 1 {
-            return Err(3);
-        }
+        let spare = match header >> 28 {
+            1 => 0x1F,
+            2 => 0,
+            _ => return Err(3),
+        };
         if n == 0 || n > STATES {
             return Err(4);
         }
@@ -88,20 +128,16 @@ impl Graph {
             return Err(2);
         }
 
-        let mut graph = Graph {
-            n,
-            marks: [0; STATES],
-            first: [0; STATES + 1],
-            steps: [NO_STEP; TRANSITIONS],
-        };
-        for (marks, &octet) in graph.marks.iter_mut().zip(&body[..n]) {
-            if octet & 0x1F != 0 {
+        self.n = n;
+        for (state, &octet) in body[..n].iter().enumerate() {
+            if octet & spare != 0 {
                 return Err(6);
             }
-            *marks = octet >> 5;
+            self.marks[state] = octet >> 5;
+            self.teams[state] = octet & 0x1F;
+            self.counted[state] = octet >> 5 & COUNTED;
         }
-        graph.place_steps(&body[n..])?;
-        Ok(graph)
+        self.place_steps(&body[n..])
     }
 
     /// Reads the transitions and puts them by the state that they leave.
@@ -123,8 +159,11 @@ impl Graph {
                 high: (bits & 0x7FF) as u16,
                 number: number as u16,
             };
-            if from >= self.n || usize::from(step.to) >= self.n {
-                return Err(7);
+            if from >= self.n {
+                return Err(16);
+            }
+            if usize::from(step.to) >= self.n {
+                return Err(17);
             }
             if step.low > step.high {
                 return Err(8);
@@ -144,7 +183,16 @@ impl Graph {
     }
 
     fn counted(&self, state: usize) -> u32 {
-        u32::from(self.marks[state] & COUNTED)
+        u32::from(self.counted[state])
+    }
+
+    /// The least number of counted states over all routes.
+    fn least_count(&self, walk: &mut [u16; STATES]) -> Answer {
+        self.least(
+            |step| self.counted(usize::from(step.to)),
+            |state| self.counted(state),
+            walk,
+        )
     }
 
     /// The least sum of weights, and of what the first state costs, over all routes.
@@ -185,9 +233,9 @@ impl Graph {
         answer(NONE, 0, 0)
     }
 
-    /// The greatest delay and the greatest count.
-    fn greatest(&self, walks: [&mut [u16; STATES]; 2]) -> [Answer; 2] {
-        let mut search = Search::new(self);
+    /// The greatest delay and the greatest count; the count alone where no delays are wanted.
+    fn greatest<const DELAYS: bool>(&self, walks: [&mut [u16; STATES]; 2]) -> [Answer; 2] {
+        let mut search = Search::<DELAYS>::new(self);
         let is_start = |state: &usize| self.marks[*state] & START != 0;
         if !(0..self.n).any(|state| is_start(&state)) {
             return [answer(NONE, 0, 0); 2];
@@ -209,6 +257,7 @@ impl Graph {
             None => self.best(is_start, values, walk),
         };
         let delay = match search.open {
+            _ if !DELAYS => answer(NONE, 0, 0),
             Some(k) => {
                 delay_walk[..k].copy_from_slice(&search.open_walk[..k]);
                 [ENDLESS, 0, k as u32, k as u32]
@@ -321,7 +370,7 @@ const UNSEEN: u16 = u16::MAX;
 const LEFT: u16 = u16::MAX - 1;
 
 /// A depth-first search over unfinished states.
-struct Search<'a> {
+struct Search<'a, const DELAYS: bool> {
     graph: &'a Graph,
     /// For each state UNSEEN, its place on the path, or LEFT.
     place: [u16; STATES],
@@ -342,8 +391,9 @@ struct Search<'a> {
     open_walk: [u16; STATES],
 }
 
-impl Search<'_> {
-    fn new(graph: &Graph) -> Search<'_> {
+impl<const DELAYS: bool> Search<'_, DELAYS> {
+    #[inline(always)]
+    fn new(graph: &Graph) -> Search<'_, DELAYS> {
         let mut counts = [(0, 0); STATES];
         let mut next = [0; STATES];
         for state in 0..graph.n {
@@ -389,7 +439,7 @@ impl Search<'_> {
             let step = self.graph.steps[usize::from(at)];
             let to = usize::from(step.to);
             self.walk[depth] = step.number;
-            if step.high == OPEN && self.open.is_none() {
+            if DELAYS && step.high == OPEN && self.open.is_none() {
                 self.open = Some(depth + 1);
                 self.open_walk[..=depth].copy_from_slice(&self.walk[..=depth]);
             }
@@ -419,9 +469,11 @@ impl Search<'_> {
         let step = self.graph.steps[usize::from(at)];
         let to = usize::from(step.to);
         let is_first = self.graph.first[state] == at;
-        let delay = u32::from(step.high) + self.delays[to].0;
-        if is_first || delay > self.delays[state].0 {
-            self.delays[state] = (delay, at);
+        if DELAYS {
+            let delay = u32::from(step.high) + self.delays[to].0;
+            if is_first || delay > self.delays[state].0 {
+                self.delays[state] = (delay, at);
+            }
         }
         let count = self.graph.counted(state) + self.counts[to].0;
         if is_first || count > self.counts[state].0 {

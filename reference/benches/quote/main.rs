@@ -1,5 +1,6 @@
 //! Times quoting: image octets in, the four figures with their walks out, by the proved library
-//! and by the baseline.
+//! and by the baseline. Then the same with the two counts for a class of teams in place of the four
+//! figures.
 //!
 //! It prints times, their ratio and their growth, and asserts nothing about them. Without the
 //! feature `quotations` it prints the baseline alone.
@@ -12,8 +13,10 @@ use std::time::Instant;
 
 use reference::image::encode;
 #[cfg(feature = "quotations")]
-use reference::proved::{self, ACCEPTED, OUT, WALKS};
+use reference::proved::{self, LentPlan, ACCEPTED, OUT, WALKS};
 use reference::rng::Case;
+#[cfg(feature = "quotations")]
+use reference::Figure;
 use reference::MAX_STATES;
 
 use shapes::SHAPES;
@@ -23,6 +26,8 @@ const SEED: u64 = 0x0000_BE7C;
 const SIZES: [(usize, usize); 3] = [(16, 40), (64, 256), (512, 2048)];
 const ROUNDS: usize = 101;
 const CALLS: u32 = 20;
+/// A team of the class that is quoted, the clinics: ten states in each 32.
+const TEAM: u32 = 15;
 
 /// The times of one call in microseconds, those of the quickest rounds.
 struct Times {
@@ -40,6 +45,15 @@ fn main() {
     println!(
         "is ENDLESS, the greatest count a number. Growth is from the second size to the third."
     );
+    print_table(time_proved, time_baseline);
+    println!();
+    println!("The least and the greatest count for a class, team {TEAM}: the proved library makes a plan");
+    println!("of the image and quotes each, the baseline reads the image and finds both.");
+    print_table(time_proved_class, time_baseline_class);
+}
+
+/// Times both on every shape and size, and prints the table.
+fn print_table(proved: fn(&[u8]) -> Option<f64>, baseline: fn(&[u8]) -> f64) {
     print!("{:23}", "");
     for (n, m) in SIZES {
         print!(" {:>24}", format!("{n} states, {m}"));
@@ -53,7 +67,10 @@ fn main() {
     for (number, shape) in (0..).zip(&SHAPES) {
         let case = Case { seed: SEED, number };
         let mut rng = case.rng();
-        let times = SIZES.map(|(n, m)| time(&encode(&shape.draw(&mut rng, n, m))));
+        let times = SIZES.map(|(n, m)| {
+            let octets = encode(&shape.draw(&mut rng, n, m));
+            time(&octets, proved, baseline)
+        });
         print!("{:23}", shape.name);
         for size in &times {
             print!(
@@ -87,11 +104,11 @@ fn column(number: Option<f64>, width: usize) -> String {
 }
 
 /// Times both on an image, by turns.
-fn time(octets: &[u8]) -> Times {
+fn time(octets: &[u8], proved: fn(&[u8]) -> Option<f64>, baseline: fn(&[u8]) -> f64) -> Times {
     let rounds: Vec<Times> = (0..ROUNDS)
         .map(|_| Times {
-            proved: time_proved(octets),
-            baseline: time_baseline(octets),
+            proved: proved(octets),
+            baseline: baseline(octets),
         })
         .collect();
     let baseline = rounds.iter().map(|times| times.baseline);
@@ -114,8 +131,27 @@ fn time_proved(octets: &[u8]) -> Option<f64> {
     }))
 }
 
+#[cfg(feature = "quotations")]
+fn time_proved_class(octets: &[u8]) -> Option<f64> {
+    let mut lent = LentPlan::zeroed();
+    let (mut walk, mut out) = ([0; MAX_STATES], [0; OUT]);
+    Some(microseconds(|| {
+        assert_eq!(lent.make(black_box(octets)), ACCEPTED);
+        for figure in [Figure::LeastCount, Figure::GreatestCount] {
+            let asked = figure.for_class_of(black_box(TEAM));
+            assert_eq!(lent.quote(asked, &mut walk, &mut out), ACCEPTED);
+            black_box((&walk, &out));
+        }
+    }))
+}
+
 #[cfg(not(feature = "quotations"))]
 fn time_proved(_: &[u8]) -> Option<f64> {
+    None
+}
+
+#[cfg(not(feature = "quotations"))]
+fn time_proved_class(_: &[u8]) -> Option<f64> {
     None
 }
 
@@ -123,6 +159,16 @@ fn time_baseline(octets: &[u8]) -> f64 {
     let (mut walks, mut answers) = ([[0; MAX_STATES]; 4], [[0; 4]; 4]);
     microseconds(|| {
         let answer = baseline::quote(black_box(octets), &mut walks, &mut answers);
+        assert_eq!(answer, Ok(()));
+        black_box((&walks, &answers));
+    })
+}
+
+fn time_baseline_class(octets: &[u8]) -> f64 {
+    let (mut walks, mut answers) = ([[0; MAX_STATES]; 2], [[0; 4]; 2]);
+    microseconds(|| {
+        let answer =
+            baseline::quote_class(black_box(octets), black_box(TEAM), &mut walks, &mut answers);
         assert_eq!(answer, Ok(()));
         black_box((&walks, &answers));
     })

@@ -44,7 +44,7 @@ impl Shape {
     /// The shape's plan with its transitions in a random order.
     pub fn draw(&self, rng: &mut Rng, n: usize, m: usize) -> Plan {
         let mut plan = (self.plan)(rng, n, m);
-        assert_eq!((plan.marks.len(), plan.transitions.len()), (n, m));
+        assert_eq!((plan.states.len(), plan.transitions.len()), (n, m));
         rng.shuffle(&mut plan.transitions);
         plan
     }
@@ -62,8 +62,9 @@ fn step(rng: &mut Rng, from: usize, to: usize) -> Transition {
     }
 }
 
-/// A plan with the given starts and finals, every other state counted. From each state equally many
-/// transitions lead where `next` says; those of the states that it gives none go to others.
+/// A plan with the given starts and finals, every other state counted, and states of every team in
+/// turn. From each state equally many transitions lead where `next` says; those of the states that it
+/// gives none go to others.
 fn plan(
     rng: &mut Rng,
     (n, m): (usize, usize),
@@ -82,10 +83,11 @@ fn plan(
         }
         from = if from + 1 < n { from + 1 } else { 0 };
     }
-    Plan {
-        marks: marks.collect(),
-        transitions,
+    let mut plan = Plan::of(marks.collect(), transitions);
+    for (number, state) in plan.states.iter_mut().enumerate() {
+        state.team = (number % 32) as u8;
     }
+    plan
 }
 
 /// A chain has n - 1 transitions by nature. The rest are further ones between its neighbours.

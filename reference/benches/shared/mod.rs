@@ -2,7 +2,7 @@
 
 use std::time::Instant;
 
-use reference::{Plan, Transition, MAX_STATES, MAX_TRANSITIONS};
+use reference::{Plan, State, Transition, MAX_STATES, MAX_TRANSITIONS};
 
 pub const ROUNDS: usize = 201;
 pub const CALLS: u32 = 40;
@@ -42,10 +42,14 @@ fn median(mut times: Vec<f64>) -> f64 {
     times[times.len() / 2]
 }
 
-/// A plan of the largest size, with values of all sizes in its fields.
+/// A plan of the largest size, with values of all sizes in its fields, and states of every team.
 pub fn full_plan() -> Plan {
+    let states = (0..MAX_STATES).map(|state| State {
+        marks: (state % 8) as u8,
+        team: (state / 8 % 32) as u8,
+    });
     Plan {
-        marks: (0..MAX_STATES).map(|state| (state % 8) as u8).collect(),
+        states: states.collect(),
         transitions: (0..MAX_TRANSITIONS)
             .map(|number| Transition {
                 from: number * 5 % MAX_STATES,
@@ -64,6 +68,7 @@ pub struct Baseline {
     pub states: usize,
     pub transitions: usize,
     pub marks: [u8; MAX_STATES],
+    pub teams: [u8; MAX_STATES],
     pub from: [u16; MAX_TRANSITIONS],
     pub to: [u16; MAX_TRANSITIONS],
     pub low: [u16; MAX_TRANSITIONS],
@@ -76,6 +81,7 @@ impl Baseline {
             states,
             transitions: 0,
             marks: [0; MAX_STATES],
+            teams: [0; MAX_STATES],
             from: [0; MAX_TRANSITIONS],
             to: [0; MAX_TRANSITIONS],
             low: [0; MAX_TRANSITIONS],
@@ -93,9 +99,8 @@ impl Baseline {
         let end = n as u16;
         let (from, to) = (&self.from[..m], &self.to[..m]);
         let (low, high) = (&self.low[..m], &self.high[..m]);
-        let mut sound = self.marks[..n]
-            .iter()
-            .fold(true, |ok, &marks| ok & (marks <= 7));
+        let states = self.marks[..n].iter().zip(&self.teams[..n]);
+        let mut sound = states.fold(true, |ok, (&marks, &team)| ok & (marks <= 7) & (team <= 31));
         for i in 0..m {
             sound &= (from[i] < end) & (to[i] < end) & (low[i] <= high[i]) & (high[i] <= 2047);
         }
@@ -104,8 +109,9 @@ impl Baseline {
 
     /// The same plan as the reference has it.
     pub fn plan(&self) -> Plan {
+        let states = self.marks.into_iter().zip(self.teams).take(self.states);
         Plan {
-            marks: self.marks[..self.states].to_vec(),
+            states: states.map(|(marks, team)| State { marks, team }).collect(),
             transitions: (0..self.transitions)
                 .map(|i| Transition {
                     from: self.from[i].into(),

@@ -13,8 +13,8 @@ const SEED: u64 = 0x0001_CA11;
 const LISTS: u64 = 24_000;
 
 /// The calls that a list may hold.
-pub const CALLS: [&str; 8] = [
-    "fresh", "mark", "join", "unjoin", "read", "import", "write", "export",
+pub const CALLS: [&str; 9] = [
+    "fresh", "mark", "team", "join", "unjoin", "read", "import", "write", "export",
 ];
 
 #[test]
@@ -41,7 +41,7 @@ pub fn run_list(rng: &mut Rng, tally: &mut Tally) -> Pair {
     let mut pair = Pair::fresh(rng, n);
     let step = |rng: &mut Rng, pair: &mut Pair, tally: &mut Tally| {
         let call = generate::call(rng, pair);
-        let n = pair.plan().marks.len();
+        let n = pair.plan().states.len();
         let answer = pair.run(&call);
         tally.add_call(&call, n, answer);
     };

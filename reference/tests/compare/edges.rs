@@ -1,7 +1,7 @@
 //! The edges of every limit, and plans built by hand.
 
 use reference::image::{encode, length};
-use reference::proved::{LentPlan, ACCEPTED, COUNTS, FIELDS, MARKS, SHORT_SLICE};
+use reference::proved::{LentPlan, ACCEPTED, COUNTS, FIELDS, SHORT_SLICE, STATES};
 use reference::rng::Rng;
 use reference::{Plan, Transition, MAX_STATES, MAX_TRANSITIONS};
 
@@ -9,7 +9,7 @@ use crate::ends;
 use crate::generate::{self, put};
 use crate::pair::{Call, Pair};
 use crate::texts::P1_TEXT;
-use crate::vectors::P1;
+use crate::vectors::{P1, P1_WRITTEN};
 
 const SEED: u64 = 0xED6E;
 
@@ -43,10 +43,11 @@ pub fn random(rng: &mut Rng, n: usize, m: usize) -> Pair {
 fn the_image_of_p1() {
     let mut rng = Rng::of_test("the_image_of_p1", SEED);
     let mut pair = p1(&mut rng);
-    assert_eq!(pair.plan().marks, [4, 1, 1, 2]);
+    assert_eq!(pair.plan().marks(), [4, 1, 1, 2]);
     assert_eq!(pair.run(&Call::Write(vec![0xAA; 31])), ACCEPTED + 28);
     assert_eq!(pair.run(&Call::Write(vec![0xAA; 28])), ACCEPTED + 28);
-    assert_eq!(encode(pair.plan()), P1);
+    assert_eq!(encode(pair.plan()), P1_WRITTEN);
+    assert_eq!(pair.run(&Call::Read(P1_WRITTEN.to_vec())), ACCEPTED);
 }
 
 #[test]
@@ -70,6 +71,9 @@ fn state_counts() {
         let mut pair = Pair::fresh(&mut rng, n);
         assert_eq!(pair.run(&Call::Mark(n - 1, 7)), ACCEPTED);
         assert_eq!(pair.run(&Call::Mark(n, 7)), 7);
+        assert_eq!(pair.run(&Call::Team(n - 1, 31)), ACCEPTED);
+        assert_eq!(pair.run(&Call::Team(n, 31)), 7);
+        assert_eq!(pair.run(&Call::Team(n, 32)), 7);
         assert_eq!(pair.run(&join(n - 1, 0, 0, 0)), ACCEPTED);
         assert_eq!(pair.run(&join(0, n - 1, 0, 0)), ACCEPTED);
         assert_eq!(pair.run(&join(n, 0, 0, 0)), 16);
@@ -182,6 +186,41 @@ fn durations_and_marks() {
     }
 }
 
+/// Every team up to 70 and wide ones, some of them teams in fewer bits; mark leaves the team, and team
+/// leaves the marks.
+#[test]
+fn teams() {
+    let mut rng = Rng::of_test("teams", SEED);
+    let mut pair = Pair::fresh(&mut rng, 2);
+    let wide = [255, 256, 259, 1 << 16, (1 << 16) + 31, 1 << 31, u32::MAX];
+    for team in (0..70).chain(wide) {
+        let marks = team % 8;
+        assert_eq!(pair.run(&Call::Mark(1, marks)), ACCEPTED);
+        let answer = if team <= 31 { ACCEPTED } else { 18 };
+        assert_eq!(pair.run(&Call::Team(1, team)), answer, "{team}");
+        for state in [2, 511, 512, 1 << 16, 1 << 32, usize::MAX] {
+            assert_eq!(pair.run(&Call::Team(state, team)), 7, "{team}");
+        }
+        assert_eq!(pair.plan().marks(), [0, marks as u8]);
+        let kept = pair.plan().teams();
+        assert_eq!(kept, [0, team.min(31) as u8]);
+        assert_eq!(pair.run(&Call::Mark(1, 7 - marks)), ACCEPTED);
+        assert_eq!(pair.plan().teams(), kept);
+    }
+    // A fresh plan in its place has none, and so has one that a version 1 image or a text puts there.
+    for call in [
+        Call::Fresh(2),
+        Call::Read(P1.to_vec()),
+        Call::FromImage(P1.to_vec()),
+        Call::Import(P1_TEXT.into()),
+    ] {
+        let mut pair = pair.clone();
+        assert_eq!(pair.run(&Call::Team(0, 31)), ACCEPTED);
+        assert_eq!(pair.run(&call), ACCEPTED);
+        assert!(pair.plan().teams().iter().all(|&team| team == 0));
+    }
+}
+
 #[test]
 fn buffers() {
     let mut rng = Rng::of_test("buffers", SEED);
@@ -218,8 +257,12 @@ pub fn breaks(n: usize, m: usize) -> Vec<(String, Change)> {
         list.push((format!("{count} transitions"), Box::new(change)));
     }
     for (state, value) in [(0, 8), (n - 1, 8), (n / 2, 255)] {
-        let change = move |lent: &mut LentPlan| lent.marks[state] = value;
+        let change = move |lent: &mut LentPlan| lent.states[state] = value;
         list.push((format!("marks {value} of state {state}"), Box::new(change)));
+    }
+    for (state, team) in [(0, 32), (n - 1, 32), (n / 2, 255), (0, 64)] {
+        let change = move |lent: &mut LentPlan| lent.states[MAX_STATES + state] = team;
+        list.push((format!("team {team} of state {state}"), Box::new(change)));
     }
     for number in [0, m / 2, m - 1] {
         let at = move |field: usize| field * MAX_TRANSITIONS + number;
@@ -246,7 +289,7 @@ fn plans_that_break_a_limit() {
     let small = p1(&mut rng);
     let full = random(&mut rng, MAX_STATES, MAX_TRANSITIONS);
     for good in [small, full] {
-        let n = good.plan().marks.len();
+        let n = good.plan().states.len();
         let m = good.plan().transitions.len();
         for (name, change) in breaks(n, m) {
             let mut pair = good.clone();
@@ -255,6 +298,9 @@ fn plans_that_break_a_limit() {
             for call in [
                 Call::Mark(0, 0),
                 Call::Mark(usize::MAX, 8),
+                Call::Team(0, 0),
+                Call::Team(n - 1, 31),
+                Call::Team(usize::MAX, 32),
                 join(0, 0, 0, 0),
                 join(usize::MAX, 0, 1, 0),
                 join(0, 0, 1, 0),
@@ -287,7 +333,8 @@ fn values_past_the_counts() {
     let mut rng = Rng::of_test("values_past_the_counts", SEED);
     let mut good = p1(&mut rng);
     good.by_hand(|lent| {
-        lent.marks[4..].fill(255);
+        lent.states[4..MAX_STATES].fill(255);
+        lent.states[MAX_STATES + 4..].fill(255);
         for field in 0..4 {
             let first = field * MAX_TRANSITIONS;
             lent.fields[first + 4..first + MAX_TRANSITIONS].fill(u16::MAX);
@@ -296,6 +343,8 @@ fn values_past_the_counts() {
     for (call, answer) in [
         (Call::Mark(3, 7), ACCEPTED),
         (Call::Mark(4, 7), 7),
+        (Call::Team(3, 31), ACCEPTED),
+        (Call::Team(4, 31), 7),
         (join(3, 3, 0, 0), ACCEPTED),
         (join(4, 3, 0, 0), 16),
         (join(3, 4, 0, 0), 17),
@@ -321,26 +370,28 @@ fn values_past_the_counts() {
     }
     assert_eq!(pair.run(&Call::Fresh(20)), ACCEPTED);
     assert_eq!(pair.run(&Call::Mark(19, 1)), ACCEPTED);
+    assert_eq!(pair.run(&Call::Team(19, 1)), ACCEPTED);
 }
 
 /// A slice with too few places for a plan is refused before all else, and nothing is touched.
 #[test]
 fn short_lent_slices() {
     let sizes = [
-        (0, MARKS, FIELDS),
-        (1, MARKS, FIELDS),
+        (0, STATES, FIELDS),
+        (1, STATES, FIELDS),
         (COUNTS, 0, FIELDS),
-        (COUNTS, MARKS - 1, FIELDS),
-        (COUNTS, MARKS, 0),
-        (COUNTS, MARKS, FIELDS - 1),
-        (1, MARKS - 1, FIELDS - 1),
+        (COUNTS, MAX_STATES, FIELDS),
+        (COUNTS, STATES - 1, FIELDS),
+        (COUNTS, STATES, 0),
+        (COUNTS, STATES, FIELDS - 1),
+        (1, STATES - 1, FIELDS - 1),
         (0, 0, 0),
     ];
-    for (counts, marks, fields) in sizes {
+    for (counts, states, fields) in sizes {
         // One state where the slices reach, so that the plan itself would do.
         let lent = LentPlan {
             counts: [1, 0][..counts].to_vec(),
-            marks: vec![0; marks],
+            states: vec![0; states],
             fields: vec![0; fields],
         };
         let mut octets = P1.to_vec();
@@ -358,6 +409,8 @@ fn short_lent_slices() {
             after.fresh(0),
             after.mark(0, 1),
             after.mark(1, 8),
+            after.team(0, 1),
+            after.team(1, 32),
             after.join(transition(0)),
             after.join(transition(1)),
             after.unjoin(0),
@@ -370,8 +423,8 @@ fn short_lent_slices() {
             after.export(&mut buffer),
             after.export(&mut buffer[..0]),
         ];
-        assert_eq!(answers, [SHORT_SLICE; 15], "{counts} {marks} {fields}");
-        assert!(after == lent, "{counts} {marks} {fields}");
+        assert_eq!(answers, [SHORT_SLICE; 17], "{counts} {states} {fields}");
+        assert!(after == lent, "{counts} {states} {fields}");
         assert_eq!(buffer, [0xAA; 100]);
     }
 }
@@ -391,8 +444,8 @@ fn unjoin_at_every_place() {
     }
 }
 
-/// The version of the archive, 0.5.0.
+/// The version of the archive, 0.6.0.
 #[test]
 fn the_library_says_its_version() {
-    assert_eq!(reference::proved::version(), 500);
+    assert_eq!(reference::proved::version(), 600);
 }

@@ -3,7 +3,7 @@
 use reference::image::{encode, length};
 use reference::proved::LentPlan;
 use reference::rng::Rng;
-use reference::{Plan, Transition, MAX_STATES, MAX_TRANSITIONS};
+use reference::{Plan, State, Transition, MAX_STATES, MAX_TRANSITIONS};
 
 use crate::pair::{Call, Pair};
 use crate::texts::Numerals;
@@ -42,9 +42,33 @@ fn transition(rng: &mut Rng, n: usize) -> Transition {
 
 /// A plan within the limits.
 pub fn plan(rng: &mut Rng, n: usize, m: usize) -> Plan {
+    let states = (0..n).map(|_| State {
+        marks: rng.below(8) as u8,
+        team: team(rng) as u8,
+    });
+    let states = states.collect();
     Plan {
-        marks: (0..n).map(|_| rng.below(8) as u8).collect(),
+        states,
         transitions: (0..m).map(|_| transition(rng, n)).collect(),
+    }
+}
+
+/// A team, often at the edge of a class.
+pub fn team(rng: &mut Rng) -> u32 {
+    match rng.below(3) {
+        0 => rng.pick(&[0, 1, 9, 10, 19, 20, 29, 30, 31]),
+        1 => 0,
+        _ => rng.below(32) as u32,
+    }
+}
+
+/// A team number that is mostly one, else just above 31, or so wide that it is a team in fewer bits.
+pub fn about_team(rng: &mut Rng) -> u32 {
+    match rng.below(12) {
+        0 => rng.pick(&[32, 33, 63, 64, 255]),
+        1 => rng.pick(&[256, 259, 1 << 16, 1 << 31]) + team(rng),
+        2 => u32::MAX,
+        _ => team(rng),
     }
 }
 
@@ -74,26 +98,41 @@ pub fn image(rng: &mut Rng) -> Vec<u8> {
     }
 }
 
+/// An image of version 2, or of version 1, whose spare bits are zero.
 pub fn good_image(rng: &mut Rng) -> Vec<u8> {
     let (n, m) = size(rng);
-    encode(&plan(rng, n, m))
-}
-
-/// Random octets, the version often made 1.
-fn noise(rng: &mut Rng) -> Vec<u8> {
-    let length = rng.below(40);
-    let mut octets = rng.octets(length);
-    if length > 0 && rng.one_in(2) {
-        octets[0] = 0x10 | (octets[0] % 16);
+    let mut octets = encode(&plan(rng, n, m));
+    if rng.one_in(2) {
+        make_version_1(&mut octets);
     }
     octets
 }
 
-/// A good header over a random body of the right length, most of whose fields are then put right.
+/// Makes an image of version 2 one of version 1: the same plan without teams.
+pub fn make_version_1(octets: &mut [u8]) {
+    put(octets, 0, 4, 1);
+    for state in 0..get(octets, 4, 10) {
+        put(octets, spare_at(state), 5, 0);
+    }
+}
+
+/// Random octets, the version often made 1 or 2.
+fn noise(rng: &mut Rng) -> Vec<u8> {
+    let length = rng.below(40);
+    let mut octets = rng.octets(length);
+    if length > 0 && rng.one_in(2) {
+        octets[0] = rng.pick(&[0x10, 0x20]) | (octets[0] % 16);
+    }
+    octets
+}
+
+/// A good header of either version over a random body of the right length, most of whose fields are then
+/// put right. In version 2 the five bits of a state are a team, whatever they are.
 fn random_body(rng: &mut Rng) -> Vec<u8> {
     let n = rng.between(1, 12);
     let m = rng.below(12);
     let mut octets = encode(&Plan::fresh(n).unwrap());
+    put(&mut octets, 0, 4, rng.pick(&[1, 2]));
     put(&mut octets, 14, 12, m);
     octets.truncate(4);
     octets.extend(rng.octets(n + 5 * m));
@@ -146,7 +185,14 @@ fn damage(rng: &mut Rng, octets: &mut Vec<u8>) {
             let place = rng.below(octets.len());
             octets[place] = rng.next() as u8;
         }
-        2 => put(octets, 0, 4, rng.below(16)),
+        2 => {
+            let version = match rng.below(3) {
+                0 => rng.below(16),
+                // The other version: teams become spare bits that are set, and the reverse.
+                _ => 3 - get(octets, 0, 4).clamp(1, 2),
+            };
+            put(octets, 0, 4, version);
+        }
         3 => {
             let count = rng.pick(&[0, 1, 511, 512, 513, 1023, n + 1, n.max(1) - 1]);
             put(octets, 4, 10, count);
@@ -182,10 +228,10 @@ fn damage(rng: &mut Rng, octets: &mut Vec<u8>) {
 pub fn plan_to_export(rng: &mut Rng) -> Plan {
     let (n, m) = size(rng);
     let mut plan = plan(rng, n, m);
-    for marks in &mut plan.marks {
-        *marks %= 4;
+    for state in &mut plan.states {
+        state.marks %= 4;
     }
-    plan.marks[rng.below(n)] += 4;
+    plan.states[rng.below(n)].marks += 4;
     plan
 }
 
@@ -219,7 +265,7 @@ pub fn text(rng: &mut Rng) -> Vec<u8> {
 
 /// The numerals of a plan's text. Its first start is the initial state.
 fn numerals(plan: &Plan) -> Numerals {
-    let initial = plan.marks.iter().position(|&marks| marks >= 4);
+    let initial = plan.states.iter().position(|state| state.marks >= 4);
     let line = |t: &Transition| {
         let [low, high] = [t.low, t.high].map(|seconds| seconds.to_string());
         [t.from.to_string(), low, high, t.to.to_string()]
@@ -227,7 +273,7 @@ fn numerals(plan: &Plan) -> Numerals {
     Numerals {
         initial: initial.unwrap_or(0).to_string(),
         count: plan.transitions.len().to_string(),
-        states: plan.marks.len().to_string(),
+        states: plan.states.len().to_string(),
         lines: plan.transitions.iter().map(line).collect(),
     }
 }
@@ -419,15 +465,16 @@ fn about_32(rng: &mut Rng, bound: usize) -> u32 {
 
 /// A random call, whose arguments are mostly good ones for the plan.
 pub fn call(rng: &mut Rng, pair: &Pair) -> Call {
-    let n = pair.plan().marks.len();
+    let n = pair.plan().states.len();
     let m = pair.plan().transitions.len();
-    match rng.below(36) {
+    match rng.below(42) {
         0 => Call::Fresh(rng.pick(&[0, 1, 2, 5, 511, 512, 513, 1024, usize::MAX])),
         1..=8 => Call::Mark(about(rng, n), about_32(rng, 8)),
         9..=19 => Call::Join(join(rng, n)),
         20..=24 => Call::Unjoin(about(rng, m)),
         25..=28 => Call::Read(image(rng)),
         29..=30 => Call::Import(text(rng)),
+        36..=41 => Call::Team(about(rng, n), about_team(rng)),
         31..=33 => Call::Write(buffer(rng, pair.image_length())),
         _ => Call::Export(buffer(rng, pair.text_length())),
     }
@@ -479,7 +526,7 @@ fn buffer(rng: &mut Rng, length: usize) -> Vec<u8> {
 
 /// Alters one lent place or count of the plan by hand, mostly so that it breaks a limit.
 pub fn alter(rng: &mut Rng, pair: &mut Pair) {
-    let n = pair.plan().marks.len();
+    let n = pair.plan().states.len();
     let m = pair.plan().transitions.len();
     // Within the counts, or else at the first place past them.
     let state = about(rng, n).min(n).min(MAX_STATES - 1);
@@ -487,13 +534,15 @@ pub fn alter(rng: &mut Rng, pair: &mut Pair) {
     let limit = rng.pick(&[1, MAX_STATES + 1, MAX_TRANSITIONS + 1]);
     let count = about(rng, limit);
     let mark = rng.pick(&[7, 8, 9, 255]);
+    let team = rng.pick(&[31, 32, 33, 255]);
     let end = rng.pick(&[0, n - 1, n, n + 1, 512, u16::MAX as usize]) as u16;
     let seconds = rng.pick(&[0, 1, 2047, 2048, u16::MAX]);
     let at = |field: usize| field * MAX_TRANSITIONS + number;
-    let change: &dyn Fn(&mut LentPlan) = match rng.below(7) {
+    let change: &dyn Fn(&mut LentPlan) = match rng.below(8) {
         0 => &|lent| lent.counts[0] = count,
         1 => &|lent| lent.counts[1] = count,
-        2 => &|lent| lent.marks[state] = mark,
+        2 => &|lent| lent.states[state] = mark,
+        7 => &|lent| lent.states[MAX_STATES + state] = team,
         3 => &|lent| lent.fields[at(0)] = end,
         4 => &|lent| lent.fields[at(1)] = end,
         5 => &|lent| lent.fields[at(2)] = seconds,

@@ -34,16 +34,22 @@ fn random_images() {
     tally.assert_covers(&["read", "from_image"]);
 }
 
-/// Reads the image on both, and makes a plan of it alone. An accepted one must be written back as it
-/// was.
+/// Reads the image on both, and makes a plan of it alone. An accepted one of version 2 must be written
+/// back as it was, and one of version 1 as the same with version 2.
 fn read(pair: &mut Pair, octets: &[u8], tally: &mut Tally) {
-    let n = pair.plan().marks.len();
+    let n = pair.plan().states.len();
     let make = Call::FromImage(octets.to_vec());
     tally.add_call(&make, n, pair.clone().run(&make));
     let read = Call::Read(octets.to_vec());
     let answer = pair.run(&read);
     tally.add_call(&read, n, answer);
     if answer == ACCEPTED {
+        let mut octets = octets.to_vec();
+        if octets[0] < 0x20 {
+            octets[0] += 0x10;
+            let teams = pair.plan().teams();
+            assert!(teams.iter().all(|&team| team == 0), "{octets:02X?}");
+        }
         assert!(encode(pair.plan()) == octets, "{octets:02X?}");
         let written = pair.run(&Call::Write(vec![0xAA; octets.len() + 2]));
         assert_eq!(written, ACCEPTED + octets.len() as u32);
@@ -65,13 +71,53 @@ fn every_value_of_each_header_field() {
             pair.run(&Call::Read(octets));
         }
     }
-    // Every version with every pad.
-    for both in 0..1 << 10 {
-        let mut octets = good.clone();
-        put(&mut octets, 0, 4, both / 64);
-        put(&mut octets, 26, 6, both % 64);
-        let answer = pair.run(&Call::Read(octets));
-        assert_eq!(answer == ACCEPTED, both == 64);
+    // Every version with every pad, of a plan with teams and of one without.
+    let mut teamless = good.clone();
+    generate::make_version_1(&mut teamless);
+    let mut with_teams = teamless.clone();
+    with_teams[4] |= 31;
+    for (image, versions) in [(&teamless, &[1, 2][..]), (&with_teams, &[2])] {
+        for both in 0..1 << 10 {
+            let (version, pad) = (both / 64, both % 64);
+            let mut octets = image.clone();
+            put(&mut octets, 0, 4, version);
+            put(&mut octets, 26, 6, pad);
+            let answer = pair.run(&Call::Read(octets));
+            let expected = match (version, pad) {
+                (1 | 2, 0) if versions.contains(&version) => ACCEPTED,
+                (1 | 2, _) => 6,
+                _ => 3,
+            };
+            assert_eq!(answer, expected, "version {version}, pad {pad}");
+        }
+    }
+}
+
+/// Every team of every state, in both versions, over a plan with teams.
+#[test]
+fn every_team_of_each_state() {
+    let mut rng = Rng::of_test("every_team_of_each_state", SEED);
+    let n = 5;
+    let old = generate::plan(&mut rng, 7, 2);
+    for state in 0..n {
+        for team in 0..32 {
+            let mut plan = generate::plan(&mut rng, n, 3);
+            plan.states[state].team = team;
+            let octets = encode(&plan);
+            for call in [Call::Read, Call::FromImage] {
+                let mut pair = Pair::fresh(&mut rng, 1);
+                pair.by_hand(|lent| lent.hold(&old));
+                assert_eq!(pair.run(&call(octets.clone())), ACCEPTED);
+                assert!(*pair.plan() == plan);
+                let mut teamless = octets.clone();
+                generate::make_version_1(&mut teamless);
+                assert_eq!(pair.run(&call(teamless.clone())), ACCEPTED);
+                assert_eq!(pair.plan().teams(), vec![0; n]);
+                teamless[4 + state] |= team;
+                let answer = pair.run(&call(teamless));
+                assert_eq!(answer, if team == 0 { ACCEPTED } else { 6 });
+            }
+        }
     }
 }
 
@@ -81,7 +127,9 @@ fn every_value_of_each_body_field() {
     let mut rng = Rng::of_test("every_value_of_each_body_field", SEED);
     let mut pair = Pair::fresh(&mut rng, 3);
     let (n, m) = (5, 3);
-    let good = encode(&generate::plan(&mut rng, n, m));
+    let written = encode(&generate::plan(&mut rng, n, m));
+    let mut teamless = written.clone();
+    generate::make_version_1(&mut teamless);
     let states = (0..n).map(|state| (32 + 8 * state, 8));
     let transitions = (0..m).flat_map(|number| {
         let at = 32 + 8 * n + 40 * number;
@@ -89,11 +137,13 @@ fn every_value_of_each_body_field() {
     });
     for (at, width) in states.chain(transitions) {
         for value in 0..1 << width {
-            let mut octets = good.clone();
-            put(&mut octets, at, width, value);
-            let accepted = decode(&octets).is_ok();
-            let answer = pair.run(&Call::Read(octets));
-            assert_eq!(answer == ACCEPTED, accepted);
+            for good in [&written, &teamless] {
+                let mut octets = good.clone();
+                put(&mut octets, at, width, value);
+                let accepted = decode(&octets).is_ok();
+                let answer = pair.run(&Call::Read(octets));
+                assert_eq!(answer == ACCEPTED, accepted);
+            }
         }
     }
 }
@@ -109,10 +159,12 @@ fn wrong_transitions() {
             let mut pair = Pair::fresh(&mut rng, 5);
             assert_eq!(pair.run(&call), answer, "{plan:?}");
         }
-        // A spare bit of the last state comes before.
+        // A spare bit of the last state comes before; in version 2 it is none.
         let mut octets = octets;
         octets[7] |= 1;
         let mut pair = Pair::fresh(&mut rng, 5);
+        assert_eq!(pair.run(&Call::Read(octets.clone())), answer, "{plan:?}");
+        octets[0] -= 0x10;
         assert_eq!(pair.run(&Call::Read(octets)), 6, "{plan:?}");
     }
 }

@@ -5,7 +5,7 @@ use std::collections::BTreeSet;
 
 use reference::kinds::Kinds;
 use reference::proved::{
-    self, LentCalls, LentPlan, ACCEPTED, COUNTS, FIELDS, MARKS, NO_CALLS, OUT, SHORT_SLICE, WALKS,
+    self, LentCalls, LentPlan, ACCEPTED, COUNTS, FIELDS, NO_CALLS, OUT, SHORT_SLICE, STATES, WALKS,
 };
 use reference::rng::{Case, Rng};
 use reference::{rounds, Plan, Refusal, FIGURES, MAX_STATES};
@@ -39,6 +39,10 @@ fn push(rng: &mut Rng, calls: &mut LentCalls, call: &Call) {
         Call::Join(t) => {
             arguments = [t.from, t.to, t.low as usize, t.high as usize];
             1
+        }
+        Call::Team(state, team) => {
+            arguments[..2].copy_from_slice(&[*state, *team as usize]);
+            5
         }
         Call::Unjoin(number) => {
             arguments[0] = *number;
@@ -75,7 +79,7 @@ fn make(rng: &mut Rng, n: usize, tally: &mut Tally) -> Made {
             continue;
         }
         push(rng, &mut calls, &call);
-        let n = pair.plan().marks.len();
+        let n = pair.plan().states.len();
         let answer = pair.run(&call);
         tally.add_call(&call, n, answer);
         answers.push(answer);
@@ -94,7 +98,7 @@ fn make(rng: &mut Rng, n: usize, tally: &mut Tally) -> Made {
 fn damage(rng: &mut Rng, calls: &mut LentCalls) {
     let last = calls.kinds.len() - 1;
     match rng.below(4) {
-        0 => calls.kinds[rng.below(last + 1)] = rng.pick(&[5, 6, 128, 255]),
+        0 => calls.kinds[rng.below(last + 1)] = rng.pick(&[6, 7, 128, 255]),
         1 => {
             calls.kinds[last] = rng.pick(&[3, 4]);
             let end = calls.octets.len();
@@ -130,11 +134,46 @@ fn whole_lists_of_calls() {
     answers.remove(&Refusal::ListFull.number());
     assert!(answers
         .into_iter()
-        .eq([1, 2, 3, 4, 5, 6, 7, 8, 10, 12, 15, 16, 17, ACCEPTED]));
+        .eq([1, 2, 3, 4, 5, 6, 7, 8, 10, 12, 15, 16, 17, 18, ACCEPTED]));
+}
+
+/// Arguments of lists are wide: a team or a marks value that is one in 32 bits is none.
+#[test]
+fn wide_arguments_in_lists() {
+    let wide = 1usize << 32;
+    let rows = [
+        (5, [0, 31], ACCEPTED),
+        (5, [0, 32], 18),
+        (5, [0, 259], 18),
+        (5, [0, wide + 3], 18),
+        (5, [0, usize::MAX], 18),
+        (5, [2, wide + 3], 7),
+        (5, [wide, 3], 7),
+        (0, [1, wide + 3], 12),
+        (0, [1, 3], ACCEPTED),
+        (5, [1, 20], ACCEPTED),
+        (0, [1, 2], ACCEPTED),
+    ];
+    let calls = LentCalls {
+        kinds: rows.iter().map(|row| row.0).collect(),
+        arguments: rows
+            .iter()
+            .flat_map(|row| [row.1[0], row.1[1], 0, 0])
+            .collect(),
+        octets: Vec::new(),
+    };
+    let mut answers = vec![0; rows.len()];
+    let mut lent = LentPlan::zeroed();
+    let (mut walks, mut out) = (vec![0; WALKS], vec![0; 4 * OUT]);
+    let answer = proved::replay(2, &calls, &mut answers, &mut lent, &mut walks, &mut out);
+    assert_eq!(answer, ACCEPTED);
+    assert_eq!(answers, rows.map(|row| row.2));
+    let plan = lent.plan();
+    assert_eq!((plan.marks(), plan.teams()), (vec![0, 2], vec![31, 20]));
 }
 
 /// Every text at the edges, imported in one list: first without its last octet, which is a part of
-/// the same octets. Marks come between.
+/// the same octets. Marks and teams come between.
 #[test]
 fn a_list_of_imports() {
     let mut rng = Rng::of_test("a_list_of_imports", SEED);
@@ -154,7 +193,7 @@ fn a_list_of_imports() {
             expected_lent.hold(pair.plan());
         }
         assert_eq!(expected.last(), Some(&answer));
-        for call in [Call::Mark(0, 7), Call::Mark(3, 2)] {
+        for call in [Call::Mark(0, 7), Call::Team(0, 31), Call::Mark(3, 2)] {
             push(&mut rng, &mut calls, &call);
             expected.push(pair.run(&call));
             expected_lent.hold(pair.plan());
@@ -209,7 +248,7 @@ fn one(rng: &mut Rng, tally: &mut Tally, kinds: &mut Kinds) -> Vec<u32> {
     let (walk_places, few_walks) = size(WALKS, true);
     let (out_places, few_out) = size(4 * OUT, true);
     let (count_places, few_counts) = size(COUNTS, true);
-    let (mark_places, few_marks) = size(MARKS, true);
+    let (state_places, few_states) = size(STATES, true);
     let (field_places, few_fields) = size(FIELDS, true);
 
     let mut answers: Vec<u32> = (0..answer_places).map(|_| rng.next() as u32).collect();
@@ -217,7 +256,7 @@ fn one(rng: &mut Rng, tally: &mut Tally, kinds: &mut Kinds) -> Vec<u32> {
     let mut out: Vec<u32> = (0..out_places).map(|_| rng.next() as u32).collect();
     let mut lent = LentPlan {
         counts: (0..count_places).map(|_| rng.next() as usize).collect(),
-        marks: rng.octets(mark_places),
+        states: rng.octets(state_places),
         fields: (0..field_places).map(|_| rng.next() as u16).collect(),
     };
     let (mut expected_answers, mut expected_walks) = (answers.clone(), walks.clone());
@@ -226,7 +265,7 @@ fn one(rng: &mut Rng, tally: &mut Tally, kinds: &mut Kinds) -> Vec<u32> {
 
     let answer = proved::replay(n, &calls, &mut answers, &mut lent, &mut walks, &mut out);
     tally.add("replay", answer);
-    let expected = if few_counts || few_marks || few_fields {
+    let expected = if few_counts || few_states || few_fields {
         SHORT_SLICE
     } else if !is_list {
         NO_CALLS
@@ -241,7 +280,7 @@ fn one(rng: &mut Rng, tally: &mut Tally, kinds: &mut Kinds) -> Vec<u32> {
     if answer == ACCEPTED {
         expected_answers[..count].copy_from_slice(&made.answers);
         expected_lent.counts[..COUNTS].copy_from_slice(&made.lent.counts);
-        expected_lent.marks[..MARKS].copy_from_slice(&made.lent.marks);
+        expected_lent.states[..STATES].copy_from_slice(&made.lent.states);
         expected_lent.fields[..FIELDS].copy_from_slice(&made.lent.fields);
         let values = FIGURES.map(|figure| rounds::quote(&made.plan, figure).value);
         library::assert_four(

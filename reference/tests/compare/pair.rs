@@ -2,8 +2,8 @@
 
 use reference::aldebaran;
 use reference::image::decode;
-use reference::proved::{LentPlan, ACCEPTED, COUNTS, FIELDS, MARKS};
-use reference::{Plan, Refusal, Transition, MAX_TRANSITIONS};
+use reference::proved::{LentPlan, ACCEPTED, COUNTS, FIELDS, STATES};
+use reference::{Plan, Refusal, Transition, MAX_STATES, MAX_TRANSITIONS};
 
 use reference::rng::Rng;
 
@@ -14,6 +14,7 @@ pub enum Call {
     /// A plan made from an image alone.
     FromImage(Vec<u8>),
     Mark(usize, u32),
+    Team(usize, u32),
     Join(Transition),
     Unjoin(usize),
     Read(Vec<u8>),
@@ -30,6 +31,7 @@ impl Call {
             Call::Fresh(_) => "fresh",
             Call::FromImage(_) => "from_image",
             Call::Mark(..) => "mark",
+            Call::Team(..) => "team",
             Call::Join(_) => "join",
             Call::Unjoin(_) => "unjoin",
             Call::Read(_) => "read",
@@ -53,7 +55,7 @@ impl Pair {
         let more = rng.below(4);
         let lent = LentPlan {
             counts: (0..COUNTS + more).map(|_| rng.next() as usize).collect(),
-            marks: rng.octets(MARKS + more),
+            states: rng.octets(STATES + more),
             fields: (0..FIELDS + more).map(|_| rng.next() as u16).collect(),
         };
         let plan = lent.plan();
@@ -78,7 +80,7 @@ impl Pair {
     }
 
     pub fn image_length(&self) -> usize {
-        reference::image::length(self.plan.marks.len(), self.plan.transitions.len())
+        reference::image::length(self.plan.states.len(), self.plan.transitions.len())
     }
 
     /// The length of the plan's text, or of no text in particular where it has none.
@@ -97,10 +99,12 @@ impl Pair {
 
     /// Fills the places of the plan past the counts with noise, which is no part of the plan.
     pub fn fill_past_counts(&mut self, rng: &mut Rng) {
-        let n = self.plan.marks.len();
+        let n = self.plan.states.len();
         let m = self.plan.transitions.len();
-        for mark in self.lent.marks.iter_mut().skip(n) {
-            *mark = rng.next() as u8;
+        // The marks values, the teams, and what is past both.
+        let lent = self.lent.states.len();
+        for place in (n..MAX_STATES).chain(MAX_STATES + n..lent) {
+            self.lent.states[place] = rng.next() as u8;
         }
         for field in 0..4 {
             for number in m..MAX_TRANSITIONS {
@@ -126,6 +130,10 @@ impl Pair {
             Call::Mark(state, value) => (
                 number(self.plan.mark(*state, *value)),
                 self.lent.mark(*state, *value),
+            ),
+            Call::Team(state, team) => (
+                number(self.plan.team(*state, *team)),
+                self.lent.team(*state, *team),
             ),
             Call::Join(transition) => (
                 number(self.plan.join(*transition)),
@@ -174,7 +182,7 @@ impl Pair {
             assert!(self.lent.plan() == self.plan, "plans after {call:?}");
             let mut expected = before;
             if let Call::Fresh(_) | Call::FromImage(_) = call {
-                expected.marks[..MARKS].fill(0);
+                expected.states[..STATES].fill(0);
                 expected.fields[..FIELDS].fill(0);
             }
             expected.hold(&self.plan);

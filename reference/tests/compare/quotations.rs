@@ -4,7 +4,9 @@ use std::collections::BTreeSet;
 
 use reference::image::decode;
 use reference::kinds::Kinds;
-use reference::proved::{self, LentPlan, ACCEPTED, COUNTS, FIELDS, MARKS, OUT, SHORT_SLICE, WALKS};
+use reference::proved::{
+    self, LentPlan, ACCEPTED, COUNTS, FIELDS, OUT, SHORT_SLICE, STATES, WALKS,
+};
 use reference::rng::{Case, Rng};
 use reference::{
     rounds, Figure, Plan, Refusal, Transition, Value, FIGURES, MAX_STATES, MAX_TRANSITIONS,
@@ -21,6 +23,7 @@ use crate::vectors::P1;
 const SEED: u64 = 0x0000_0C0D;
 const LISTS: u64 = 8_000;
 const IMAGES: u64 = 40_000;
+const CLASS_PLANS: u64 = 20_000;
 
 fn values(plan: &Plan) -> [Value; 4] {
     FIGURES.map(|figure| rounds::quote(plan, figure).value)
@@ -37,6 +40,10 @@ fn lists_of_calls_then_quotations() {
         let pair = run_list(&mut rng, &mut tally);
         let values = values(pair.plan());
         library::compare(&mut rng, pair.lent(), pair.plan(), &values);
+        for _ in 0..2 {
+            let team = generate::about_team(&mut rng);
+            count_for(&mut rng, &pair, team, &mut tally);
+        }
         kinds.add(&values);
     }
     kinds.print(&format!(
@@ -45,6 +52,81 @@ fn lists_of_calls_then_quotations() {
     ));
     kinds.assert_covers();
     tally.assert_covers(&CALLS);
+}
+
+const CLASS_COUNTS: [Figure; 2] = [Figure::LeastCount, Figure::GreatestCount];
+
+/// Both counts for the class of a team, or of what is no team, into buffers that are long enough or too
+/// short: what the second calculator says.
+fn count_for(rng: &mut Rng, pair: &Pair, team: u32, tally: &mut Tally) {
+    let (lent, plan) = (pair.lent(), pair.plan());
+    let n = plan.states.len();
+    for figure in CLASS_COUNTS {
+        let fewer = rng.below(n);
+        let places = rng.pick(&[n, n + 1, n + 600, n - 1, fewer]);
+        let asked = figure.for_class_of(team);
+        let quoted = plan.quote(asked, &mut vec![0; places]);
+        let expected = quoted.map(|quotation| quotation.value);
+        library::quote(rng, lent, plan, asked, places, expected);
+        let answer = expected.map_or_else(Refusal::number, |_| ACCEPTED);
+        tally.add("count_for", answer);
+    }
+}
+
+/// Counts for classes after lists of calls, of plans altered by hand too: every answer that the table
+/// gives them, and all four kinds.
+#[test]
+fn counts_for_classes() {
+    let mut rng = Rng::of_test("counts_for_classes", SEED);
+    let mut tally = Tally::default();
+    let mut kinds = BTreeSet::new();
+    for _ in 0..CLASS_PLANS {
+        let n = rng.between(1, 12);
+        let m = rng.below(3 * n);
+        let mut pair = random(&mut rng, n, m);
+        for team in [generate::team(&mut rng), generate::about_team(&mut rng)] {
+            count_for(&mut rng, &pair, team, &mut tally);
+            for figure in CLASS_COUNTS {
+                if let Ok(quotation) = pair.plan().quote(figure.for_class_of(team), &mut [0; 12]) {
+                    kinds.insert((figure.name(), quotation.value.kind()));
+                }
+            }
+        }
+        generate::alter(&mut rng, &mut pair);
+        if !pair.plan().states.is_empty() {
+            let team = generate::about_team(&mut rng);
+            count_for(&mut rng, &pair, team, &mut tally);
+        }
+    }
+    tally.print(&format!("counts for classes: {CLASS_PLANS} plans"));
+    tally.assert_covers(&["count_for"]);
+    let [least, greatest] = CLASS_COUNTS.map(Figure::name);
+    let greatest_kinds = [0, 1, 2, 3].map(|kind| (greatest, kind));
+    let least_kinds = [0, 1].map(|kind| (least, kind));
+    assert!(kinds
+        .into_iter()
+        .eq(greatest_kinds.into_iter().chain(least_kinds)));
+}
+
+/// P1 with teams: each of the 32 numbers, and the numbers past them.
+#[test]
+fn every_team_number() {
+    let mut rng = Rng::of_test("every_team_number", SEED);
+    let mut tally = Tally::default();
+    for teams in [
+        [0, 0, 0, 0],
+        [0, 9, 10, 31],
+        [9, 1, 5, 30],
+        [10, 19, 20, 29],
+    ] {
+        let mut pair = p1(&mut rng);
+        for (state, team) in teams.into_iter().enumerate() {
+            assert_eq!(pair.run(&Call::Team(state, team)), ACCEPTED);
+        }
+        for team in (0..40).chain([255, 256, 259, 1 << 16, u32::MAX]) {
+            count_for(&mut rng, &pair, team, &mut tally);
+        }
+    }
 }
 
 /// P10, made by calls, and then its transitions open from the last one on.
@@ -157,6 +239,16 @@ fn buffers_of_walks_and_records() {
                 library::quote(&mut rng, pair.lent(), pair.plan(), figure, places, expected);
             }
         }
+        for figure in CLASS_COUNTS {
+            for team in [0, 9, 10, 31, 32, 259, u32::MAX] {
+                let asked = figure.for_class_of(team);
+                for places in [0, n - 1, n, n + 1] {
+                    let quoted = pair.plan().quote(asked, &mut vec![0; places]);
+                    let expected = quoted.map(|quotation| quotation.value);
+                    library::quote(&mut rng, pair.lent(), pair.plan(), asked, places, expected);
+                }
+            }
+        }
         for octets in [0, 10, 11, 12, 40] {
             library::record(&mut rng, pair.lent(), pair.plan(), octets);
         }
@@ -167,7 +259,7 @@ fn buffers_of_walks_and_records() {
 fn quotations_of_plans_that_break_a_limit() {
     let mut rng = Rng::of_test("quotations_of_plans_that_break_a_limit", SEED);
     for good in [p1(&mut rng), random(&mut rng, MAX_STATES, MAX_TRANSITIONS)] {
-        let n = good.plan().marks.len();
+        let n = good.plan().states.len();
         let m = good.plan().transitions.len();
         for (_, change) in breaks(n, m) {
             let mut pair = good.clone();
@@ -178,6 +270,15 @@ fn quotations_of_plans_that_break_a_limit() {
                 for places in [0, n - 1, n, 600] {
                     let refused = Err(Refusal::BrokenPlan);
                     library::quote(&mut rng, lent, plan, figure, places, refused);
+                }
+            }
+            for figure in CLASS_COUNTS {
+                for team in [0, 31, 32, u32::MAX] {
+                    for places in [0, n - 1, n, 600] {
+                        let refused = Err(Refusal::BrokenPlan);
+                        let asked = figure.for_class_of(team);
+                        library::quote(&mut rng, lent, plan, asked, places, refused);
+                    }
                 }
             }
             for octets in [0, 10, 11, 12] {
@@ -196,19 +297,20 @@ fn short_slices_for_plans_and_answers() {
         Refusal::BrokenPlan.number(),
         Refusal::BufferTooShort.number(),
     );
-    for (counts, marks, fields) in [
-        (1, MARKS, FIELDS),
-        (COUNTS, MARKS - 1, FIELDS),
-        (COUNTS, MARKS, FIELDS - 1),
+    for (counts, states, fields) in [
+        (1, STATES, FIELDS),
+        (COUNTS, MAX_STATES, FIELDS),
+        (COUNTS, STATES - 1, FIELDS),
+        (COUNTS, STATES, FIELDS - 1),
         (0, 0, 0),
-        (COUNTS, MARKS, FIELDS),
+        (COUNTS, STATES, FIELDS),
     ] {
-        let is_plan = (counts, marks, fields) == (COUNTS, MARKS, FIELDS);
+        let is_plan = (counts, states, fields) == (COUNTS, STATES, FIELDS);
         for n in [0, 1] {
             // No plan, or a plan of one state.
             let lent = LentPlan {
                 counts: [n, 0][..counts].to_vec(),
-                marks: vec![0; marks],
+                states: vec![0; states],
                 fields: vec![0; fields],
             };
             let before = lent.clone();
@@ -222,7 +324,19 @@ fn short_slices_for_plans_and_answers() {
                 };
                 for figure in FIGURES {
                     let answer = lent.quote(figure, &mut walk, &mut answers);
-                    assert_eq!(answer, expected, "{counts} {marks} {fields} {out}");
+                    assert_eq!(answer, expected, "{counts} {states} {fields} {out}");
+                }
+                for figure in CLASS_COUNTS {
+                    for team in [0, 31, 32, 259] {
+                        let asked = figure.for_class_of(team);
+                        let answer = lent.quote(asked, &mut walk, &mut answers);
+                        // A team above 31 comes after the plan and before the places.
+                        let expected = match expected == few && team > 31 {
+                            true => Refusal::TeamNumber.number(),
+                            false => expected,
+                        };
+                        assert_eq!(answer, expected, "{counts} {states} {fields} {out}");
+                    }
                 }
                 assert!(walk.iter().all(|&place| place == 7));
                 assert!(answers.iter().all(|&place| place == 7));

@@ -11,16 +11,18 @@ use crate::wrong::{self, Wrong, WAYS};
 
 /// The numbers by which the table lets each call be refused; of replay also those of what is no
 /// list of calls, and no plan.
-const TABLE: [(&str, &[u32]); 11] = [
+const TABLE: [(&str, &[u32]); 13] = [
     ("fresh", &[4]),
     ("from_image", &[1, 2, 3, 4, 5, 6, 8, 16, 17]),
     ("mark", &[0, 7, 12]),
+    ("team", &[0, 7, 18]),
     ("join", &[0, 8, 9, 16, 17]),
     ("unjoin", &[0, 10]),
     ("read", &[0, 1, 2, 3, 4, 5, 6, 8, 16, 17]),
     ("import", &[0, 4, 5, 7, 8, 15, 16, 17]),
     ("write", &[0, 11]),
     ("export", &[0, 11, 14]),
+    ("count_for", &[0, 11, 18]),
     ("quote", &[1, 2, 3, 4, 5, 6, 8, 16, 17]),
     ("replay", &[4, 11, 254, 255]),
 ];

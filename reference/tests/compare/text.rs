@@ -36,7 +36,7 @@ fn import_and_back(pair: &mut Pair, text: &[u8]) -> u32 {
 
 /// The same, counted.
 fn import_and_count(pair: &mut Pair, text: &[u8], tally: &mut Tally) {
-    let n = pair.plan().marks.len();
+    let n = pair.plan().states.len();
     let answer = import_and_back(pair, text);
     tally.add_call(&Call::Import(text.to_vec()), n, answer);
 }
@@ -116,7 +116,8 @@ fn random_texts() {
     tally.assert_covers(&["import"]);
 }
 
-/// Exported text imports as the plan stripped of its final and counted marks.
+/// Exported text imports as the plan stripped of its final and counted marks and its teams, over a plan
+/// with teams.
 #[test]
 fn random_plans_there_and_back() {
     let mut rng = Rng::of_test("random_plans_there_and_back", SEED);
@@ -138,8 +139,11 @@ fn random_plans_there_and_back() {
             assert_eq!(pair.run(&Call::Export(buffer)), answer, "{plan:?}");
         }
         let mut other = Pair::fresh(&mut rng, 1);
+        let old = generate::plan(&mut rng, 30, 3);
+        other.by_hand(|lent| lent.hold(&old));
         assert_eq!(import_and_back(&mut other, text.as_bytes()), ACCEPTED);
         assert!(*other.plan() == plan.stripped(), "{plan:?}");
+        assert!(other.plan().teams().iter().all(|&team| team == 0));
         assert_eq!(decode(text.as_bytes()), Ok(plan.stripped()));
     }
 }
@@ -166,8 +170,8 @@ fn full_plans() {
 fn every_length_of_a_buffer() {
     let mut rng = Rng::of_test("every_length_of_a_buffer", SEED);
     let mut other = generate::plan(&mut rng, 40, 30);
-    other.marks.iter_mut().for_each(|marks| *marks %= 4);
-    other.marks[39] += 4;
+    other.states.iter_mut().for_each(|state| state.marks %= 4);
+    other.states[39].marks += 4;
     let mut pairs = [p1(&mut rng), Pair::fresh(&mut rng, 1)];
     pairs[1].by_hand(|lent| lent.hold(&other));
     for pair in &mut pairs {

@@ -34,10 +34,7 @@ pub fn plans() -> Vec<(Plan, Option<u32>)> {
                 let mut transitions = vec![transition(3, 3, 0, 0); 4];
                 transitions[earlier] = one;
                 transitions[later] = other;
-                let plan = Plan {
-                    marks: vec![4, 1, 1, 2],
-                    transitions,
-                };
+                let plan = Plan::of(vec![4, 1, 1, 2], transitions);
                 list.push((plan, first_number.or(second_number)));
             }
         }

@@ -1,7 +1,8 @@
-//! The plans of document 01 whose figures it gives, those of our own for E2 of document 02, and the
-//! edges beside them.
+//! The plans of document 01 whose figures it gives, those of our own for E2 and E4 of document 02, and
+//! the edges beside them.
 
 use std::fs;
+use std::ops::RangeInclusive;
 use std::path::Path;
 
 use reference::check::check;
@@ -10,8 +11,9 @@ use reference::quotation::RECORD_OCTETS;
 use reference::rng::Rng;
 use reference::{rounds, text, Figure, Plan, Refusal, Transition, Value, FIGURES};
 
-use crate::means::compare;
-use crate::vectors::P1;
+use crate::means::{agree, agree_class, compare, COUNTS};
+use crate::shapes::give_teams;
+use crate::vectors::{P1, P1_WRITTEN};
 use Value::{Endless, None, Number, Stranded};
 
 const SEED: u64 = 0x0000_0001;
@@ -32,10 +34,7 @@ fn plan(marks: &[u8], steps: &[(usize, usize, u32, u32)]) -> Plan {
         low,
         high,
     });
-    Plan {
-        marks: marks.to_vec(),
-        transitions: transitions.collect(),
-    }
+    Plan::of(marks.to_vec(), transitions.collect())
 }
 
 /// A plan with its name and its figures.
@@ -49,10 +48,7 @@ pub fn known() -> Vec<Row> {
 /// P1 to P9, and some more that no row of them is like.
 fn closed() -> Vec<Row> {
     let p1 = decode(&P1).unwrap();
-    let p5 = Plan {
-        marks: vec![0, 1, 1, 2],
-        ..p1.clone()
-    };
+    let p5 = Plan::of(vec![0, 1, 1, 2], p1.transitions.clone());
     vec![
         ("P1", p1, [Number(7), Number(60), Number(1), Number(2)]),
         (
@@ -239,7 +235,7 @@ fn known_plans() {
         assert_eq!(compare(&mut rng, &plan), values, "{name}");
         let octets = encode(&plan);
         let lines = FIGURES.map(|figure| {
-            let mut buffer = vec![7; plan.marks.len() + 1];
+            let mut buffer = vec![7; plan.states.len() + 1];
             let quotation = plan.quote(figure, &mut buffer).unwrap();
             let k = quotation.walk.len();
             let numbers: Vec<u16> = quotation.walk.iter().map(|&number| number as u16).collect();
@@ -254,6 +250,103 @@ fn known_plans() {
 #[test]
 fn the_lines_of_p1() {
     assert_eq!(text::quote(&P1), P1_LINES);
+    assert_eq!(text::quote(&P1_WRITTEN), P1_LINES);
+    // "The counts may be quoted for any one of these five classes": the lines have the counted mark.
+    let mut octets = P1_WRITTEN;
+    for state in 0..4 {
+        octets[4 + state] += 31 - 7 * state as u8;
+    }
+    assert_eq!(text::quote(&octets), P1_LINES);
+}
+
+/// The teams of each class: none, wards, clinics, switchboards, outside lines (document 02, E4).
+const CLASSES: [RangeInclusive<u32>; 5] = [0..=0, 1..=9, 10..=19, 20..=29, 30..=31];
+
+/// A plan with these teams.
+pub fn with_teams(plan: &Plan, teams: &[u8]) -> Plan {
+    let mut plan = plan.clone();
+    for (state, &team) in plan.states.iter_mut().zip(teams) {
+        state.team = team;
+    }
+    plan
+}
+
+/// P1 with teams, and for each class in turn the least and the greatest count. Its routes visit states
+/// 0, 1, 3 and 0, 1, 2, 3.
+pub const P1_CLASSES: [([u8; 4], [[u32; 2]; 5]); 6] = [
+    ([0, 0, 0, 0], [[3, 4], [0, 0], [0, 0], [0, 0], [0, 0]]),
+    ([0, 9, 10, 31], [[1, 1], [1, 1], [0, 1], [0, 0], [1, 1]]),
+    ([9, 1, 5, 31], [[0, 0], [2, 3], [0, 0], [0, 0], [1, 1]]),
+    ([10, 19, 20, 29], [[0, 0], [0, 0], [2, 2], [1, 2], [0, 0]]),
+    ([30, 31, 30, 1], [[0, 0], [1, 1], [0, 0], [0, 0], [2, 3]]),
+    ([20, 20, 29, 0], [[1, 1], [0, 0], [0, 0], [2, 3], [0, 0]]),
+];
+
+/// A quotation for each of the 32 team numbers: each number of a class has the figures of the class.
+#[test]
+fn every_team_names_its_class() {
+    let p1 = decode(&P1).unwrap();
+    for (teams, counts) in P1_CLASSES {
+        let plan = with_teams(&p1, &teams);
+        assert_eq!(decode(&encode(&plan)), Ok(plan.clone()));
+        for (class, counts) in CLASSES.into_iter().zip(counts) {
+            for team in class {
+                let values = counts.map(Number);
+                assert_eq!(agree_class(&plan, team), values, "{teams:?} {team}");
+                for (figure, value) in COUNTS.into_iter().zip(values) {
+                    let asked = figure.for_class_of(team);
+                    let quotation = plan.quote(asked, &mut [0; 4]).unwrap();
+                    assert_eq!(quotation.value, value, "{teams:?} {team}");
+                }
+            }
+        }
+    }
+}
+
+/// A state of every team on one route: each class counts as many as it has numbers.
+#[test]
+fn all_teams_on_one_route() {
+    let n = 32;
+    let mut plan = Plan::fresh(n).unwrap();
+    plan.mark(0, 5).unwrap();
+    plan.mark(n - 1, 3).unwrap();
+    for state in 0..n {
+        plan.team(state, 31 - state as u32).unwrap();
+        if state > 0 {
+            plan.join(Transition {
+                from: state - 1,
+                to: state,
+                low: 1,
+                high: 1,
+            })
+            .unwrap();
+        }
+    }
+    for (class, count) in CLASSES.into_iter().zip([1, 9, 10, 10, 2]) {
+        for team in class {
+            assert_eq!(agree_class(&plan, team), [Number(count); 2], "{team}");
+        }
+    }
+    // The counted mark is another yes-or-no.
+    assert_eq!(agree(&plan)[2..], [Number(2); 2]);
+}
+
+/// Whatever the teams, a count for a class has the kind that the count has: "NONE", "STRANDED" and
+/// "ENDLESS" are of the walks alone.
+#[test]
+fn counts_for_a_class_have_the_kinds_of_the_counts() {
+    let mut rng = Rng::of_test("counts_for_a_class_have_the_kinds_of_the_counts", SEED);
+    for (name, mut plan, [.., least, greatest]) in known() {
+        for _ in 0..4 {
+            for team in 0..32 {
+                let values = agree_class(&plan, team);
+                for (value, count) in values.into_iter().zip([least, greatest]) {
+                    assert_eq!(value.kind(), count.kind(), "{name} for team {team}");
+                }
+            }
+            give_teams(&mut rng, &mut plan);
+        }
+    }
 }
 
 #[test]
@@ -378,7 +471,7 @@ fn stored_lines() {
 #[test]
 fn short_buffers_and_broken_plans() {
     let p1 = decode(&P1).unwrap();
-    let broken = plan(&[8], &[]);
+    let broken = with_teams(&plan(&[7], &[]), &[32]);
     for figure in FIGURES {
         let mut buffer = [7; 5];
         let refused = p1.quote(figure, &mut buffer[..3]);

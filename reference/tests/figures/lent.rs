@@ -1,7 +1,7 @@
 //! Plans lent to the proved library, and the lines that its answers make.
 
 use reference::image::encode;
-use reference::proved::{self, LentPlan, ACCEPTED, COUNTS, FIELDS, MARKS, OUT, WALKS};
+use reference::proved::{self, LentPlan, ACCEPTED, COUNTS, FIELDS, OUT, STATES, WALKS};
 use reference::quotation::RECORD_OCTETS;
 use reference::rng::Rng;
 use reference::{text, Figure, Plan, Value, FIGURES, MAX_STATES};
@@ -15,23 +15,30 @@ pub fn lend(rng: &mut Rng, plan: &Plan) -> LentPlan {
     let more = rng.below(3);
     let mut lent = LentPlan {
         counts: (0..COUNTS + more).map(|_| rng.next() as usize).collect(),
-        marks: rng.octets(MARKS + more),
+        states: rng.octets(STATES + more),
         fields: (0..FIELDS + more).map(|_| rng.next() as u16).collect(),
     };
     lent.hold(plan);
     lent
 }
 
-/// Quotes the plan's image, and makes one of the other calls.
-pub fn compare_some(rng: &mut Rng, lent: &LentPlan, plan: &Plan, values: &[Value; 4]) {
+/// Quotes the plan's image, and makes one of the other calls. The counts for the class of the team are
+/// those of the plan.
+pub fn compare_some(rng: &mut Rng, lent: &LentPlan, plan: &Plan, values: &[Value; 4], team: u32) {
     library::quote_image(rng, &encode(plan), Ok((plan, values)));
-    match rng.below(FIGURES.len() + 1) {
+    let places = plan.states.len();
+    match rng.below(FIGURES.len() + 3) {
         0 => library::record(rng, lent, plan, RECORD_OCTETS),
-        choice => {
+        choice @ 1..=4 => {
             let figure = FIGURES[choice - 1];
-            let places = plan.marks.len();
             let value = values[figure as usize];
             library::quote(rng, lent, plan, figure, places, Ok(value));
+        }
+        choice => {
+            let figure = FIGURES[choice - 3];
+            let value = values[figure as usize];
+            let asked = figure.for_class_of(team);
+            library::quote(rng, lent, plan, asked, places, Ok(value));
         }
     }
 }

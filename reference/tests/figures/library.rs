@@ -6,13 +6,13 @@ use reference::image::encode;
 use reference::proved::{self, LentPlan, ACCEPTED, OUT, WALKS};
 use reference::quotation::RECORD_OCTETS;
 use reference::rng::Rng;
-use reference::{Figure, Plan, Quotation, Refusal, Value, FIGURES, MAX_STATES};
+use reference::{Asked, Plan, Quotation, Refusal, Value, FIGURES, MAX_STATES};
 
 /// Makes every call that quotes on the plan that the slices hold: buffers of n - 1, n or n + 1
 /// places, and of 10, 11 or 12 octets.
 pub fn compare(rng: &mut Rng, lent: &LentPlan, plan: &Plan, values: &[Value; 4]) {
     for figure in FIGURES {
-        let n = plan.marks.len();
+        let n = plan.states.len();
         let places = n - 1 + rng.below(3);
         let expected = match places >= n {
             true => Ok(values[figure as usize]),
@@ -30,31 +30,32 @@ pub fn quote(
     rng: &mut Rng,
     lent: &LentPlan,
     plan: &Plan,
-    figure: Figure,
+    asked: impl Into<Asked>,
     places: usize,
     expected: Result<Value, Refusal>,
 ) {
+    let asked = asked.into();
+    let name = asked.name();
     let lent_before = lent.clone();
     let mut walk = vec![rng.next() as u16; places];
     let mut out = vec![rng.next() as u32; OUT + rng.below(3)];
     let (mut expected_walk, mut expected_out) = (walk.clone(), out.clone());
 
-    // Too few places for the answer: the plan's refusal, or 11.
+    // Too few places for the answer: the plan's refusal, the team's, or 11.
     let short = match expected {
-        Err(Refusal::BrokenPlan) => Refusal::BrokenPlan,
-        _ => Refusal::BufferTooShort,
+        Err(refusal) => refusal,
+        Ok(_) => Refusal::BufferTooShort,
     };
-    let answer = lent.quote(figure, &mut walk, &mut out[..rng.below(OUT)]);
-    assert_eq!(answer, short.number(), "{}: a short answer", figure.name());
+    let answer = lent.quote(asked, &mut walk, &mut out[..rng.below(OUT)]);
+    assert_eq!(answer, short.number(), "{name}: a short answer");
     assert!(walk == expected_walk && out == expected_out, "a refusal");
 
-    let answer = lent.quote(figure, &mut walk, &mut out);
-    let name = figure.name();
+    let answer = lent.quote(asked, &mut walk, &mut out);
     match expected {
         Err(refusal) => assert_eq!(answer, refusal.number(), "{name}, {places} places"),
         Ok(value) => {
             assert_eq!(answer, ACCEPTED, "{name} of {plan:?}");
-            let k = assert_shown(plan, figure, value, &walk, &out);
+            let k = assert_shown(plan, asked, value, &walk, &out);
             expected_walk[..k].copy_from_slice(&walk[..k]);
             expected_out[..OUT].copy_from_slice(&out[..OUT]);
         }
@@ -118,7 +119,7 @@ pub fn assert_four(
     for (place, figure) in FIGURES.into_iter().enumerate() {
         let walk = &walks[MAX_STATES * place..][..MAX_STATES];
         let out = &out[OUT * place..][..OUT];
-        let k = assert_shown(plan, figure, values[place], walk, out);
+        let k = assert_shown(plan, figure.into(), values[place], walk, out);
         expected_walks[MAX_STATES * place..][..k].copy_from_slice(&walk[..k]);
         expected_out[OUT * place..][..OUT].copy_from_slice(out);
     }
@@ -143,8 +144,8 @@ pub fn quote_image_short(rng: &mut Rng, octets: &[u8], refusal: Option<Refusal>)
 }
 
 /// Asserts the kind and the figure as numbers, and a walk as document 01 asks. Returns k.
-fn assert_shown(plan: &Plan, figure: Figure, value: Value, walk: &[u16], out: &[u32]) -> usize {
-    let name = figure.name();
+fn assert_shown(plan: &Plan, asked: Asked, value: Value, walk: &[u16], out: &[u32]) -> usize {
+    let name = asked.name();
     assert_eq!(
         out[..2],
         [value.kind(), value.figure()],
@@ -152,7 +153,7 @@ fn assert_shown(plan: &Plan, figure: Figure, value: Value, walk: &[u16], out: &[
     );
     let shown = shown(value, walk, out);
     assert_eq!(
-        check(plan, figure, &shown),
+        check(plan, asked, &shown),
         Ok(()),
         "{name}: {shown:?} of {plan:?}"
     );

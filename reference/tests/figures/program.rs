@@ -12,7 +12,7 @@ use reference::{rounds, text, Plan, FIGURES, MAX_STATES, MAX_TRANSITIONS};
 
 use crate::known::{chain, known, open_reached, p10, P1_LINES};
 use crate::shapes::SHAPES;
-use crate::vectors::P1;
+use crate::vectors::{P1, P1_WRITTEN};
 
 const SEED: u64 = 0x0000_90CE;
 const PLANS: u64 = 270;
@@ -57,6 +57,14 @@ fn assert_quoted(plan: &Plan) {
 #[test]
 fn the_program_quotes_known_plans() {
     assert_eq!(printed(&P1), P1_LINES);
+    // The teams of an image change no line.
+    for team in 0..32 {
+        let mut octets = P1_WRITTEN;
+        for state in 0..4 {
+            octets[4 + state] += (team + 7 * state as u8) % 32;
+        }
+        assert_eq!(printed(&octets), P1_LINES);
+    }
     for (_, plan, _) in known() {
         assert_quoted(&plan);
     }
@@ -82,28 +90,33 @@ fn the_program_quotes_random_plans() {
 
 #[test]
 fn the_program_refuses() {
-    let full = encode(&Plan {
-        marks: vec![0; MAX_STATES],
-        transitions: vec![p10().transitions[0]; MAX_TRANSITIONS],
-    });
+    let step = p10().transitions[0];
+    let full = encode(&Plan::of(vec![0; MAX_STATES], vec![step; MAX_TRANSITIONS]));
     let mut inputs: Vec<Vec<u8>> = (0..P1.len()).map(|length| P1[..length].to_vec()).collect();
     for more in [1, 2, 5, 100_000] {
         inputs.push([&P1[..], &vec![0; more]].concat());
         inputs.push([&full[..], &vec![0; more]].concat());
     }
     inputs.push(full[..full.len() - 1].to_vec());
-    // 513 states, a version of 2, no states, 2,049 transitions, a pad bit, a spare bit, a bad from,
-    // a bad to, both, and a low above its high.
-    inputs.push([&[0x18, 0x04, 0x00, 0x00], &[0; 513][..]].concat());
-    inputs.push([&[0x20], &P1[1..]].concat());
-    inputs.push(vec![0x10, 0x00, 0x00, 0x00]);
-    inputs.push([&[0x10, 0x06, 0x00, 0x40], &[0; 1 + 5 * 2049][..]].concat());
-    inputs.push([&P1[..3], &[0x01], &P1[4..]].concat());
+    // A version of 0, of 3 and of 15.
+    for version in [0x00, 0x30, 0xF0] {
+        inputs.push([&[version], &P1[1..]].concat());
+    }
+    // A spare bit of version 1.
     inputs.push([&P1[..4], &[0x81], &P1[5..]].concat());
-    inputs.push([&P1[..8], &[0x02], &P1[9..]].concat());
-    inputs.push([&P1[..9], &[0x01], &P1[10..]].concat());
-    inputs.push([&P1[..8], &[0x02, 0x01], &P1[10..]].concat());
-    inputs.push([&P1[..12], &[0x00], &P1[13..]].concat());
+    // Of both versions: 513 states, no states, 2,049 transitions, a pad bit, a bad from, a bad to, both,
+    // and a low above its high.
+    for image in [P1, P1_WRITTEN] {
+        let [version, ..] = image;
+        inputs.push([&[version + 8, 0x04, 0x00, 0x00], &[0; 513][..]].concat());
+        inputs.push(vec![version, 0x00, 0x00, 0x00]);
+        inputs.push([&[version, 0x06, 0x00, 0x40], &[0; 1 + 5 * 2049][..]].concat());
+        inputs.push([&image[..3], &[0x01], &image[4..]].concat());
+        inputs.push([&image[..8], &[0x02], &image[9..]].concat());
+        inputs.push([&image[..9], &[0x01], &image[10..]].concat());
+        inputs.push([&image[..8], &[0x02, 0x01], &image[10..]].concat());
+        inputs.push([&image[..12], &[0x00], &image[13..]].concat());
+    }
     let mut numbers: Vec<u32> = Vec::new();
     for octets in inputs {
         let refusal = decode(&octets).expect_err("none of them is an image");

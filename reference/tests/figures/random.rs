@@ -5,7 +5,7 @@ use reference::rng::{Case, Rng};
 use reference::{Plan, Transition, Value, MAX_CLOSED_HIGH, OPEN_HIGH};
 
 use crate::means::compare;
-use crate::shapes::{Greatest, Shape, SHAPES};
+use crate::shapes::{give_teams, Greatest, Shape, SHAPES};
 
 const SEED: u64 = 0x0001_9A7E;
 const PLANS: u64 = 117_000;
@@ -104,5 +104,7 @@ fn small_plan(rng: &mut Rng) -> Plan {
         transitions.retain(|transition| transition.from != transition.to);
     }
     let marks = (0..n).map(|_| rng.below(8) as u8).collect();
-    Plan { marks, transitions }
+    let mut plan = Plan::of(marks, transitions);
+    give_teams(rng, &mut plan);
+    plan
 }

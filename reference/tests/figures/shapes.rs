@@ -1,7 +1,7 @@
 //! Random plans of many shapes. Where the shape decides the kind of a figure, it says which.
 
 use reference::rng::Rng;
-use reference::{Plan, Transition, MAX_CLOSED_HIGH, OPEN_HIGH};
+use reference::{Plan, State, Transition, MAX_CLOSED_HIGH, OPEN_HIGH};
 
 /// What a greatest figure of a shape is by the way it is made.
 #[derive(Clone, Copy, Debug, PartialEq, Eq)]
@@ -61,12 +61,12 @@ impl Shape {
     /// A plan of this shape, its states renumbered and its transitions in a random order.
     pub fn draw(&self, rng: &mut Rng, n: usize, m: usize) -> Plan {
         let plan = (self.plan)(rng, n, m);
-        assert_eq!((plan.marks.len(), plan.transitions.len()), (n, m));
+        assert_eq!((plan.states.len(), plan.transitions.len()), (n, m));
         let mut states: Vec<usize> = (0..n).collect();
         rng.shuffle(&mut states);
-        let mut marks = vec![0; n];
-        for (state, &value) in plan.marks.iter().enumerate() {
-            marks[states[state]] = value;
+        let mut renumbered = plan.states.clone();
+        for (state, &value) in plan.states.iter().enumerate() {
+            renumbered[states[state]] = value;
         }
         let renumber = |transition: Transition| Transition {
             from: states[transition.from],
@@ -75,7 +75,27 @@ impl Shape {
         };
         let mut transitions: Vec<Transition> = plan.transitions.into_iter().map(renumber).collect();
         rng.shuffle(&mut transitions);
-        Plan { marks, transitions }
+        let mut plan = Plan {
+            states: renumbered,
+            transitions,
+        };
+        give_teams(rng, &mut plan);
+        plan
+    }
+}
+
+/// Gives the states teams: of all classes, of a few of them, at the edges between classes, or none.
+pub fn give_teams(rng: &mut Rng, plan: &mut Plan) {
+    const EDGES: [u8; 9] = [0, 1, 9, 10, 19, 20, 29, 30, 31];
+    let few = [(); 3].map(|()| rng.below(32) as u8);
+    let way = rng.below(4);
+    for state in &mut plan.states {
+        state.team = match way {
+            0 => rng.below(32) as u8,
+            1 => rng.pick(&few),
+            2 => rng.pick(&EDGES),
+            _ => 0,
+        };
     }
 }
 
@@ -105,6 +125,12 @@ fn open(rng: &mut Rng, transition: &mut Transition) {
     }
 }
 
+/// An unfinished state that is no start, counted or not.
+fn unmarked(rng: &mut Rng) -> State {
+    let marks = marks(rng, false, false);
+    State { marks, team: 0 }
+}
+
 /// A marks value, counted or not.
 fn marks(rng: &mut Rng, is_start: bool, is_final: bool) -> u8 {
     4 * u8::from(is_start) + 2 * u8::from(is_final) + rng.below(2) as u8
@@ -121,7 +147,7 @@ fn chain(rng: &mut Rng, n: usize, m: usize) -> Plan {
         let state = rng.below(n - 1);
         transitions.push(step(rng, state, state + 1));
     }
-    Plan { marks, transitions }
+    Plan::of(marks, transitions)
 }
 
 /// Transitions lead from each layer to the next, from the starts to the final states.
@@ -145,7 +171,7 @@ fn layers(rng: &mut Rng, n: usize, m: usize) -> Plan {
         let to = next(rng, from);
         transitions.push(step(rng, from, to));
     }
-    Plan { marks, transitions }
+    Plan::of(marks, transitions)
 }
 
 /// Every unfinished state is left, by transitions to higher states, and the last one is final: all
@@ -171,14 +197,14 @@ fn sound(rng: &mut Rng, n: usize, m: usize) -> Plan {
         };
         transitions.push(step(rng, from, to));
     }
-    Plan { marks, transitions }
+    Plan::of(marks, transitions)
 }
 
 /// The states of a walk through unfinished states from state 0, the start of a sound plan and of
 /// those made of one.
 fn unfinished_walk(rng: &mut Rng, plan: &Plan) -> Vec<usize> {
     let mut states = vec![0];
-    for _ in 0..rng.below(plan.marks.len()) {
+    for _ in 0..rng.below(plan.states.len()) {
         let state = states[states.len() - 1];
         let steps = plan.transitions.iter().filter(|step| step.from == state);
         let targets: Vec<usize> = steps.map(|step| step.to).collect();
@@ -210,7 +236,7 @@ fn loop_unreached(rng: &mut Rng, n: usize, m: usize) -> Plan {
     let mut plan = sound(rng, n - length, m - length - 2);
     let first = n - length;
     for state in first..n {
-        plan.marks.push(marks(rng, false, false));
+        plan.states.push(unmarked(rng));
         let next = if state + 1 < n { state + 1 } else { first };
         plan.transitions.push(step(rng, state, next));
     }
@@ -225,7 +251,7 @@ fn dead_end_reached(rng: &mut Rng, n: usize, m: usize) -> Plan {
     let mut plan = sound(rng, n - 1, m - 1);
     let states = unfinished_walk(rng, &plan);
     let from = rng.pick(&states);
-    plan.marks.push(marks(rng, false, false));
+    plan.states.push(unmarked(rng));
     plan.transitions.push(step(rng, from, n - 1));
     plan
 }
@@ -233,8 +259,8 @@ fn dead_end_reached(rng: &mut Rng, n: usize, m: usize) -> Plan {
 /// A sound plan, and a dead end that only a final state and an unreached one lead to.
 fn dead_end_unreached(rng: &mut Rng, n: usize, m: usize) -> Plan {
     let mut plan = sound(rng, n - 2, m - 2);
-    plan.marks.push(marks(rng, false, false));
-    plan.marks.push(marks(rng, false, false));
+    plan.states.push(unmarked(rng));
+    plan.states.push(unmarked(rng));
     plan.transitions.push(step(rng, n - 3, n - 1));
     plan.transitions.push(step(rng, n - 2, n - 1));
     plan
@@ -270,7 +296,7 @@ fn open_unreached(rng: &mut Rng, n: usize, m: usize) -> Plan {
             open(rng, &mut plan.transitions[number]);
         }
     }
-    plan.marks.push(marks(rng, false, false));
+    plan.states.push(unmarked(rng));
     let to = rng.below(n);
     for (from, to) in [(n - 2, n - 1), (n - 1, to)] {
         let mut transition = step(rng, from, to);
@@ -332,14 +358,14 @@ fn random(rng: &mut Rng, n: usize, m: usize, starts: usize, finals: usize) -> Pl
         step(rng, from, to)
     });
     let transitions = transitions.collect();
-    Plan { marks, transitions }
+    Plan::of(marks, transitions)
 }
 
 /// As many transitions as there are, between the first few states only.
 fn dense(rng: &mut Rng, n: usize, m: usize) -> Plan {
     let few = rng.between(2, 8);
     let mut plan = random(rng, few, m, 3, 3);
-    plan.marks.resize(n, 0);
+    plan.states.resize(n, State::default());
     if rng.one_in(2) {
         // No loops but those of one state, and those seldom.
         for transition in &mut plan.transitions {
@@ -381,9 +407,9 @@ fn mixed(rng: &mut Rng, n: usize, m: usize) -> Plan {
 
 fn many_starts(rng: &mut Rng, n: usize, m: usize) -> Plan {
     let mut plan = mixed(rng, n, m);
-    for marks in &mut plan.marks {
+    for state in &mut plan.states {
         if !rng.one_in(4) {
-            *marks |= 4;
+            state.marks |= 4;
         }
     }
     plan
@@ -391,9 +417,9 @@ fn many_starts(rng: &mut Rng, n: usize, m: usize) -> Plan {
 
 fn finals_that_start(rng: &mut Rng, n: usize, m: usize) -> Plan {
     let mut plan = mixed(rng, n, m);
-    for marks in &mut plan.marks {
-        if *marks & 2 != 0 || rng.one_in(4) {
-            *marks |= 6;
+    for state in &mut plan.states {
+        if state.marks & 2 != 0 || rng.one_in(4) {
+            state.marks |= 6;
         }
     }
     plan

@@ -1,15 +1,15 @@
 //! Every plan with up to 3 states and 3 transitions over a few durations, an open one among them, with
-//! all marks.
+//! all marks. The counted states are those of a class of teams, another from plan to plan.
 
 use std::thread;
 
 use reference::kinds::Kinds;
 use reference::rng::Case;
-use reference::{Plan, Transition, OPEN_HIGH};
+use reference::{rounds, Plan, Transition, OPEN_HIGH};
 
 #[cfg(feature = "quotations")]
 use crate::lent::{compare_some, lend};
-use crate::means::agree;
+use crate::means::{agree, COUNTS};
 
 const SEED: u64 = 0x0000_5A11;
 const WORKERS: usize = 2;
@@ -57,22 +57,50 @@ fn compare(case: Case, lists: &[(usize, Vec<Transition>)]) -> Kinds {
     let mut kinds = Kinds::default();
     for (n, transitions) in lists {
         for marks in 0..1 << (3 * n) {
-            let plan = Plan {
-                marks: (0..*n)
-                    .map(|state| (marks >> (3 * state) & 7) as u8)
-                    .collect(),
-                transitions: transitions.clone(),
-            };
+            let states = (0..*n).map(|state| (marks >> (3 * state) & 7) as u8);
+            let mut plan = Plan::of(states.collect(), transitions.clone());
+            let class = &CLASSES[kinds.plans() as usize % CLASSES.len()];
+            let team = give_class(&mut plan, class);
             let values = agree(&plan);
+            // the second calculator's own counts for the class, of every fourth plan: each class comes up, and the tests stay short
+            if kinds.plans() % 4 == 0 {
+                for (figure, value) in COUNTS.into_iter().zip(&values[2..]) {
+                    let quotation = rounds::quote(&plan, figure.for_class_of(team));
+                    assert_eq!(quotation.value, *value, "for team {team} of {plan:?}");
+                }
+            }
             #[cfg(feature = "quotations")]
             {
                 lent.hold(&plan);
-                compare_some(&mut rng, &lent, &plan, &values);
+                compare_some(&mut rng, &lent, &plan, &values, team);
             }
             kinds.add(&values);
         }
     }
     kinds
+}
+
+/// The first and the last team of each class, and one of another class before it and after it.
+const CLASSES: [[u8; 4]; 5] = [
+    [0, 0, 1, 31],
+    [1, 9, 0, 10],
+    [10, 19, 9, 20],
+    [20, 29, 19, 30],
+    [30, 31, 29, 0],
+];
+
+/// Gives teams of a class to the counted states and of others to the rest, so that the counts for the
+/// class are the plan's counts. Returns a team of the class.
+fn give_class(plan: &mut Plan, [first, last, before, after]: &[u8; 4]) -> u32 {
+    for (number, state) in plan.states.iter_mut().enumerate() {
+        state.team = match (state.marks % 2 == 1, number % 2 == 0) {
+            (true, true) => *first,
+            (true, false) => *last,
+            (false, true) => *before,
+            (false, false) => *after,
+        };
+    }
+    u32::from(*last)
 }
 
 /// The lists of `m` transitions between `n` states: with each of the durations at each place where

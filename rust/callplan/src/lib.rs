@@ -38,6 +38,12 @@ pub const MAX_STATES: usize = 512;
 pub const MAX_TRANSITIONS: usize = 2048;
 /// The greatest low and high, in seconds.
 pub const MAX_DURATION: u32 = 2047;
+/// The greatest team number.
+///
+/// A state has a team, a number from 0 on. Every team is in one of five classes: 0 in none, 1 to 9 in
+/// wards, 10 to 19 in clinics, 20 to 29 in switchboards, 30 and 31 in outside lines. A class is named by
+/// the number of any team in it.
+pub const MAX_TEAM: u32 = 31;
 /// A high that means no limit: the transition is open, as of a phone that rings until it is picked
 /// up.
 pub const OPEN_HIGH: u32 = 2047;
@@ -57,7 +63,7 @@ pub const COUNTED: u32 = 1;
 
 /// The version of the archive that this crate is for: 10,000 times the first number, 100 times the
 /// second, and the third.
-pub const VERSION_NUMBER: u32 = 500;
+pub const VERSION_NUMBER: u32 = 600;
 
 /// What the archive answers for accepted. Write, export and record add the octets' number.
 const ACCEPTED: u32 = 256;
@@ -153,7 +159,7 @@ impl fmt::Debug for Quotation {
     }
 }
 
-/// A quotation of the archive.
+/// A quotation of the archive, and one for the class of a team.
 type Quote = unsafe extern "C" fn(
     *const usize,
     usize,
@@ -167,26 +173,41 @@ type Quote = unsafe extern "C" fn(
     usize,
 ) -> u32;
 
-/// A plan, always within the limits. It is 16,912 octets large, and is kept where it is put. Two
+type CountFor = unsafe extern "C" fn(
+    *const usize,
+    usize,
+    *const u8,
+    usize,
+    *const u16,
+    usize,
+    u32,
+    *mut u16,
+    usize,
+    *mut u32,
+    usize,
+) -> u32;
+
+/// A plan, always within the limits. It is 17,424 octets large, and is kept where it is put. Two
 /// plans are equal where their states and transitions are.
 #[derive(Clone)]
 pub struct Plan {
     counts: [usize; 2],
-    marks: [u8; MAX_STATES],
+    /// All marks values, then all teams.
+    states: [u8; 2 * MAX_STATES],
     fields: [u16; 4 * MAX_TRANSITIONS],
 }
 
 /// No plan yet: 0 states, all else zero.
 const NO_PLAN: Plan = Plan {
     counts: [0; 2],
-    marks: [0; MAX_STATES],
+    states: [0; 2 * MAX_STATES],
     fields: [0; 4 * MAX_TRANSITIONS],
 };
 
 // SAFETY, of each call of the archive: every pointer stands beside its number of places, which live
 // through the call, and those that it may write to are borrowed for it alone.
 impl Plan {
-    /// A plan with n states, all marks 0, and no transitions.
+    /// A plan with n states, all marks and teams 0, and no transitions.
     ///
     /// # Errors
     ///
@@ -199,8 +220,8 @@ impl Plan {
                 n,
                 plan.counts.as_mut_ptr(),
                 plan.counts.len(),
-                plan.marks.as_mut_ptr(),
-                plan.marks.len(),
+                plan.states.as_mut_ptr(),
+                plan.states.len(),
                 plan.fields.as_mut_ptr(),
                 plan.fields.len(),
             )
@@ -209,14 +230,16 @@ impl Plan {
         Ok(plan)
     }
 
-    /// The plan that the octets are the image of.
+    /// The plan that the octets are the image of, of version 1 or 2. An image of version 1 has no teams:
+    /// they are all 0.
     ///
     /// # Errors
     ///
     /// [`Refusal::ImageShort`] of fewer than 4 octets, [`Refusal::Version`],
     /// [`Refusal::StateCount`], [`Refusal::TransitionCount`], [`Refusal::SpareBits`] of the pad,
-    /// [`Refusal::ImageShort`], [`Refusal::ImageLong`]; state by state [`Refusal::SpareBits`];
-    /// transition by transition [`Refusal::FromState`], [`Refusal::ToState`], [`Refusal::Duration`].
+    /// [`Refusal::ImageShort`], [`Refusal::ImageLong`]; of version 1 state by state
+    /// [`Refusal::SpareBits`]; transition by transition [`Refusal::FromState`], [`Refusal::ToState`],
+    /// [`Refusal::Duration`].
     pub fn from_image(octets: &[u8]) -> Result<Plan, Refusal> {
         check_version();
         let mut plan = NO_PLAN;
@@ -226,8 +249,8 @@ impl Plan {
                 octets.len(),
                 plan.counts.as_mut_ptr(),
                 plan.counts.len(),
-                plan.marks.as_mut_ptr(),
-                plan.marks.len(),
+                plan.states.as_mut_ptr(),
+                plan.states.len(),
                 plan.fields.as_mut_ptr(),
                 plan.fields.len(),
             )
@@ -236,7 +259,7 @@ impl Plan {
         Ok(plan)
     }
 
-    /// Makes the marks value of a state the value given.
+    /// Makes the marks value of a state the value given. Its team stays.
     ///
     /// # Errors
     ///
@@ -246,12 +269,33 @@ impl Plan {
             archive::callplan_lent_mark(
                 self.counts.as_mut_ptr(),
                 self.counts.len(),
-                self.marks.as_mut_ptr(),
-                self.marks.len(),
+                self.states.as_mut_ptr(),
+                self.states.len(),
                 self.fields.as_mut_ptr(),
                 self.fields.len(),
                 state,
                 value,
+            )
+        };
+        accepted(answer).map(|_| ())
+    }
+
+    /// Makes the team of a state the one given, at most [`MAX_TEAM`]. Its marks stay.
+    ///
+    /// # Errors
+    ///
+    /// [`Refusal::StateNumber`], [`Refusal::TeamNumber`].
+    pub fn team(&mut self, state: usize, team: u32) -> Result<(), Refusal> {
+        let answer = unsafe {
+            archive::callplan_lent_team(
+                self.counts.as_mut_ptr(),
+                self.counts.len(),
+                self.states.as_mut_ptr(),
+                self.states.len(),
+                self.fields.as_mut_ptr(),
+                self.fields.len(),
+                state,
+                team,
             )
         };
         accepted(answer).map(|_| ())
@@ -267,8 +311,8 @@ impl Plan {
             archive::callplan_lent_join(
                 self.counts.as_mut_ptr(),
                 self.counts.len(),
-                self.marks.as_mut_ptr(),
-                self.marks.len(),
+                self.states.as_mut_ptr(),
+                self.states.len(),
                 self.fields.as_mut_ptr(),
                 self.fields.len(),
                 transition.from,
@@ -290,8 +334,8 @@ impl Plan {
             archive::callplan_lent_unjoin(
                 self.counts.as_mut_ptr(),
                 self.counts.len(),
-                self.marks.as_mut_ptr(),
-                self.marks.len(),
+                self.states.as_mut_ptr(),
+                self.states.len(),
                 self.fields.as_mut_ptr(),
                 self.fields.len(),
                 number,
@@ -310,8 +354,8 @@ impl Plan {
             archive::callplan_lent_read(
                 self.counts.as_mut_ptr(),
                 self.counts.len(),
-                self.marks.as_mut_ptr(),
-                self.marks.len(),
+                self.states.as_mut_ptr(),
+                self.states.len(),
                 self.fields.as_mut_ptr(),
                 self.fields.len(),
                 octets.as_ptr(),
@@ -321,7 +365,7 @@ impl Plan {
         accepted(answer).map(|_| ())
     }
 
-    /// Puts the image at the front of the buffer, and gives the number of its octets.
+    /// Puts the image, of version 2, at the front of the buffer, and gives the number of its octets.
     ///
     /// # Errors
     ///
@@ -331,8 +375,8 @@ impl Plan {
             archive::callplan_lent_write(
                 self.counts.as_ptr(),
                 self.counts.len(),
-                self.marks.as_ptr(),
-                self.marks.len(),
+                self.states.as_ptr(),
+                self.states.len(),
                 self.fields.as_ptr(),
                 self.fields.len(),
                 buffer.as_mut_ptr(),
@@ -341,8 +385,8 @@ impl Plan {
         })
     }
 
-    /// Becomes the plan that the Aldebaran text holds. The initial state is marked [`START`], and
-    /// nothing else is marked. [`Plan::export`] then gives the same text.
+    /// Becomes the plan that the Aldebaran text holds. The initial state is marked [`START`], nothing
+    /// else is marked, and all teams are 0. [`Plan::export`] then gives the same text.
     ///
     /// The first line is `des (INITIAL, TRANSITIONS, STATES)`, with the initial state and the two
     /// counts. Then there is a line `(FROM, "LOW..HIGH", TO)` for each transition, in their order.
@@ -370,8 +414,8 @@ impl Plan {
             archive::callplan_lent_import(
                 self.counts.as_mut_ptr(),
                 self.counts.len(),
-                self.marks.as_mut_ptr(),
-                self.marks.len(),
+                self.states.as_mut_ptr(),
+                self.states.len(),
                 self.fields.as_mut_ptr(),
                 self.fields.len(),
                 text.as_ptr(),
@@ -382,7 +426,8 @@ impl Plan {
     }
 
     /// Puts the Aldebaran text at the front of the buffer, and gives the number of its octets, at
-    /// most [`MAX_TEXT_OCTETS`]. Imported, it is the plan without its final and counted marks.
+    /// most [`MAX_TEXT_OCTETS`]. Imported, it is the plan without its final and counted
+    /// marks and its teams.
     ///
     /// # Errors
     ///
@@ -392,8 +437,8 @@ impl Plan {
             archive::callplan_lent_export(
                 self.counts.as_ptr(),
                 self.counts.len(),
-                self.marks.as_ptr(),
-                self.marks.len(),
+                self.states.as_ptr(),
+                self.states.len(),
                 self.fields.as_ptr(),
                 self.fields.len(),
                 buffer.as_mut_ptr(),
@@ -444,6 +489,41 @@ impl Plan {
         self.quote(archive::callplan_lent_greatest_count)
     }
 
+    /// The least count for a class, the one that the team is in: a state counts where its own team is in
+    /// that class, and its counted mark is of no account.
+    ///
+    /// ```
+    /// use callplan::{Figure, Plan, Refusal, Transition, FINAL, START};
+    ///
+    /// let mut plan = Plan::fresh(2)?;
+    /// plan.mark(0, START)?;
+    /// plan.mark(1, FINAL)?;
+    /// plan.team(0, 3)?; // a ward
+    /// plan.team(1, 12)?; // a clinic
+    /// plan.join(Transition { from: 0, to: 1, low: 5, high: 20 })?;
+    /// assert_eq!(plan.least_count_for(9)?.figure(), Figure::Number(1));
+    /// assert_eq!(plan.least_count_for(20)?.figure(), Figure::Number(0));
+    /// assert_eq!(plan.least_count_for(32), Err(Refusal::TeamNumber));
+    /// # Ok::<(), Refusal>(())
+    /// ```
+    ///
+    /// # Errors
+    ///
+    /// [`Refusal::TeamNumber`].
+    pub fn least_count_for(&self, team: u32) -> Result<Quotation, Refusal> {
+        self.count_for(archive::callplan_lent_least_count_for, team)
+    }
+
+    /// The greatest count for a class, the one that the team is in: a state counts where its own team is
+    /// in that class.
+    ///
+    /// # Errors
+    ///
+    /// [`Refusal::TeamNumber`].
+    pub fn greatest_count_for(&self, team: u32) -> Result<Quotation, Refusal> {
+        self.count_for(archive::callplan_lent_greatest_count_for, team)
+    }
+
     /// Puts the record of the four figures at the front of the buffer, and gives the number of its
     /// octets.
     ///
@@ -455,8 +535,8 @@ impl Plan {
             archive::callplan_lent_record(
                 self.counts.as_ptr(),
                 self.counts.len(),
-                self.marks.as_ptr(),
-                self.marks.len(),
+                self.states.as_ptr(),
+                self.states.len(),
                 self.fields.as_ptr(),
                 self.fields.len(),
                 buffer.as_mut_ptr(),
@@ -480,7 +560,13 @@ impl Plan {
     /// The marks value of a state.
     #[must_use]
     pub fn marks(&self, state: usize) -> Option<u32> {
-        (state < self.states()).then(|| self.marks[state].into())
+        (state < self.states()).then(|| self.states[state].into())
+    }
+
+    /// The team of a state.
+    #[must_use]
+    pub fn team_of(&self, state: usize) -> Option<u32> {
+        (state < self.states()).then(|| self.states[MAX_STATES + state].into())
     }
 
     /// The transition with this number.
@@ -501,8 +587,8 @@ impl Plan {
             quote(
                 self.counts.as_ptr(),
                 self.counts.len(),
-                self.marks.as_ptr(),
-                self.marks.len(),
+                self.states.as_ptr(),
+                self.states.len(),
                 self.fields.as_ptr(),
                 self.fields.len(),
                 places.as_mut_ptr(),
@@ -514,9 +600,35 @@ impl Plan {
         assert_eq!(answer, ACCEPTED, "a plan within the limits is quoted");
         Quotation::of(out, places)
     }
+
+    fn count_for(&self, quote: CountFor, team: u32) -> Result<Quotation, Refusal> {
+        let mut places = [0; MAX_STATES];
+        let mut out = [0; 4];
+        let answer = unsafe {
+            quote(
+                self.counts.as_ptr(),
+                self.counts.len(),
+                self.states.as_ptr(),
+                self.states.len(),
+                self.fields.as_ptr(),
+                self.fields.len(),
+                team,
+                places.as_mut_ptr(),
+                places.len(),
+                out.as_mut_ptr(),
+                out.len(),
+            )
+        };
+        accepted(answer).map(|_| Quotation::of(out, places))
+    }
 }
 
 impl Plan {
+    /// The marks and the teams of the states, as far as their count goes.
+    fn state_parts(&self) -> [&[u8]; 2] {
+        [0, 1].map(|i| &self.states[i * MAX_STATES..][..self.states()])
+    }
+
     /// The four fields of the transitions, as far as their count goes.
     fn parts(&self) -> [&[u16]; 4] {
         [0, 1, 2, 3].map(|i| &self.fields[i * MAX_TRANSITIONS..][..self.transitions()])
@@ -525,8 +637,7 @@ impl Plan {
 
 impl PartialEq for Plan {
     fn eq(&self, other: &Plan) -> bool {
-        self.marks[..self.states()] == other.marks[..other.states()]
-            && self.parts() == other.parts()
+        self.state_parts() == other.state_parts() && self.parts() == other.parts()
     }
 }
 
@@ -534,7 +645,7 @@ impl Eq for Plan {}
 
 impl Hash for Plan {
     fn hash<H: Hasher>(&self, state: &mut H) {
-        self.marks[..self.states()].hash(state);
+        self.state_parts().hash(state);
         self.parts().hash(state);
     }
 }

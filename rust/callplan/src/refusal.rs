@@ -13,16 +13,17 @@ pub enum Refusal {
     ImageShort,
     /// The image has more octets than its counts give.
     ImageLong,
-    /// The image's version is not 1.
+    /// The image's version is neither 1 nor 2.
     Version,
     /// The state count is 0 or above 512.
     StateCount,
     /// The transition count is above 2,048.
     TransitionCount,
-    /// A pad or spare bit is set.
+    /// A pad bit is set, or a spare bit of version 1.
     SpareBits,
-    /// A state number is not below the state count: of [`Plan::mark`](crate::Plan::mark), or the
-    /// initial state of [`Plan::import`](crate::Plan::import).
+    /// A state number is not below the state count: of [`Plan::mark`](crate::Plan::mark) or
+    /// [`Plan::team`](crate::Plan::team), or the initial state of
+    /// [`Plan::import`](crate::Plan::import).
     StateNumber,
     /// Low is above high, or high above 2,047.
     Duration,
@@ -44,12 +45,16 @@ pub enum Refusal {
     FromState,
     /// A transition's to is not below the state count.
     ToState,
+    /// A team is above 31: of [`Plan::team`](crate::Plan::team),
+    /// [`Plan::least_count_for`](crate::Plan::least_count_for) or
+    /// [`Plan::greatest_count_for`](crate::Plan::greatest_count_for).
+    TeamNumber,
     /// A number that this version of the crate does not know.
     Other(u32),
 }
 
 /// Each refusal with its number, and what it says.
-const REFUSALS: [(Refusal, u32, &str); 18] = [
+const REFUSALS: [(Refusal, u32, &str); 19] = [
     (Refusal::PlanLimits, 0, "the plan breaks a limit of a plan"),
     (
         Refusal::ImageShort,
@@ -61,14 +66,22 @@ const REFUSALS: [(Refusal, u32, &str); 18] = [
         2,
         "the image has more octets than its counts give",
     ),
-    (Refusal::Version, 3, "the image's version is not 1"),
+    (
+        Refusal::Version,
+        3,
+        "the image's version is neither 1 nor 2",
+    ),
     (Refusal::StateCount, 4, "the state count is 0 or above 512"),
     (
         Refusal::TransitionCount,
         5,
         "the transition count is above 2,048",
     ),
-    (Refusal::SpareBits, 6, "a pad or spare bit is set"),
+    (
+        Refusal::SpareBits,
+        6,
+        "a pad bit is set, or a spare bit of version 1",
+    ),
     (
         Refusal::StateNumber,
         7,
@@ -120,6 +133,7 @@ const REFUSALS: [(Refusal, u32, &str); 18] = [
         17,
         "a transition's to is not below the state count",
     ),
+    (Refusal::TeamNumber, 18, "the team is above 31"),
 ];
 
 impl Refusal {
@@ -167,7 +181,12 @@ mod tests {
 
     #[test]
     fn a_refusal_says_what_it_is() {
-        assert_eq!(Refusal::SpareBits.to_string(), "a pad or spare bit is set");
+        assert_eq!(
+            Refusal::SpareBits.to_string(),
+            "a pad bit is set, or a spare bit of version 1"
+        );
+        assert_eq!(Refusal::TeamNumber.number(), 18);
+        assert_eq!(Refusal::TeamNumber.to_string(), "the team is above 31");
         assert_eq!(Refusal::FromState.number(), 16);
         assert_eq!(Refusal::ToState.number(), 17);
         assert_eq!(

@@ -4,14 +4,21 @@ use std::hash::{DefaultHasher, Hash, Hasher};
 use std::thread;
 
 use callplan::{
-    Figure, Plan, Refusal, Transition, COUNTED, FINAL, MAX_TRANSITIONS, OPEN_HIGH, START,
+    Figure, Plan, Refusal, Transition, COUNTED, FINAL, MAX_TEAM, MAX_TRANSITIONS, OPEN_HIGH, START,
 };
 
-/// The image of plan P1 of document 01.
+/// The image of plan P1 of document 01, of version 1.
 const P1: [u8; 28] = [
     0x10, 0x10, 0x01, 0x00, 0x80, 0x20, 0x20, 0x40, 0x00, 0x00, 0x40, 0x28, 0x14, 0x00, 0x80, 0x80,
     0x18, 0x0F, 0x00, 0x80, 0xC0, 0x10, 0x1E, 0x01, 0x00, 0xC0, 0x20, 0x19,
 ];
+
+/// The image of version 2 that is written of it.
+const P1_WRITTEN: [u8; 28] = {
+    let mut octets = P1;
+    octets[0] = 0x20;
+    octets
+};
 
 /// Its text.
 const P1_TEXT: &str = r#"des (0, 4, 4)
@@ -74,6 +81,10 @@ fn edits_are_refused_and_change_nothing() {
     assert_eq!(Plan::fresh(513).unwrap_err(), Refusal::StateCount);
     assert_eq!(plan.mark(4, 8), Err(Refusal::StateNumber));
     assert_eq!(plan.mark(3, 8), Err(Refusal::MarksValue));
+    assert_eq!(plan.team(4, MAX_TEAM + 1), Err(Refusal::StateNumber));
+    for team in [MAX_TEAM + 1, 255, 256, 259, u32::MAX] {
+        assert_eq!(plan.team(3, team), Err(Refusal::TeamNumber));
+    }
     for (from, to, low, high, refusal) in [
         (4, 0, 0, 0, Refusal::FromState),
         (usize::MAX, 0, 1, 0, Refusal::FromState),
@@ -90,7 +101,7 @@ fn edits_are_refused_and_change_nothing() {
     assert_eq!(plan.join(transition(0, 1, 2, 1)), Err(Refusal::Duration));
     assert_eq!(plan.join(transition(0, 1, 0, 2048)), Err(Refusal::Duration));
     assert_eq!(plan.unjoin(4), Err(Refusal::TransitionNumber));
-    assert_eq!(image(&plan), P1);
+    assert_eq!(image(&plan), P1_WRITTEN);
 
     for _ in plan.transitions()..MAX_TRANSITIONS {
         plan.join(transition(0, 1, 0, 2047)).unwrap();
@@ -106,8 +117,10 @@ fn edits_are_refused_and_change_nothing() {
 
 #[test]
 fn images_are_written_and_read() {
-    assert_eq!(image(&p1().unwrap()), P1);
-    assert_eq!(image(&Plan::from_image(&P1).unwrap()), P1);
+    assert_eq!(image(&p1().unwrap()), P1_WRITTEN);
+    for octets in [P1, P1_WRITTEN] {
+        assert_eq!(image(&Plan::from_image(&octets).unwrap()), P1_WRITTEN);
+    }
 
     let mut buffer = [0xAA; 29];
     let plan = p1().unwrap();
@@ -125,7 +138,9 @@ fn images_are_written_and_read() {
         Err(Refusal::ImageLong)
     );
     for (place, octet, refusal) in [
-        (0, 0x20, Refusal::Version),
+        (0, 0x00, Refusal::Version),
+        (0, 0x30, Refusal::Version),
+        (0, 0xF0, Refusal::Version),
         (0, 0x1F, Refusal::StateCount),
         (1, 0x13, Refusal::TransitionCount),
         (3, 0x01, Refusal::SpareBits),
@@ -142,6 +157,91 @@ fn images_are_written_and_read() {
         assert_eq!(plan.read(&octets), Err(refusal));
     }
     assert_eq!((plan.states(), plan.transitions()), (1, 0));
+}
+
+/// A team is set by its own call, and is in images of version 2 alone.
+#[test]
+fn teams_are_set_read_and_written() {
+    let mut plan = p1().unwrap();
+    assert_eq!((plan.team_of(3), plan.team_of(4)), (Some(0), None));
+    for (state, team) in [(0, 31), (1, 9), (2, 10)] {
+        assert_eq!(plan.team(state, team), Ok(()));
+    }
+    assert_ne!(plan, p1().unwrap());
+    // Mark leaves it, and it leaves the marks.
+    assert_eq!((plan.marks(1), plan.team_of(1)), (Some(COUNTED), Some(9)));
+    plan.mark(1, 7).unwrap();
+    assert_eq!((plan.marks(1), plan.team_of(1)), (Some(7), Some(9)));
+    plan.mark(1, COUNTED).unwrap();
+
+    for team in 0..=MAX_TEAM {
+        plan.team(3, team).unwrap();
+        let octets = image(&plan);
+        let mut expected = P1_WRITTEN;
+        for (octet, team) in expected[4..].iter_mut().zip([31, 9, 10, team as u8]) {
+            *octet += team;
+        }
+        assert_eq!(octets, expected);
+        assert_eq!(Plan::from_image(&octets).unwrap(), plan);
+        // The same bits are spare in version 1.
+        let mut spare = P1;
+        spare[7] += team as u8;
+        let mut other = plan.clone();
+        if team == 0 {
+            assert_eq!(other.read(&spare), Ok(()));
+            assert_eq!(other, p1().unwrap());
+        } else {
+            assert_eq!(other.read(&spare), Err(Refusal::SpareBits));
+            assert_eq!(other, plan);
+        }
+    }
+    // A text has none.
+    let mut text = [0; 200];
+    let length = plan.export(&mut text).unwrap();
+    assert_eq!(text[..length], *P1_TEXT.as_bytes());
+    plan.import(&text[..length]).unwrap();
+    assert_eq!((0..4).map(|state| plan.team_of(state)).max(), Some(Some(0)));
+}
+
+/// P1's routes visit states 0, 1, 3 and 0, 1, 2, 3. Every number of a class names it.
+#[test]
+fn counts_are_quoted_for_classes() {
+    let mut plan = p1().unwrap();
+    for (state, team) in [(0, 0), (1, 9), (2, 10), (3, 31)] {
+        plan.team(state, team).unwrap();
+    }
+    for (first, last, least, greatest) in [
+        (0, 0, 1, 1),
+        (1, 9, 1, 1),
+        (10, 19, 0, 1),
+        (20, 29, 0, 0),
+        (30, 31, 1, 1),
+    ] {
+        for team in first..=last {
+            let quotation = plan.least_count_for(team).unwrap();
+            assert_eq!(quotation.figure(), Figure::Number(least), "{team}");
+            let quotation = plan.greatest_count_for(team).unwrap();
+            assert_eq!(quotation.figure(), Figure::Number(greatest), "{team}");
+        }
+    }
+    assert_eq!(plan.least_count_for(15).unwrap().walk(), [0, 2]);
+    assert_eq!(plan.greatest_count_for(15).unwrap().walk(), [0, 1, 3]);
+    for team in [MAX_TEAM + 1, 259, u32::MAX] {
+        assert_eq!(plan.least_count_for(team), Err(Refusal::TeamNumber));
+        assert_eq!(plan.greatest_count_for(team), Err(Refusal::TeamNumber));
+    }
+    // The others stay with the counted mark.
+    assert_eq!(plan.least_count().figure(), Figure::Number(1));
+    assert_eq!(plan.greatest_count().figure(), Figure::Number(2));
+
+    let mut plan = Plan::fresh(2).unwrap();
+    let kinds = |plan: &Plan| [plan.least_count_for(1), plan.greatest_count_for(1)];
+    let figures = |plan: &Plan| kinds(plan).map(|quotation| quotation.unwrap().figure());
+    assert_eq!(figures(&plan), [Figure::None, Figure::None]);
+    plan.mark(0, START).unwrap();
+    assert_eq!(figures(&plan), [Figure::None, Figure::Stranded]);
+    plan.join(transition(0, 0, 0, 0)).unwrap();
+    assert_eq!(figures(&plan), [Figure::None, Figure::Endless { j: 0 }]);
 }
 
 /// The first wrong transition decides, by its from, then its to, then its durations.
@@ -326,6 +426,11 @@ fn plans_and_quotations_are_equal_by_what_they_mean() {
     other.join(transition(0, 3, 1, 2)).unwrap();
     assert_ne!(one, other);
     other.unjoin(4).unwrap(); // what was joined still lies past the count
+    assert_eq!(one, other);
+    assert_eq!(hash(&one), hash(&other));
+    other.team(1, 5).unwrap();
+    assert_ne!(one, other);
+    other.team(1, 0).unwrap();
     assert_eq!(one, other);
     assert_eq!(hash(&one), hash(&other));
     other.mark(1, FINAL).unwrap();

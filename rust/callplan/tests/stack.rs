@@ -96,7 +96,7 @@ fn every_call_stays_within_what_is_said() {
     let idle = used(|| {});
     let mut deepest = 0;
     let mut tell = |name: &str, depth: usize| {
-        println!("  {name:14} {:7} octets of stack", depth - idle);
+        println!("  {name:18} {:7} octets of stack", depth - idle);
         deepest = deepest.max(depth - idle);
     };
     let mut target = plan.clone();
@@ -108,6 +108,7 @@ fn every_call_stays_within_what_is_said() {
     );
     tell("read", used(|| target.read(&image).unwrap()));
     tell("mark", used(|| target.mark(0, START).unwrap()));
+    tell("team", used(|| target.team(0, 31).unwrap()));
     tell("unjoin", used(|| target.unjoin(0).unwrap()));
     tell("write", used(|| assert!(plan.write(&mut buffer).is_ok())));
     let mut text = vec![0; MAX_TEXT_OCTETS];
@@ -121,6 +122,14 @@ fn every_call_stays_within_what_is_said() {
     tell(
         "greatest_delay",
         used(|| assert!(!plan.greatest_delay().walk().is_empty())),
+    );
+    tell(
+        "least_count_for",
+        used(|| assert!(!plan.least_count_for(0).unwrap().walk().is_empty())),
+    );
+    tell(
+        "greatest_count_for",
+        used(|| assert!(!plan.greatest_count_for(0).unwrap().walk().is_empty())),
     );
     tell("record", used(|| assert!(plan.record(&mut buffer).is_ok())));
     tell("quote", used(|| assert!(callplan::quote(&image).is_ok())));

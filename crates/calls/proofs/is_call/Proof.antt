@@ -1,4 +1,4 @@
--- `calls::is_call` meets its contract: a kind below 3 is a call's, 3 and 4 are where their part is within the octets, any other is none. Assumes nothing.
+-- `calls::is_call` meets its contract: a kind below 3 is a call's, 3 and 4 are where their part is within the octets, 5 is one, and any other is none. Assumes nothing.
 use borrow.Author.Needs.{needs}
 use borrow.Author.Tests.{lt-ltb, le-ltb}
 use Rattle.calls.proofs.is_call.Statement.{statement}

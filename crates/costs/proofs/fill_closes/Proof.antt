@@ -1,40 +1,37 @@
--- `costs::fill_closes`: the first s closes are filled, and the products fit a word. Assumes nothing.
-use Prim.Native.Nat.{ℕ, _-_, _*_, _≤_}
+-- `costs::fill_closes`: the first s closes are filled. Assumes nothing.
+use Prim.Native.Nat.{ℕ, _-_, _≤_}
 use mathlib.Core.Path.{_≡_, sym, ap, _∙_, subst}
 use native.Mathlib.Omega.{arith}
 use borrow.Author.Needs.{needs}
-use lib.ListN.{length, getD, length-set, length-replicate}
+use lib.ListN.{length, length-set, length-replicate}
 use Rattle.costs.specs.Arrays.{Filled, countClose}
-use Rattle.costs.proofs.Filled.{filled-none, filled-more, scaled-le, counted-le}
+use Rattle.costs.proofs.Filled.{filled-none, filled-more}
 use Rattle.costs.proofs.fill_closes.Statement.{statement}
 use Rattle.costs.proofs.fill_closes.Tie as tie
 use Rattle.costs.proofs.fill_closes.Reads as reads
 use Rattle.costs.proofs.fill_closes.Lts as lts
-use Rattle.costs.proofs.counted.Reads as counted-reads
+use Rattle.costs.proofs.close_of.Reads as close-of-reads
 
 abbrev Inv-loop : tie.InvT-loop
-Inv-loop marks n scale close₀ s₀ close s = (s ≤ n) × (length close ≡ 512) × Filled s (countClose scale marks) close
+Inv-loop asked marks teams n scale close₀ s₀ close s = (s ≤ n) × (length close ≡ 512) × Filled s (countClose asked scale marks teams) close
 
 abbrev μ-loop : tie.MeasureT-loop
-μ-loop marks n scale close₀ s₀ close s = n - s
+μ-loop asked marks teams n scale close₀ s₀ close s = n - s
 
 loop-holds : tie.Need-loop-holds Inv-loop μ-loop
-loop-holds c = (search needs, ap length (c .pre .2) ∙ length-replicate {A = ℕ} 512 0, subst (Filled 0 _) (sym (c .pre .2)) (filled-none _ 512))
+loop-holds c = (search needs, ap length (c .pre .1) ∙ length-replicate {A = ℕ} 512 0, subst (Filled 0 _) (sym (c .pre .1)) (filled-none _ 512))
 
-element-copy-out-counted : tie.Need-element-copy-out-counted Inv-loop μ-loop
-element-copy-out-counted c = omega arith
+element-copy-out-close-of : tie.Need-element-copy-out-close-of Inv-loop μ-loop
+element-copy-out-close-of c = omega arith
 
-counted-requires : tie.Need-counted-requires Inv-loop μ-loop
-counted-requires c κs = search needs
+element-copy-out-close-of-2 : tie.Need-element-copy-out-close-of-2 Inv-loop μ-loop
+element-copy-out-close-of-2 c = omega arith
+
+close-of-requires : tie.Need-close-of-requires Inv-loop μ-loop
+close-of-requires c κs = search needs
 
 mul-close : tie.Need-mul-close Inv-loop μ-loop
-mul-close c =
-    let s = c .before .before .before .before in
-    let n = counted-le _ (getD (s .args .marks .now) (c .before .before .before .loop .s) 0) (c .counted .ensures) in
-    omega (arith, scaled-le (s .pre .1) n)
-
-mul-close-2 : tie.Need-mul-close-2 Inv-loop μ-loop
-mul-close-2 c = search needs
+mul-close c = search needs
 
 element-write-close : tie.Need-element-write-close Inv-loop μ-loop
 element-write-close c = omega arith
@@ -47,9 +44,8 @@ loop-less c = search needs
 
 loop-again : tie.Need-loop-again Inv-loop μ-loop
 loop-again c =
-    let l = c .before .before .before .loop in
-    let a = c .before .before .before .before .args in
-    (omega arith, length-set (l .close) _ _ ∙ l .inv .1, filled-more (l .s) _ (l .close) _ (omega arith) (ap (λ (x : ℕ). a .scale * x) (c .counted .ensures)) (l .inv .2))
+    let l = c .before .before .before .before .loop in
+    (omega arith, length-set (l .close) _ _ ∙ l .inv .1, filled-more (l .s) _ (l .close) _ (omega arith) (c .close-of .ensures) (l .inv .2))
 
 returns : tie.Need-returns Inv-loop μ-loop
 returns c =
@@ -63,10 +59,10 @@ fill-closes-spec =
     Inv-loop
     μ-loop
     loop-holds
-    element-copy-out-counted
-    counted-requires
+    element-copy-out-close-of
+    element-copy-out-close-of-2
+    close-of-requires
     mul-close
-    mul-close-2
     element-write-close
     add-s
     loop-less

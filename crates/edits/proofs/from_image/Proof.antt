@@ -17,13 +17,13 @@ has-room-requires c κs = search needs
 returns : tie.Need-returns
 returns c =
     let a = c .before .before .before .before .before .before .args in
-    too-short noPlan (slices (a .counts .now) (a .marks .now) (a .fields .now)) (readImage (a .octets .now)) (sym (c .before .has-room .ensures) ∙ not-true _ (c .if1 .taken))
+    too-short noPlan (slices (a .counts .now) (a .states .now) (a .fields .now)) (readImage (a .octets .now)) (sym (c .before .has-room .ensures) ∙ not-true _ (c .if1 .taken))
 
 held-requires : tie.Need-held-requires
 held-requires c κs = search needs
 
 finish-requires : tie.Need-finish-requires
-finish-requires c κs = has-room (c .before .before .before .before .before .before .before .before .before .before .args .counts .now) (c .before .before .before .before .before .before .before .before .before .before .args .marks .now) (c .before .before .before .before .before .before .before .before .before .before .args .fields .now) (sym (c .before .before .before .before .before .has-room .ensures) ∙ not-false _ (c .before .before .before .before .if1 .left))
+finish-requires c κs = has-room (c .before .before .before .before .before .before .before .before .before .before .args .counts .now) (c .before .before .before .before .before .before .before .before .before .before .args .states .now) (c .before .before .before .before .before .before .before .before .before .before .args .fields .now) (sym (c .before .before .before .before .before .has-room .ensures) ∙ not-false _ (c .before .before .before .before .if1 .left))
 
 same-length : tie.Need-same-length
 same-length c = search needs
@@ -37,7 +37,7 @@ same-length-3 c = search needs
 returns-2 : tie.Need-returns-2
 returns-2 c =
     let a = c .before .before .before .before .before .before .before .before .before .before .before .before .before .before .before .before .before .args in
-    finished noPlan (slices (a .counts .now) (a .marks .now) (a .fields .now)) _ (readImage (a .octets .now)) (c .before .before .before .before .before .before .before .before .before .before .held .result) (c .before .before .before .before .before .before .finish .result) (sym (c .before .before .before .before .before .before .before .before .before .before .before .before .has-room .ensures) ∙ not-false _ (c .before .before .before .before .before .before .before .before .before .before .before .if1 .left)) (c .before .before .before .before .before .before .before .before .before .before .held .ensures) (c .before .before .before .before .before .before .finish .ensures)
+    finished noPlan (slices (a .counts .now) (a .states .now) (a .fields .now)) _ (readImage (a .octets .now)) (c .before .before .before .before .before .before .before .before .before .before .held .result) (c .before .before .before .before .before .before .finish .result) (sym (c .before .before .before .before .before .before .before .before .before .before .before .before .has-room .ensures) ∙ not-false _ (c .before .before .before .before .before .before .before .before .before .before .before .if1 .left)) (c .before .before .before .before .before .before .before .before .before .before .held .ensures) (c .before .before .before .before .before .before .finish .ensures)
 
 pub from-image-spec : {M : Type 1} → statement M
 from-image-spec =

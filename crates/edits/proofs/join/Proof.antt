@@ -24,11 +24,11 @@ has-room-requires c κs = search needs
 returns : tie.Need-returns
 returns c =
     let a = c .before .before .before .before .before .args in
-    let s = slices (a .counts .now) (a .marks .now) (a .fields .now) in
+    let s = slices (a .counts .now) (a .states .now) (a .fields .now) in
     turn-short s (join (transition (a .from) (a .to) (a .low) (a .high))) (sym (c .before .has-room .ensures) ∙ not-true _ (c .if1 .taken))
 
 -- past the test the slices have room
-room : (c : tie.Else1) → hasRoom (slices (c .before .before .before .before .before .args .counts .now) (c .before .before .before .before .before .args .marks .now) (c .before .before .before .before .before .args .fields .now)) ≡ true
+room : (c : tie.Else1) → hasRoom (slices (c .before .before .before .before .before .args .counts .now) (c .before .before .before .before .before .args .states .now) (c .before .before .before .before .before .args .fields .now)) ≡ true
 room c = sym (c .before .has-room .ensures) ∙ not-false _ (c .if1 .left)
 
 load-requires : tie.Need-load-requires
@@ -38,7 +38,7 @@ join-requires : tie.Need-join-requires
 join-requires c κs = search needs
 
 update-requires : tie.Need-update-requires
-update-requires c κs = let a = c .before .before .before .before .before .before .before .before .before .before .before .before .before .args in (has-room _ _ _ (room (c .before .before .before .before .before .before .before .before)), same-later (join (transition (a .from) (a .to) (a .low) (a .high))) (c .before .before .before .before .load .result) (slices (a .counts .now) (a .marks .now) (a .fields .now)) (c .before .before .before .join .result) (c .before .before .before .before .load .ensures) (c .before .before .before .join .ensures))
+update-requires c κs = let a = c .before .before .before .before .before .before .before .before .before .before .before .before .before .args in (has-room _ _ _ (room (c .before .before .before .before .before .before .before .before)), same-later (join (transition (a .from) (a .to) (a .low) (a .high))) (c .before .before .before .before .load .result) (slices (a .counts .now) (a .states .now) (a .fields .now)) (c .before .before .before .join .result) (c .before .before .before .before .load .ensures) (c .before .before .before .join .ensures))
 
 same-length : tie.Need-same-length
 same-length c = search needs
@@ -52,7 +52,7 @@ same-length-3 c = search needs
 returns-2 : tie.Need-returns-2
 returns-2 c =
     let a = c .before .before .before .before .before .before .before .before .before .before .before .before .before .before .before .before .before .before .before .before .args in
-    turned (join (transition (a .from) (a .to) (a .low) (a .high))) (c .before .before .before .before .before .before .before .before .before .before .before .load .result) (slices (a .counts .now) (a .marks .now) (a .fields .now)) _ (c .before .before .before .before .before .before .before .before .before .before .join .result) (c .before .before .before .before .before .before .update .result)
+    turned (join (transition (a .from) (a .to) (a .low) (a .high))) (c .before .before .before .before .before .before .before .before .before .before .before .load .result) (slices (a .counts .now) (a .states .now) (a .fields .now)) _ (c .before .before .before .before .before .before .before .before .before .before .join .result) (c .before .before .before .before .before .before .update .result)
     (room (c .before .before .before .before .before .before .before .before .before .before .before .before .before .before .before)) (c .before .before .before .before .before .before .before .before .before .before .before .load .ensures) (c .before .before .before .before .before .before .before .before .before .before .join .ensures) (c .before .before .before .before .before .before .update .ensures)
 
 pub join-spec : {M : Type 1} → statement M

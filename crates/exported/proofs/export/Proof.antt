@@ -28,15 +28,15 @@ use Rattle.text_writing.proofs.text.Reads as text-reads
 
 -- the plan that the counts and arrays hold, and its counts
 graph : tie.Start → Graph
-graph c = graphOf (c .args .n) (c .args .m) (c .args .marks .now) (c .args .from .now) (c .args .to .now) (c .args .low .now) (c .args .high .now)
+graph c = graphOf (c .args .n) (c .args .m) (c .args .marks .now) (c .args .teams .now) (c .args .from .now) (c .args .to .now) (c .args .low .now) (c .args .high .now)
 
 states-here : (c : tie.Start) → states (graph c) ≡ c .args .n
 unfolding graph
-states-here c = states-of (c .args .n) (c .args .m) (c .args .marks .now) (c .args .from .now) (c .args .to .now) (c .args .low .now) (c .args .high .now)
+states-here c = states-of (c .args .n) (c .args .m) (c .args .marks .now) (c .args .teams .now) (c .args .from .now) (c .args .to .now) (c .args .low .now) (c .args .high .now)
 
 count-here : (c : tie.Start) → count (graph c) ≡ c .args .m
 unfolding graph
-count-here c = count-of (c .args .n) (c .args .m) (c .args .marks .now) (c .args .from .now) (c .args .to .now) (c .args .low .now) (c .args .high .now)
+count-here c = count-of (c .args .n) (c .args .m) (c .args .marks .now) (c .args .teams .now) (c .args .from .now) (c .args .to .now) (c .args .low .now) (c .args .high .now)
 
 -- past the first test the plan is within the limits
 sound : (c : tie.Else1) → within (graph (c .before .before .before)) ≡ true
@@ -51,7 +51,7 @@ counted-here : (c : tie.After-count) → length (starts (graph (c .before .befor
 unfolding graph
 counted-here c =
     let a = c .before .before .before .before .args in
-    counted (a .n) (a .m) (a .marks .now) (a .from .now) (a .to .now) (a .low .now) (a .high .now) _ _ (c .count .ensures)
+    counted (a .n) (a .m) (a .marks .now) (a .teams .now) (a .from .now) (a .to .now) (a .low .now) (a .high .now) _ _ (c .count .ensures)
 
 one : (c : tie.Else2) → eqb (length (starts (graph (c .before .before .before .before .before)))) 1 ≡ true
 one c = eq-eqb (length (starts (graph (c .before .before .before .before .before)))) 1 (omega (arith, c .if2 .left, counted-here (c .before)))
@@ -61,7 +61,7 @@ text-is : (c : tie.Else2)
 unfolding graph
 text-is c =
     let a = c .before .before .before .before .before .args in
-    text-here (a .n) (a .m) (a .marks .now) (a .from .now) (a .to .now) (a .low .now) (a .high .now) _ _ (c .before .count .ensures) (omega (arith, c .if2 .left))
+    text-here (a .n) (a .m) (a .marks .now) (a .teams .now) (a .from .now) (a .to .now) (a .low .now) (a .high .now) _ _ (c .before .count .ensures) (omega (arith, c .if2 .left))
 
 -- and its length was computed
 sized : (c : tie.After-length) → length (exportText (graph (c .before .before .before .before .before .before))) ≡ c .length .result

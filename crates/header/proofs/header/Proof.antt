@@ -25,6 +25,7 @@ returns c =
     let e : ltb (length (c .before .before .args .octets .now)) 4 ≡ true = lt-ltb (length (c .before .before .args .octets .now)) 4 (c .if1 .taken) in
     record {
       answer = rw e;
+      version = λ e. absurd (let z : _≡_ {A = ℕ} 0 1 = cc in omega arith);
       states = λ e. absurd (let z : _≡_ {A = ℕ} 0 1 = cc in omega arith);
       transitions = λ e. absurd (let z : _≡_ {A = ℕ} 0 1 = cc in omega arith);
       all = λ e. absurd (let z : _≡_ {A = ℕ} 0 1 = cc in omega arith);
@@ -45,6 +46,7 @@ returns-2 : tie.Need-returns-2
 returns-2 c =
     record {
       answer = c .grounds .ensures;
+      version = λ e. ap (λ (f : Four). f .first) (taken (c .before));
       states = λ e. ap (λ (f : Four). f .second) (taken (c .before));
       transitions = λ e. ap (λ (f : Four). f .third) (taken (c .before));
       all = λ e. omega (arith, c .before .next .ensures .1);

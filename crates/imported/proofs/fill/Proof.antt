@@ -63,7 +63,7 @@ lines-requires c κs =
     let r = c .before .before .before .before .before .before .before .before .read-first .result in (
       c .before .before .before .before .before .before .before .before .read-first .ensures .0 (not-false (r .next .on) (c .before .before .before .before .before .if1 .left)),
       λ e. let h = not-refused (r .initial) (r .transitions) (r .states) (sym (c .before .before .before .before .first-grounds .ensures) ∙ ap said e) in (h .most, h .lines),
-      c .before .before .before .before .before .before .before .before .before .before .pre .1,
+      c .before .before .before .before .before .before .before .before .before .before .pre .2,
     )
 
 refuse-requires-2 : tie.Need-refuse-requires-2
@@ -84,7 +84,7 @@ returns-2 c =
       rule = sym (by-lines text (short (c .before .before .before .before .before .before .before .before .before .before)) r (told (c .before .before .before .before .before .before .before .before .before .before)) (lists-off text (r .states) (r .transitions) (c .before .before .before .before .before .before .before .before .before .first-grounds .result) (listed (c .before .before .before .before)) (l .result) _ (l .ensures .1) (not-true (l .result .next .on) (c .before .if2 .taken))));
       states = omega arith;
       transitions = omega arith;
-      room = (c .before .before .before .before .before .before .before .before .before .before .before .before .before .before .before .pre .0, l .ensures .2);
+      room = (c .before .before .before .before .before .before .before .before .before .before .before .before .before .before .before .pre .0, c .before .before .before .before .before .before .before .before .before .before .before .before .before .before .before .pre .1, l .ensures .2);
     })
 
 refuse-requires-3 : tie.Need-refuse-requires-3
@@ -110,7 +110,7 @@ returns-3 c =
       rule = sym (by-end text (short (c .before .before .before .before .before .before .before .before .before .before .before .before)) r (told (c .before .before .before .before .before .before .before .before .before .before .before .before)) (d .transitions) (l .result .next .at) (d .all) (c .before .if3 .taken));
       states = omega arith;
       transitions = omega arith;
-      room = (c .before .before .before .before .before .before .before .before .before .before .before .before .before .before .before .before .before .pre .0, l .ensures .2);
+      room = (c .before .before .before .before .before .before .before .before .before .before .before .before .before .before .before .before .before .pre .0, c .before .before .before .before .before .before .before .before .before .before .before .before .before .before .before .before .before .pre .1, l .ensures .2);
     })
 
 enum-known-answer : tie.Need-enum-known-answer
@@ -137,7 +137,7 @@ returns-4 c =
       rule = sym (by-rows text (short (c .before .before .before .before .before .before .before .before .before .before .before .before .before .before .before)) r (told (c .before .before .before .before .before .before .before .before .before .before .before .before .before .before .before)) (d .transitions) (l .result .next .at) (d .all) (c .before .before .before .before .if3 .left) (said (l .result .answer)) (answered (c .before .before .before .before .before .before)) _ (ap said (c .before .before .answer .given .1)));
       states = omega arith;
       transitions = omega arith;
-      room = (c .before .before .before .before .before .before .before .before .before .before .before .before .before .before .before .before .before .before .before .before .pre .0, l .ensures .2);
+      room = (c .before .before .before .before .before .before .before .before .before .before .before .before .before .before .before .before .before .before .before .before .pre .0, c .before .before .before .before .before .before .before .before .before .before .before .before .before .before .before .before .before .before .before .before .pre .1, l .ensures .2);
     })
 
 enum-told : tie.Need-enum-told
@@ -150,24 +150,27 @@ clear c =
     not-refused (r .initial) (r .transitions) (r .states) (onward-accepted _ _ (sym (answered (c .before .before .before .before)) ∙ ap said (c .enum-told .given .1)) .0)
 
 mark-initial-requires : tie.Need-mark-initial-requires
-mark-initial-requires c κs = let h = clear (c .before) in (c .before .before .before .before .before .before .before .before .before .before .before .before .before .before .before .before .before .before .before .pre .0, h .most, h .inside)
+mark-initial-requires c κs =
+    let h = clear (c .before .before) in
+    let p = c .before .before .before .before .before .before .before .before .before .before .before .before .before .before .before .before .before .before .before .before .pre in
+    (p .0, p .1, h .most, h .inside)
 
 returns-5 : tie.Need-returns-5
 unfolding listed
 returns-5 c =
-    let text = c .before .before .before .before .before .before .before .before .before .before .before .before .before .before .before .before .before .before .before .before .args .text .now in
-    let r = c .before .before .before .before .before .before .before .before .before .before .before .before .before .before .before .before .before .before .read-first .result in
-    let l = c .before .before .before .before .before .before .before .before .before .lines in
-    let d = read (c .before .before .before .before .before .before) in
-    let h = clear (c .before .before) in
-    let f = listed (c .before .before .before .before .before .before .before .before .before) in
-    let ok = c .before .before .enum-told .given .1 in
+    let text = c .before .before .before .before .before .before .before .before .before .before .before .before .before .before .before .before .before .before .before .before .before .args .text .now in
+    let r = c .before .before .before .before .before .before .before .before .before .before .before .before .before .before .before .before .before .before .before .read-first .result in
+    let l = c .before .before .before .before .before .before .before .before .before .before .lines in
+    let d = read (c .before .before .before .before .before .before .before) in
+    let h = clear (c .before .before .before) in
+    let f = listed (c .before .before .before .before .before .before .before .before .before .before) in
+    let ok = c .before .before .before .enum-told .given .1 in
     record {
-      rule = rw ok (by-plan text (short (c .before .before .before .before .before .before .before .before .before .before .before .before .before .before .before)) r (told (c .before .before .before .before .before .before .before .before .before .before .before .before .before .before .before)) (d .transitions) (l .result .next .at) (d .all) (c .before .before .before .before .if3 .left) (said (l .result .answer)) (answered (c .before .before .before .before .before .before))
-          (ap said ok) h _ (f .from) (f .to) (f .low) (f .high) (c .mark-initial .ensures) (d .held ok));
+      rule = rw ok (by-plan text (short (c .before .before .before .before .before .before .before .before .before .before .before .before .before .before .before .before)) r (told (c .before .before .before .before .before .before .before .before .before .before .before .before .before .before .before .before)) (d .transitions) (l .result .next .at) (d .all) (c .before .before .before .before .before .if3 .left) (said (l .result .answer)) (answered (c .before .before .before .before .before .before .before))
+          (ap said ok) h _ _ (f .from) (f .to) (f .low) (f .high) (c .mark-initial .ensures) (d .held ok));
       states = h .most;
       transitions = h .lines;
-      room = (c .mark-initial .ensures .room, l .ensures .2);
+      room = (c .mark-initial .ensures .room, c .mark-initial .ensures .teams-room, l .ensures .2);
     }
 
 pub fill-spec : {M : Type 1} → statement M

@@ -1,9 +1,9 @@
 -- `item::perform`: kind by kind, the promise of the edit on the slices is the call's. A kind past 2 that was let in is a read or an import, and its part lies
--- within the octets (`a-part`). Assumes nothing.
+-- within the octets (`a-part`), or a team (`a-team`). Assumes nothing.
 use mathlib.Core.Path.{_≡_}
 use native.Mathlib.Omega.{arith}
 use lib.ListN.{length}
-use Rattle.item.proofs.Parts.{Part, a-part}
+use Rattle.item.proofs.Parts.{Part, a-part, a-team}
 use borrow.Author.Needs.{needs}
 use Rattle.item.proofs.perform.Statement.{statement}
 use Rattle.item.proofs.perform.Tie as tie
@@ -12,6 +12,7 @@ use Rattle.item.proofs.perform.Lts as lts
 use Rattle.edits.proofs.join.Reads as join-reads
 use Rattle.edits.proofs.mark.Reads as mark-reads
 use Rattle.edits.proofs.replace.Reads as replace-reads
+use Rattle.edits.proofs.team.Reads as team-reads
 use Rattle.edits.proofs.unjoin.Reads as unjoin-reads
 
 mark-requires : tie.Need-mark-requires
@@ -24,14 +25,11 @@ unjoin-requires : tie.Need-unjoin-requires
 unjoin-requires c κs = search needs
 
 -- the part of a read, and of an import
-read-part : (c : tie.After-replace-arg3) → Part (c .before .before .before .before .before .before .before .before .args .kind) (c .before .before .before .before .before .before .before .before .args .a) (c .before .before .before .before .before .before .before .before .args .b) (length (c .before .before .before .before .before .before .before .before .args .octets .now))
-read-part c = let a = c .before .before .before .before .before .before .before .before .args in a-part (a .kind) (a .a) (a .b) (length (a .octets .now)) (c .before .before .before .before .before .before .before .before .pre) (omega (arith, c .before .before .before .match .keys4))
+read-part : (c : tie.After-replace-arg3) → Part (c .before .before .before .before .before .before .before .before .args .a) (c .before .before .before .before .before .before .before .before .args .b) (length (c .before .before .before .before .before .before .before .before .args .octets .now))
+read-part c = let a = c .before .before .before .before .before .before .before .before .args in a-part (a .kind) (a .a) (a .b) (length (a .octets .now)) (c .before .before .before .before .before .before .before .before .pre) (omega (arith, c .before .before .before .match .keys4)) (omega (arith, c .before .before .before .match .keys4))
 
-import-part : (c : tie.After-replace-arg7) → Part (c .before .before .before .before .before .before .before .before .args .kind) (c .before .before .before .before .before .before .before .before .args .a) (c .before .before .before .before .before .before .before .before .args .b) (length (c .before .before .before .before .before .before .before .before .args .octets .now))
-import-part c =
-    let a = c .before .before .before .before .before .before .before .before .args in
-    let r = c .before .before .before .match .rest in
-    a-part (a .kind) (a .a) (a .b) (length (a .octets .now)) (c .before .before .before .before .before .before .before .before .pre) (omega (arith, r .0 .0 .0 .1, r .0 .0 .1, r .0 .1, r .1))
+import-part : (c : tie.After-replace-arg7) → Part (c .before .before .before .before .before .before .before .before .args .a) (c .before .before .before .before .before .before .before .before .args .b) (length (c .before .before .before .before .before .before .before .before .args .octets .now))
+import-part c = let a = c .before .before .before .before .before .before .before .before .args in a-part (a .kind) (a .a) (a .b) (length (a .octets .now)) (c .before .before .before .before .before .before .before .before .pre) (omega (arith, c .before .before .before .match .keys5)) (omega (arith, c .before .before .before .match .keys5))
 
 sub-replace : tie.Need-sub-replace
 sub-replace c = omega (arith, read-part c .start, read-part c .end)
@@ -56,6 +54,9 @@ part-replace-end-2 c = omega (arith, import-part c .start, import-part c .end)
 
 replace-requires-2 : tie.Need-replace-requires-2
 replace-requires-2 c κs = search needs
+
+team-requires : tie.Need-team-requires
+team-requires c κs = search needs
 
 same-length : tie.Need-same-length
 same-length c = search needs
@@ -115,10 +116,23 @@ same-length-15 : tie.Need-same-length-15
 same-length-15 c = search needs
 
 returns-5 : tie.Need-returns-5
-returns-5 c =
-    let r = c .before .before .before .before .before .before .before .before .before .before .before .match .rest in
-    let e : c .before .before .before .before .before .before .before .before .before .before .before .before .before .before .before .before .args .kind ≡ 4 = omega (arith, import-part (c .before .before .before .before .before .before .before .before) .known, r .0 .0 .0 .1, r .0 .0 .1, r .0 .1, r .1) in
-    rw e (c .before .before .before .before .before .before .replace2 .ensures)
+returns-5 c = rw (c .before .before .before .before .before .before .before .before .before .before .before .match .keys5) (c .before .before .before .before .before .before .replace2 .ensures)
+
+same-length-16 : tie.Need-same-length-16
+same-length-16 c = search needs
+
+same-length-17 : tie.Need-same-length-17
+same-length-17 c = search needs
+
+same-length-18 : tie.Need-same-length-18
+same-length-18 c = search needs
+
+returns-6 : tie.Need-returns-6
+returns-6 c =
+    let a = c .before .before .before .before .before .before .before .before .before .before .before .before .before .before .before .args in
+    let r = c .before .before .before .before .before .before .before .before .before .before .match .rest in
+    let e : a .kind ≡ 5 = a-team (a .kind) (a .a) (a .b) (length (a .octets .now)) (c .before .before .before .before .before .before .before .before .before .before .before .before .before .before .before .pre) (omega (arith, r .0 .0 .0 .0 .1, r .0 .0 .0 .1, r .0 .0 .1, r .0 .1, r .1)) in
+    rw e (c .before .before .before .before .before .before .team .ensures)
 
 pub perform-spec : {M : Type 1} → statement M
 perform-spec =
@@ -135,6 +149,7 @@ perform-spec =
     part-replace-start-2
     part-replace-end-2
     replace-requires-2
+    team-requires
     same-length
     same-length-2
     same-length-3
@@ -154,4 +169,8 @@ perform-spec =
     same-length-13
     same-length-14
     same-length-15
-    returns-5)
+    returns-5
+    same-length-16
+    same-length-17
+    same-length-18
+    returns-6)

@@ -22,12 +22,12 @@ has-room-requires c κs = search needs
 returns : tie.Need-returns
 returns c =
     let a = c .before .before .before .before .before .before .args in
-    let s = slices (a .counts .now) (a .marks .now) (a .fields .now) in
+    let s = slices (a .counts .now) (a .states .now) (a .fields .now) in
     let g = view (planIn s) in
     short s (octetsOf (a .content) g) (ruleOf (a .content) g (a .buffer .now)) (a .buffer .now) (sym (c .before .has-room .ensures) ∙ not-true _ (c .if1 .taken))
 
 -- past the test the slices have room
-room : (c : tie.Else1) → hasRoom (slices (c .before .before .before .before .before .before .args .counts .now) (c .before .before .before .before .before .before .args .marks .now) (c .before .before .before .before .before .before .args .fields .now)) ≡ true
+room : (c : tie.Else1) → hasRoom (slices (c .before .before .before .before .before .before .args .counts .now) (c .before .before .before .before .before .before .args .states .now) (c .before .before .before .before .before .before .args .fields .now)) ≡ true
 room c = sym (c .before .has-room .ensures) ∙ not-false _ (c .if1 .left)
 
 load-requires : tie.Need-load-requires
@@ -57,7 +57,7 @@ same-length c = search needs
 returns-2 : tie.Need-returns-2
 returns-2 c =
     let a = c .before .before .before .before .before .before .before .before .before .before .before .before .before .before .args in
-    filled (a .content) (c .before .before .before .before .before .before .before .load .result) (slices (a .counts .now) (a .marks .now) (a .fields .now)) (a .buffer .now) _ (c .before .before .before .before .before .put .result) _ (room (c .before .before .before .before .before .before .before .before)) (c .before .before .before .before .before .before .before .load .ensures) (c .before .before .before .before .before .put .ensures)
+    filled (a .content) (c .before .before .before .before .before .before .before .load .result) (slices (a .counts .now) (a .states .now) (a .fields .now)) (a .buffer .now) _ (c .before .before .before .before .before .put .result) _ (room (c .before .before .before .before .before .before .before .before)) (c .before .before .before .before .before .before .before .load .ensures) (c .before .before .before .before .before .put .ensures)
     (ap (λ (w : Written). lengthCode (wrote w)) (sym (c .before .written .given .1)))
 
 same-length-2 : tie.Need-same-length-2
@@ -66,7 +66,7 @@ same-length-2 c = search needs
 returns-3 : tie.Need-returns-3
 returns-3 c =
     let a = c .before .before .before .before .before .before .before .before .before .before .before .before .before .before .before .args in
-    filled (a .content) (c .before .before .before .before .before .before .before .before .load .result) (slices (a .counts .now) (a .marks .now) (a .fields .now)) (a .buffer .now) _ (c .before .before .before .before .before .before .put .result) _ (room (c .before .before .before .before .before .before .before .before .before)) (c .before .before .before .before .before .before .before .before .load .ensures) (c .before .before .before .before .before .before .put .ensures)
+    filled (a .content) (c .before .before .before .before .before .before .before .before .load .result) (slices (a .counts .now) (a .states .now) (a .fields .now)) (a .buffer .now) _ (c .before .before .before .before .before .before .put .result) _ (room (c .before .before .before .before .before .before .before .before .before)) (c .before .before .before .before .before .before .before .before .load .ensures) (c .before .before .before .before .before .before .put .ensures)
     (c .number .ensures ∙ ap (λ (w : Written). lengthCode (wrote w)) (sym (c .before .before .written2 .given .1)))
 
 pub fill-spec : {M : Type 1} → statement M

@@ -25,7 +25,7 @@ has-room-requires c κs = search needs
 returns : tie.Need-returns
 returns c =
     let a = c .before .before .before .before .before .before .before .args in
-    quote-short (a .which) (slices (a .counts .now) (a .marks .now) (a .fields .now)) (a .walk .now) (a .out .now) (sym (c .before .has-room .ensures) ∙ not-true _ (c .if1 .taken))
+    quote-short (a .asked) (slices (a .counts .now) (a .states .now) (a .fields .now)) (a .walk .now) (a .out .now) (sym (c .before .has-room .ensures) ∙ not-true _ (c .if1 .taken))
 
 handed-requires : tie.Need-handed-requires
 handed-requires c κs = search needs
@@ -47,7 +47,7 @@ one-requires c κs =
     let a = c .before .before .before .before .before .before .before .before .before .before .before .before .before .before .args in
     let g = view (c .before .before .before .before .before .load .result) in
     let x = c .before .before .before .quote .ensures in
-    (small (a .which) g _ _ (c .before .before .before .quote .result) x, four-places (a .which) g (a .walk .now) (a .out .now) (c .before .before .before .before .before .before .handed .result) (c .before .before .before .before .before .before .handed .ensures) _ (c .before .before .before .quote .result) x)
+    (small (a .asked) g _ _ (c .before .before .before .quote .result) x, four-places (a .asked) g (a .walk .now) (a .out .now) (c .before .before .before .before .before .before .handed .result) (c .before .before .before .before .before .before .handed .ensures) _ (c .before .before .before .quote .result) x)
 
 same-length : tie.Need-same-length
 same-length c = search needs
@@ -58,7 +58,7 @@ same-length-2 c = search needs
 returns-2 : tie.Need-returns-2
 returns-2 c =
     let a = c .before .before .before .before .before .before .before .before .before .before .before .before .before .before .before .before .before .args in
-    quote-finished (a .which) (c .before .before .before .before .before .before .before .before .load .result) (slices (a .counts .now) (a .marks .now) (a .fields .now)) (a .walk .now) _ (a .out .now) _ (c .before .before .before .before .before .before .before .before .before .handed .result) (c .before .before .before .before .before .before .quote .result) (c .before .before .one .result)
+    quote-finished (a .asked) (c .before .before .before .before .before .before .before .before .load .result) (slices (a .counts .now) (a .states .now) (a .fields .now)) (a .walk .now) _ (a .out .now) _ (c .before .before .before .before .before .before .before .before .before .handed .result) (c .before .before .before .before .before .before .quote .result) (c .before .before .one .result)
     (c .before .before .before .before .before .before .before .before .before .handed .ensures) (sym (c .before .before .before .before .before .before .before .before .before .before .before .has-room .ensures) ∙ not-false _ (c .before .before .before .before .before .before .before .before .before .before .if1 .left)) (c .before .before .before .before .before .before .before .before .load .ensures) (c .before .before .before .before .before .before .quote .ensures) (c .before .before .one .ensures)
 
 pub quote-spec : {M : Type 1} → statement M

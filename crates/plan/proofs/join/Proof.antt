@@ -34,8 +34,8 @@ join-grounds-requires : tie.Need-join-grounds-requires
 join-grounds-requires c κs = search needs
 
 -- the answer is the first row's
-answered : (c : tie.After-join-grounds) → said (c .join-grounds .result) ≡ first (joinRows (view (c .before .before .before .before .before .before .before .before .args .t1)) (transition (c .before .before .before .before .before .before .before .before .args .from) (c .before .before .before .before .before .before .before .before .args .to) (c .before .before .before .before .before .before .before .before .args .low) (c .before .before .before .before .before .before .before .before .args .high)))
-answered c = let p = c .before .before .before .before .before .before .before .before .args .t1 in rw (states-view p, count-view p, sym (limits-view p (c .before .in-limits .ensures))) (c .join-grounds .ensures)
+answered : (c : tie.After-join-grounds) → said (c .join-grounds .result) ≡ first (joinRows (view (c .before .before .before .before .before .before .before .before .before .args .t1)) (transition (c .before .before .before .before .before .before .before .before .before .args .from) (c .before .before .before .before .before .before .before .before .before .args .to) (c .before .before .before .before .before .before .before .before .before .args .low) (c .before .before .before .before .before .before .before .before .before .args .high)))
+answered c = let p = c .before .before .before .before .before .before .before .before .before .args .t1 in rw (states-view p, count-view p, sym (limits-view p (c .before .in-limits .ensures))) (c .join-grounds .ensures)
 
 enum-told : tie.Need-enum-told
 enum-told c = search needs
@@ -46,10 +46,10 @@ record Known (c : tie.Start) : Type 0 where
   states : c .args .t1 .states ≤ 512
   room : c .args .t1 .transitions < 2048
 
-known : (c : tie.After-enum-told) → Known (c .before .before .before .before .before .before .before .before .before .before)
+known : (c : tie.After-enum-told) → Known (c .before .before .before .before .before .before .before .before .before .before .before)
 known c =
-    let p = c .before .before .before .before .before .before .before .before .before .before .args .t1 in
-    let t = (transition (c .before .before .before .before .before .before .before .before .before .before .args .from) (c .before .before .before .before .before .before .before .before .before .before .args .to) (c .before .before .before .before .before .before .before .before .before .before .args .low) (c .before .before .before .before .before .before .before .before .before .before .args .high)) in
+    let p = c .before .before .before .before .before .before .before .before .before .before .before .args .t1 in
+    let t = (transition (c .before .before .before .before .before .before .before .before .before .before .before .args .from) (c .before .before .before .before .before .before .before .before .before .before .before .args .to) (c .before .before .before .before .before .before .before .before .before .before .before .args .low) (c .before .before .before .before .before .before .before .before .before .before .before .args .high)) in
     let k = none-holds (joinRows (view p) t) _ (c .enum-told .given .1) (answered (c .before .before)) in
     let w : within (view p) ≡ true = not-false _ (k .0) in
     let q = none-append (transitionRows (states (view p)) t) ((ListFull, leb 2048 (count (view p))) ∷ []) (k .1) in
@@ -104,22 +104,22 @@ enum-told-2 c = search needs
 
 -- the arrays of a plan value have their lengths
 sized : (c : tie.Start) → Sized (c .args .t1)
-sized c = record { marks = search needs; from = search needs; to = search needs; low = search needs; high = search needs }
+sized c = record { marks = search needs; teams = search needs; from = search needs; to = search needs; low = search needs; high = search needs }
 
 returns : tie.Need-returns
 returns c =
-    let a = c .before .before .before .before .before .before .before .before .before .before .args in
+    let a = c .before .before .before .before .before .before .before .before .before .before .before .args in
     let p = a .t1 in
-    let t = (transition (c .before .before .before .before .before .before .before .before .before .before .args .from) (c .before .before .before .before .before .before .before .before .before .before .args .to) (c .before .before .before .before .before .before .before .before .before .before .args .low) (c .before .before .before .before .before .before .before .before .before .before .args .high)) in
-    let z = sized (c .before .before .before .before .before .before .before .before .before .before) in
+    let t = (transition (c .before .before .before .before .before .before .before .before .before .before .before .args .from) (c .before .before .before .before .before .before .before .before .before .before .before .args .to) (c .before .before .before .before .before .before .before .before .before .before .before .args .low) (c .before .before .before .before .before .before .before .before .before .before .before .args .high)) in
+    let z = sized (c .before .before .before .before .before .before .before .before .before .before .before) in
     let k = known c in
     becomes p (joined p (a .from) (a .to) (a .low) (a .high)) (joinRows (view p) t) (withTransition (view p) t) _ (c .enum-told .given .1) (answered (c .before .before))
     (view-joined p z (a .from) (a .to) (a .low) (a .high) (k .room)) (past-joined p z (a .from) (a .to) (a .low) (a .high) (k .states) (k .room))
 
 returns-2 : tie.Need-returns-2
 returns-2 c =
-    let p = c .before .before .before .before .before .before .before .before .before .before .args .t1 in
-    let t = (transition (c .before .before .before .before .before .before .before .before .before .before .args .from) (c .before .before .before .before .before .before .before .before .before .before .args .to) (c .before .before .before .before .before .before .before .before .before .before .args .low) (c .before .before .before .before .before .before .before .before .before .before .args .high)) in
+    let p = c .before .before .before .before .before .before .before .before .before .before .before .args .t1 in
+    let t = (transition (c .before .before .before .before .before .before .before .before .before .before .before .args .from) (c .before .before .before .before .before .before .before .before .before .before .before .args .to) (c .before .before .before .before .before .before .before .before .before .before .before .args .low) (c .before .before .before .before .before .before .before .before .before .before .before .args .high)) in
     stays p (joinRows (view p) t) (withTransition (view p) t) _ _ (c .enum-told2 .given .1) (answered (c .before .before))
 
 pub join-spec : {M : Type 1} → statement M

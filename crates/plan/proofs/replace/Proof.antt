@@ -17,7 +17,7 @@ use Rattle.plan.proofs.replace.Tie as tie
 use Rattle.plan.proofs.replace.Reads as reads
 use Rattle.plan.proofs.replace.Lts as lts
 use Rattle.places.proofs.lay.Reads as lay-reads
-use Rattle.places.proofs.lay_marks.Reads as lay-marks-reads
+use Rattle.places.proofs.lay_states.Reads as lay-states-reads
 use Rattle.replacement.proofs.take.Reads as take-reads
 use Rattle.plan_limits.proofs.in_limits.Reads as in-limits-reads
 
@@ -32,50 +32,56 @@ enum-told c = search needs
 
 -- the arrays of a plan value have their lengths
 sized : (c : tie.Start) → Sized (c .args .t1)
-sized c = record { marks = search needs; from = search needs; to = search needs; low = search needs; high = search needs }
+sized c = record { marks = search needs; teams = search needs; from = search needs; to = search needs; low = search needs; high = search needs }
 
 -- the plan value that was taken from the octets
 taken : tie.After-take → Plan
-taken c = planOf (c .take .result .states) (c .take .result .transitions) (c .take .last .1 .1 .1 .0) (c .take .last .1 .1 .1 .1 .0) (c .take .last .1 .1 .1 .1 .1 .0) (c .take .last .1 .1 .1 .1 .1 .1 .0) (c .take .last .1 .1 .1 .1 .1 .1 .1 .0)
+taken c =
+    let l = c .take .last .1 .1 .1 in
+    planOf (c .take .result .states) (c .take .result .transitions) (l .0) (l .1 .0) (l .1 .1 .0) (l .1 .1 .1 .0) (l .1 .1 .1 .1 .0) (l .1 .1 .1 .1 .1 .0)
 
 -- its plan is what the rules give, by its answer
-ruled : (c : tie.After-take) → step (view (c .before .before .before .before .before .before .before .before .before .before .before .before .before .before .args .t1)) (replacing (c .before .before .before .before .before .before .before .before .before .before .before .before .before .before .args .format) (c .before .before .before .before .before .before .before .before .before .before .before .before .before .before .args .octets .now)) ≡ came (c .take .result .answer) (view (taken c))
+ruled : (c : tie.After-take) → step (view (c .before .before .before .before .before .before .before .before .before .before .before .before .before .before .before .before .args .t1)) (replacing (c .before .before .before .before .before .before .before .before .before .before .before .before .before .before .before .before .args .format) (c .before .before .before .before .before .before .before .before .before .before .before .before .before .before .before .before .args .octets .now)) ≡ came (c .take .result .answer) (view (taken c))
 unfolding view taken
 ruled c =
-    let p = c .before .before .before .before .before .before .before .before .before .before .before .before .before .before .args .t1 in
-    sym (c .take .ensures .rule (view p) (sym (limits-view p (c .before .before .before .before .before .before .in-limits .ensures))))
+    let p = c .before .before .before .before .before .before .before .before .before .before .before .before .before .before .before .before .args .t1 in
+    sym (c .take .ensures .rule (view p) (sym (limits-view p (c .before .before .before .before .before .before .before .in-limits .ensures))))
 
 -- it has room in its arrays
 room : (c : tie.After-take) → InArrays (taken c)
 unfolding taken
 room c =
     let e = c .take .ensures in
-    record { marks = e .states; from = e .transitions .0; to = e .transitions .1; low = e .transitions .2; high = e .transitions .3 }
+    record { marks = e .states .0; teams = e .states .1; from = e .transitions .0; to = e .transitions .1; low = e .transitions .2; high = e .transitions .3 }
 
 -- an accepted one's counts are a plan's
 counts : (c : tie.After-enum-told) → (taken (c .before .before) .states ≤ 512) × (taken (c .before .before) .transitions ≤ 2048)
 unfolding taken
 counts c = c .before .before .take .ensures .counts (c .enum-told .given .1)
 
-lay-marks-requires : tie.Need-lay-marks-requires
+lay-states-requires : tie.Need-lay-states-requires
 unfolding taken
-lay-marks-requires c κs = omega (arith, counts (c .before .before), room (c .before .before .before .before), sized (c .before .before .before .before .before .before .before .before .before .before .before .before .before .before .before .before .before .before))
+lay-states-requires c κs = omega (arith, counts (c .before .before), room (c .before .before .before .before), sized (c .before .before .before .before .before .before .before .before .before .before .before .before .before .before .before .before .before .before .before .before))
+
+lay-states-requires-2 : tie.Need-lay-states-requires-2
+unfolding taken
+lay-states-requires-2 c κs = omega (arith, counts (c .before .before .before .before .before), room (c .before .before .before .before .before .before .before), sized (c .before .before .before .before .before .before .before .before .before .before .before .before .before .before .before .before .before .before .before .before .before .before .before))
 
 lay-requires : tie.Need-lay-requires
 unfolding taken
-lay-requires c κs = omega (arith, counts (c .before .before .before .before .before), room (c .before .before .before .before .before .before .before), sized (c .before .before .before .before .before .before .before .before .before .before .before .before .before .before .before .before .before .before .before .before .before))
+lay-requires c κs = omega (arith, counts (c .before .before .before .before .before .before .before .before), room (c .before .before .before .before .before .before .before .before .before .before), sized (c .before .before .before .before .before .before .before .before .before .before .before .before .before .before .before .before .before .before .before .before .before .before .before .before .before .before))
 
 lay-requires-2 : tie.Need-lay-requires-2
 unfolding taken
-lay-requires-2 c κs = omega (arith, counts (c .before .before .before .before .before .before .before .before), room (c .before .before .before .before .before .before .before .before .before .before), sized (c .before .before .before .before .before .before .before .before .before .before .before .before .before .before .before .before .before .before .before .before .before .before .before .before))
+lay-requires-2 c κs = omega (arith, counts (c .before .before .before .before .before .before .before .before .before .before .before), room (c .before .before .before .before .before .before .before .before .before .before .before .before .before), sized (c .before .before .before .before .before .before .before .before .before .before .before .before .before .before .before .before .before .before .before .before .before .before .before .before .before .before .before .before .before))
 
 lay-requires-3 : tie.Need-lay-requires-3
 unfolding taken
-lay-requires-3 c κs = omega (arith, counts (c .before .before .before .before .before .before .before .before .before .before .before), room (c .before .before .before .before .before .before .before .before .before .before .before .before .before), sized (c .before .before .before .before .before .before .before .before .before .before .before .before .before .before .before .before .before .before .before .before .before .before .before .before .before .before .before))
+lay-requires-3 c κs = omega (arith, counts (c .before .before .before .before .before .before .before .before .before .before .before .before .before .before), room (c .before .before .before .before .before .before .before .before .before .before .before .before .before .before .before .before), sized (c .before .before .before .before .before .before .before .before .before .before .before .before .before .before .before .before .before .before .before .before .before .before .before .before .before .before .before .before .before .before .before .before))
 
 lay-requires-4 : tie.Need-lay-requires-4
 unfolding taken
-lay-requires-4 c κs = omega (arith, counts (c .before .before .before .before .before .before .before .before .before .before .before .before .before .before), room (c .before .before .before .before .before .before .before .before .before .before .before .before .before .before .before .before), sized (c .before .before .before .before .before .before .before .before .before .before .before .before .before .before .before .before .before .before .before .before .before .before .before .before .before .before .before .before .before .before))
+lay-requires-4 c κs = omega (arith, counts (c .before .before .before .before .before .before .before .before .before .before .before .before .before .before .before .before .before), room (c .before .before .before .before .before .before .before .before .before .before .before .before .before .before .before .before .before .before .before), sized (c .before .before .before .before .before .before .before .before .before .before .before .before .before .before .before .before .before .before .before .before .before .before .before .before .before .before .before .before .before .before .before .before .before .before .before))
 
 enum-told-2 : tie.Need-enum-told-2
 enum-told-2 c = search needs
@@ -83,21 +89,21 @@ enum-told-2 c = search needs
 returns : tie.Need-returns
 unfolding taken
 returns c =
-    let p = c .before .before .before .before .before .before .before .before .before .before .before .before .before .before .before .before .before .before .before .before .before .before .before .before .before .before .before .before .before .before .before .args .t1 in
-    let q = taken (c .before .before .before .before .before .before .before .before .before .before .before .before .before .before .before .before .before) in
-    let r = room (c .before .before .before .before .before .before .before .before .before .before .before .before .before .before .before .before .before) in
-    let n = counts (c .before .before .before .before .before .before .before .before .before .before .before .before .before .before .before) in
-    let o : Result Graph = step (view p) (replacing (c .before .before .before .before .before .before .before .before .before .before .before .before .before .before .before .before .before .before .before .before .before .before .before .before .before .before .before .before .before .before .before .args .format) (c .before .before .before .before .before .before .before .before .before .before .before .before .before .before .before .before .before .before .before .before .before .before .before .before .before .before .before .before .before .before .before .args .octets .now)) in
-    let e : _ ≡ overlaid p q = same-arrays (c .before .before .before .before .before .before .before .before .before .before .before .before .lay-marks .ensures) (c .before .before .before .before .before .before .before .before .before .lay .ensures) (c .before .before .before .before .before .before .lay2 .ensures) (c .before .before .before .lay3 .ensures) (c .lay4 .ensures) in
-    rw (c .before .before .before .before .before .before .before .before .before .before .before .before .before .before .before .enum-told .given .1)
-    (acceptance p _ o (view q) (ruled (c .before .before .before .before .before .before .before .before .before .before .before .before .before .before .before .before .before) ∙ ap (λ (x : Answer). came x (view q)) (c .before .before .before .before .before .before .before .before .before .before .before .before .before .before .before .enum-told .given .1)) (ap view e ∙ view-overlaid p q r)
-    (subst (Past p) (sym e) (past-overlaid p (sized (c .before .before .before .before .before .before .before .before .before .before .before .before .before .before .before .before .before .before .before .before .before .before .before .before .before .before .before .before .before .before .before)) q r (n .0) (n .1))))
+    let p = c .before .before .before .before .before .before .before .before .before .before .before .before .before .before .before .before .before .before .before .before .before .before .before .before .before .before .before .before .before .before .before .before .before .before .before .before .args .t1 in
+    let q = taken (c .before .before .before .before .before .before .before .before .before .before .before .before .before .before .before .before .before .before .before .before) in
+    let r = room (c .before .before .before .before .before .before .before .before .before .before .before .before .before .before .before .before .before .before .before .before) in
+    let n = counts (c .before .before .before .before .before .before .before .before .before .before .before .before .before .before .before .before .before .before) in
+    let o : Result Graph = step (view p) (replacing (c .before .before .before .before .before .before .before .before .before .before .before .before .before .before .before .before .before .before .before .before .before .before .before .before .before .before .before .before .before .before .before .before .before .before .before .before .args .format) (c .before .before .before .before .before .before .before .before .before .before .before .before .before .before .before .before .before .before .before .before .before .before .before .before .before .before .before .before .before .before .before .before .before .before .before .before .args .octets .now)) in
+    let e : _ ≡ overlaid p q = same-arrays (c .before .before .before .before .before .before .before .before .before .before .before .before .before .before .before .lay-states .ensures) (c .before .before .before .before .before .before .before .before .before .before .before .before .lay-states2 .ensures) (c .before .before .before .before .before .before .before .before .before .lay .ensures) (c .before .before .before .before .before .before .lay2 .ensures) (c .before .before .before .lay3 .ensures) (c .lay4 .ensures) in
+    rw (c .before .before .before .before .before .before .before .before .before .before .before .before .before .before .before .before .before .before .enum-told .given .1)
+    (acceptance p _ o (view q) (ruled (c .before .before .before .before .before .before .before .before .before .before .before .before .before .before .before .before .before .before .before .before) ∙ ap (λ (x : Answer). came x (view q)) (c .before .before .before .before .before .before .before .before .before .before .before .before .before .before .before .before .before .before .enum-told .given .1)) (ap view e ∙ view-overlaid p q r)
+    (subst (Past p) (sym e) (past-overlaid p (sized (c .before .before .before .before .before .before .before .before .before .before .before .before .before .before .before .before .before .before .before .before .before .before .before .before .before .before .before .before .before .before .before .before .before .before .before .before)) q r (n .0) (n .1))))
 
 returns-2 : tie.Need-returns-2
 returns-2 c =
-    let p = c .before .before .before .before .before .before .before .before .before .before .before .before .before .before .before .before .args .t1 in
+    let p = c .before .before .before .before .before .before .before .before .before .before .before .before .before .before .before .before .before .before .args .t1 in
     let q = taken (c .before .before) in
-    let o : Result Graph = step (view p) (replacing (c .before .before .before .before .before .before .before .before .before .before .before .before .before .before .before .before .args .format) (c .before .before .before .before .before .before .before .before .before .before .before .before .before .before .before .before .args .octets .now)) in
+    let o : Result Graph = step (view p) (replacing (c .before .before .before .before .before .before .before .before .before .before .before .before .before .before .before .before .before .before .args .format) (c .before .before .before .before .before .before .before .before .before .before .before .before .before .before .before .before .before .before .args .octets .now)) in
     rw (c .enum-told2 .given .1)
     (refusal p o _ (ruled (c .before .before) ∙ ap (λ (x : Answer). came x (view q)) (c .enum-told2 .given .1)))
 
@@ -108,7 +114,8 @@ replace-spec =
     in-limits-requires
     take-requires
     enum-told
-    lay-marks-requires
+    lay-states-requires
+    lay-states-requires-2
     lay-requires
     lay-requires-2
     lay-requires-3

@@ -8,7 +8,7 @@ in-limits-requires : tie.Need-in-limits-requires
 in-limits-requires c κs = search needs
 
 returns : tie.Need-returns
-returns c = limits-view (c .before .before .before .before .before .before .before .args .t1) (c .in-limits .ensures)
+returns c = limits-view (c .before .before .before .before .before .before .before .before .args .t1) (c .in-limits .ensures)
 
 pub within-spec : {M : Type 1} → statement M
 within-spec = tie.close (tie.spec in-limits-requires returns)

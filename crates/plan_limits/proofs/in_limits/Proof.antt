@@ -7,13 +7,13 @@ use borrow.Author.Tests.{le-leb, lt-leb, leb-true, not-true, not-false}
 use lib.Dec.{leb}
 use Rattle.rules.specs.Limits.{stateCountOk}
 use Rattle.rules.proofs.Results.{and-true}
-use Rattle.plan_limits.proofs.Limits.{states-out, count-out, marks-out, transitions-left}
+use Rattle.plan_limits.proofs.Limits.{states-out, count-out, each-out, transitions-left}
 use borrow.Author.Needs.{needs}
 use Rattle.plan_limits.proofs.in_limits.Statement.{statement}
 use Rattle.plan_limits.proofs.in_limits.Tie as tie
 use Rattle.plan_limits.proofs.in_limits.Reads as reads
 use Rattle.plan_limits.proofs.in_limits.Lts as lts
-use Rattle.array_limits.proofs.marks_within.Reads as marks-within-reads
+use Rattle.array_limits.proofs.states_within.Reads as states-within-reads
 use Rattle.arrays.proofs.limits.state_count_ok.Reads as state-count-ok-reads
 use Rattle.array_limits.proofs.transitions_within.Reads as transitions-within-reads
 
@@ -23,7 +23,7 @@ state-count-ok-requires c κs = search needs
 returns : tie.Need-returns
 returns c =
     let a = c .before .before .args in
-    states-out (a .n) (a .m) (a .marks .now) (a .from .now) (a .to .now) (a .low .now) (a .high .now) (sym (c .before .state-count-ok .ensures) ∙ not-true _ (c .if1 .taken))
+    states-out (a .n) (a .m) (a .marks .now) (a .teams .now) (a .from .now) (a .to .now) (a .low .now) (a .high .now) (sym (c .before .state-count-ok .ensures) ∙ not-true _ (c .if1 .taken))
 
 -- past the first test the state count is within its limits
 some : (c : tie.Else1) → stateCountOk (c .before .before .args .n) ≡ true
@@ -35,15 +35,15 @@ few c = let n = c .before .before .args .n in leb-true n 512 (and-true (leb 1 n)
 returns-2 : tie.Need-returns-2
 returns-2 c =
     let a = c .before .before .before .args in
-    count-out (a .n) (a .m) (a .marks .now) (a .from .now) (a .to .now) (a .low .now) (a .high .now) (some (c .before)) (lt-leb (a .m) 2048 (omega (arith, c .if2 .taken)))
+    count-out (a .n) (a .m) (a .marks .now) (a .teams .now) (a .from .now) (a .to .now) (a .low .now) (a .high .now) (some (c .before)) (lt-leb (a .m) 2048 (omega (arith, c .if2 .taken)))
 
-marks-within-requires : tie.Need-marks-within-requires
-marks-within-requires c κs = few (c .before)
+states-within-requires : tie.Need-states-within-requires
+states-within-requires c κs = few (c .before)
 
 returns-3 : tie.Need-returns-3
 returns-3 c =
     let a = c .before .before .before .before .before .args in
-    marks-out (a .n) (a .m) (a .marks .now) (a .from .now) (a .to .now) (a .low .now) (a .high .now) (some (c .before .before .before)) (le-leb (a .m) 2048 (omega (arith, c .before .before .if2 .left))) (sym (c .before .marks-within .ensures) ∙ not-true _ (c .if3 .taken))
+    each-out (a .n) (a .m) (a .marks .now) (a .teams .now) (a .from .now) (a .to .now) (a .low .now) (a .high .now) (some (c .before .before .before)) (le-leb (a .m) 2048 (omega (arith, c .before .before .if2 .left))) (sym (c .before .states-within .ensures) ∙ not-true _ (c .if3 .taken))
 
 transitions-within-requires : tie.Need-transitions-within-requires
 transitions-within-requires c κs = (few (c .before .before .before), omega arith)
@@ -51,7 +51,7 @@ transitions-within-requires c κs = (few (c .before .before .before), omega arit
 returns-4 : tie.Need-returns-4
 returns-4 c =
     let a = c .before .before .before .before .before .before .args in
-    c .transitions-within .ensures ∙ transitions-left (a .n) (a .m) (a .marks .now) (a .from .now) (a .to .now) (a .low .now) (a .high .now) (some (c .before .before .before .before)) (le-leb (a .m) 2048 (omega (arith, c .before .before .before .if2 .left))) (sym (c .before .before .marks-within .ensures) ∙ not-false _ (c .before .if3 .left))
+    c .transitions-within .ensures ∙ transitions-left (a .n) (a .m) (a .marks .now) (a .teams .now) (a .from .now) (a .to .now) (a .low .now) (a .high .now) (some (c .before .before .before .before)) (le-leb (a .m) 2048 (omega (arith, c .before .before .before .if2 .left))) (sym (c .before .before .states-within .ensures) ∙ not-false _ (c .before .if3 .left))
 
 pub in-limits-spec : {M : Type 1} → statement M
 in-limits-spec =
@@ -60,7 +60,7 @@ in-limits-spec =
     state-count-ok-requires
     returns
     returns-2
-    marks-within-requires
+    states-within-requires
     returns-3
     transitions-within-requires
     returns-4)

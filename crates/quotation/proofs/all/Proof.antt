@@ -36,16 +36,16 @@ enum-told c = search needs
 
 show-all-requires : tie.Need-show-all-requires
 show-all-requires c κs =
-    let e = sym (answered (c .before .before .before .before .before .before .before .before .before)) ∙ ap said (c .before .before .before .before .before .before .before .enum-told .given .1) in
-    (all-within (view (c .before .before .before .before .before .before .before .before .before .before .before .before .args .t1)) (c .before .before .before .before .before .before .before .before .before .before .before .before .args .walks .now) e, all-room (view (c .before .before .before .before .before .before .before .before .before .before .before .before .args .t1)) (c .before .before .before .before .before .before .before .before .before .before .before .before .args .walks .now) e)
+    let e = sym (answered (c .before .before .before .before .before .before .before .before .before .before)) ∙ ap said (c .before .before .before .before .before .before .before .before .enum-told .given .1) in
+    (all-within (view (c .before .before .before .before .before .before .before .before .before .before .before .before .before .args .t1)) (c .before .before .before .before .before .before .before .before .before .before .before .before .before .args .walks .now) e, all-room (view (c .before .before .before .before .before .before .before .before .before .before .before .before .before .args .t1)) (c .before .before .before .before .before .before .before .before .before .before .before .before .before .args .walks .now) e)
 
 same-length : tie.Need-same-length
 same-length c = search needs
 
 returns-2 : tie.Need-returns-2
 returns-2 c =
-    let e = sym (answered (c .before .before .before .before .before .before .before .before .before .before .before .before)) ∙ ap said (c .before .before .before .before .before .before .before .before .before .before .enum-told .given .1) in
-    all-acceptance (view (c .before .before .before .before .before .before .before .before .before .before .before .before .before .before .before .args .t1)) _ _ _ e (c .before .before .show-all .ensures)
+    let e = sym (answered (c .before .before .before .before .before .before .before .before .before .before .before .before .before)) ∙ ap said (c .before .before .before .before .before .before .before .before .before .before .before .enum-told .given .1) in
+    all-acceptance (view (c .before .before .before .before .before .before .before .before .before .before .before .before .before .before .before .before .args .t1)) _ _ _ e (c .before .before .show-all .ensures)
 
 pub all-spec : {M : Type 1} → statement M
 all-spec =

@@ -25,13 +25,13 @@ returns-2 : tie.Need-returns-2
 returns-2 c = held-short (c .before .before .before .before .before .before .args .octets .now) (c .before .before .before .before .before .before .args .walks .now) (c .before .before .before .held .result) (c .before .before .before .held .ensures) (c .before .enum-told .given .1) (c .if1 .taken)
 
 show-all-requires : tie.Need-show-all-requires
-show-all-requires c κs = (held-within (c .before .before .before .before .before .before .before .before .before .before .before .before .before .args .octets .now) (c .before .before .before .before .before .before .before .before .before .before .held .result) (c .before .before .before .before .before .before .before .before .before .before .held .ensures) (c .before .before .before .before .before .before .before .before .enum-told .given .1), c .before .before .before .before .before .before .before .if1 .left)
+show-all-requires c κs = (held-within (c .before .before .before .before .before .before .before .before .before .before .before .before .before .before .args .octets .now) (c .before .before .before .before .before .before .before .before .before .before .before .held .result) (c .before .before .before .before .before .before .before .before .before .before .before .held .ensures) (c .before .before .before .before .before .before .before .before .before .enum-told .given .1), c .before .before .before .before .before .before .before .before .if1 .left)
 
 same-length : tie.Need-same-length
 same-length c = search needs
 
 returns-3 : tie.Need-returns-3
-returns-3 c = held-quoted (c .before .before .before .before .before .before .before .before .before .before .before .before .before .before .before .before .args .octets .now) (c .before .before .before .before .before .before .before .before .before .before .before .before .before .before .before .before .args .walks .now) (c .before .before .before .before .before .before .before .before .before .before .before .before .before .held .result) (c .before .before .before .before .before .before .before .before .before .before .before .before .before .held .ensures) (c .before .before .before .before .before .before .before .before .before .before .before .enum-told .given .1) _ _ (c .before .before .before .before .before .before .before .before .before .before .if1 .left) (c .before .before .show-all .ensures)
+returns-3 c = held-quoted (c .before .before .before .before .before .before .before .before .before .before .before .before .before .before .before .before .before .args .octets .now) (c .before .before .before .before .before .before .before .before .before .before .before .before .before .before .before .before .before .args .walks .now) (c .before .before .before .before .before .before .before .before .before .before .before .before .before .before .held .result) (c .before .before .before .before .before .before .before .before .before .before .before .before .before .before .held .ensures) (c .before .before .before .before .before .before .before .before .before .before .before .before .enum-told .given .1) _ _ (c .before .before .before .before .before .before .before .before .before .before .before .if1 .left) (c .before .before .show-all .ensures)
 
 pub held-spec : {M : Type 1} → statement M
 held-spec =

@@ -23,10 +23,10 @@ show-requires : tie.Need-show-requires
 show-requires c κs =
     let p = c .before .before .before .before .before .args .p in
     let e = sym (c .before .before .before .ask .ensures _ refl) ∙ ap said (c .before .enum-told .given .1) in
-    (accepted-within (view p) (c .before .before .before .before .before .args .walk .now) e, omega (arith, states-view p, room (view p) (c .before .before .before .before .before .args .walk .now) e))
+    (accepted-within (c .before .before .before .before .before .args .asked) (view p) (c .before .before .before .before .before .args .walk .now) e, omega (arith, states-view p, room (c .before .before .before .before .before .args .asked) (view p) (c .before .before .before .before .before .args .walk .now) e))
 
-enum-known-asked : tie.Need-enum-known-asked
-enum-known-asked c = search needs
+enum-known-grounds : tie.Need-enum-known-grounds
+enum-known-grounds c = search needs
 
 same-length : tie.Need-same-length
 same-length c = search needs
@@ -34,12 +34,12 @@ same-length c = search needs
 returns : tie.Need-returns
 returns c =
     let e = sym (c .before .before .before .before .before .before .ask .ensures _ refl) ∙ ap said (c .before .before .before .before .enum-told .given .1) in
-    acceptance (c .before .before .before .before .before .before .before .before .args .which) (view (c .before .before .before .before .before .before .before .before .args .p)) _ _ _ e (c .before .before .show .ensures)
+    acceptance (c .before .before .before .before .before .before .before .before .args .asked) (view (c .before .before .before .before .before .before .before .before .args .p)) _ _ _ e (c .before .before .show .ensures)
 
 returns-2 : tie.Need-returns-2
-returns-2 c = refusal (c .before .before .before .before .before .args .which) (view (c .before .before .before .before .before .args .p)) _ (c .before .asked .given .0 .0) (sym (ap said (c .before .asked .given .1)) ∙ c .before .before .before .ask .ensures _ refl)
+returns-2 c = refusal (c .before .before .before .before .before .args .asked) (view (c .before .before .before .before .before .args .p)) _ (c .before .grounds .given .0 .0) (sym (ap said (c .before .grounds .given .1)) ∙ c .before .before .before .ask .ensures _ refl)
 
 pub quote-spec : {M : Type 1} → statement M
 quote-spec =
     tie.close
-    (tie.spec ask-requires enum-told show-requires enum-known-asked same-length returns returns-2)
+    (tie.spec ask-requires enum-told show-requires enum-known-grounds same-length returns returns-2)

@@ -30,19 +30,19 @@ slice-aggregate-show-all : tie.Need-slice-aggregate-show-all
 slice-aggregate-show-all c = search needs
 
 show-all-requires : tie.Need-show-all-requires
-show-all-requires c κs = ((sym (c .before .before .before .before .before .before .before .before .before .within .ensures) ∙ not-false _ (c .before .before .before .before .before .before .before .before .if1 .left)), le-refl 2048)
+show-all-requires c κs = ((sym (c .before .before .before .before .before .before .before .before .before .before .within .ensures) ∙ not-false _ (c .before .before .before .before .before .before .before .before .before .if1 .left)), le-refl 2048)
 
 put-record-requires : tie.Need-put-record-requires
-put-record-requires c κs = (search needs, quotes-fit (view (c .before .before .before .before .before .before .before .before .before .before .before .before .before .before .args .t1)) _ _ _ (c .before .before .show-all .ensures) (sym (c .before .before .before .before .before .before .before .before .before .before .before .before .within .ensures) ∙ not-false _ (c .before .before .before .before .before .before .before .before .before .before .before .if1 .left)))
+put-record-requires c κs = (search needs, quotes-fit (view (c .before .before .before .before .before .before .before .before .before .before .before .before .before .before .before .args .t1)) _ _ _ (c .before .before .show-all .ensures) (sym (c .before .before .before .before .before .before .before .before .before .before .before .before .before .within .ensures) ∙ not-false _ (c .before .before .before .before .before .before .before .before .before .before .before .before .if1 .left)))
 
 same-length : tie.Need-same-length
 same-length c = search needs
 
 returns-3 : tie.Need-returns-3
 returns-3 c =
-    let w = (sym (c .before .before .before .before .before .before .before .before .before .before .before .before .before .before .before .within .ensures) ∙ not-false _ (c .before .before .before .before .before .before .before .before .before .before .before .before .before .before .if1 .left)) in
-    record-acceptance (view (c .before .before .before .before .before .before .before .before .before .before .before .before .before .before .before .before .before .args .t1)) _ _ (record-made (view (c .before .before .before .before .before .before .before .before .before .before .before .before .before .before .before .before .before .args .t1)) _ w (le-ltb _ 11 (c .before .before .before .before .before .before .before .before .before .before .before .before .before .if2 .left)))
-    (c .before .before .put-record .ensures ∙ put-record (view (c .before .before .before .before .before .before .before .before .before .before .before .before .before .before .before .before .before .args .t1)) _ _ _ (c .before .before .before .before .before .show-all .ensures) _ (λ i. omega (arith, c .before .before .before .before .before .before .before .before .before .before .before .before .before .before .before .before .slice-known .given i)) (c .before .before .before .before .before .before .before .before .before .before .before .before .before .if2 .left))
+    let w = (sym (c .before .before .before .before .before .before .before .before .before .before .before .before .before .before .before .before .within .ensures) ∙ not-false _ (c .before .before .before .before .before .before .before .before .before .before .before .before .before .before .before .if1 .left)) in
+    record-acceptance (view (c .before .before .before .before .before .before .before .before .before .before .before .before .before .before .before .before .before .before .args .t1)) _ _ (record-made (view (c .before .before .before .before .before .before .before .before .before .before .before .before .before .before .before .before .before .before .args .t1)) _ w (le-ltb _ 11 (c .before .before .before .before .before .before .before .before .before .before .before .before .before .before .if2 .left)))
+    (c .before .before .put-record .ensures ∙ put-record (view (c .before .before .before .before .before .before .before .before .before .before .before .before .before .before .before .before .before .before .args .t1)) _ _ _ (c .before .before .before .before .before .show-all .ensures) _ (λ i. omega (arith, c .before .before .before .before .before .before .before .before .before .before .before .before .before .before .before .before .before .slice-known .given i)) (c .before .before .before .before .before .before .before .before .before .before .before .before .before .before .if2 .left))
 
 pub record-spec : {M : Type 1} → statement M
 record-spec =

@@ -21,7 +21,7 @@ returns : tie.Need-returns
 returns c = record {
   rule = λ old w. sym (replacing-refused old (c .before .before .args .format) (c .before .before .args .octets .now) (w ∙ not-true _ (c .if1 .taken)));
   counts = λ a. (omega arith, omega arith);
-  states = omega arith;
+  states = (omega arith, omega arith);
   transitions = (omega arith, omega arith, omega arith, omega arith);
 }
 
@@ -29,44 +29,44 @@ enum-told : tie.Need-enum-told
 enum-told c = search needs
 
 fill-requires : tie.Need-fill-requires
-fill-requires c κs = let p = c .before .before .before .before .before .before .before .before .before .pre in (p .0, p .1 .0, p .1 .1, p .1 .2, p .1 .3)
+fill-requires c κs = let p = c .before .before .before .before .before .before .before .before .before .before .pre in omega (arith, p)
 
 enum-told-2 : tie.Need-enum-told-2
 enum-told-2 c = search needs
 
 fill-requires-2 : tie.Need-fill-requires-2
-fill-requires-2 c κs = c .before .before .before .before .before .before .before .before .before .pre
+fill-requires-2 c κs = c .before .before .before .before .before .before .before .before .before .before .pre
 
 returns-2 : tie.Need-returns-2
 returns-2 c =
     let e = c .fill .ensures in
     let l = c .fill .last in
-    let os = c .before .before .before .before .before .before .before .before .before .before .args .octets .now in
+    let os = c .before .before .before .before .before .before .before .before .before .before .before .args .octets .now in
     let n = c .fill .result .states in
     let m = c .fill .result .transitions in
-    let g : Graph = graphOf n m (l .1 .0) (l .1 .1 .0) (l .1 .1 .1 .0) (l .1 .1 .1 .1 .0) (l .1 .1 .1 .1 .1 .0) in
-    rw (c .before .before .before .before .before .before .enum-told .given .1)
+    let g : Graph = graphOf n m (l .1 .0) (l .1 .1 .0) (l .1 .1 .1 .0) (l .1 .1 .1 .1 .0) (l .1 .1 .1 .1 .1 .0) (l .1 .1 .1 .1 .1 .1 .0) in
+    rw (c .before .before .before .before .before .before .before .enum-told .given .1)
     (record {
-      rule = λ old w. e .rule ∙ sym (read-given old os (w ∙ not-false _ (c .before .before .before .before .before .before .before .before .if1 .left)));
+      rule = λ old w. e .rule ∙ sym (read-given old os (w ∙ not-false _ (c .before .before .before .before .before .before .before .before .before .if1 .left)));
       counts = λ a.
           let w = limited g (read-within os g (sym (e .rule) ∙ ap (λ (x : Answer). came x g) a)) in (
-            omega (arith, w, states-of n m (l .1 .0) (l .1 .1 .0) (l .1 .1 .1 .0) (l .1 .1 .1 .1 .0) (l .1 .1 .1 .1 .1 .0)),
-            omega (arith, w, count-of n m (l .1 .0) (l .1 .1 .0) (l .1 .1 .1 .0) (l .1 .1 .1 .1 .0) (l .1 .1 .1 .1 .1 .0)),
+            omega (arith, w, states-of n m (l .1 .0) (l .1 .1 .0) (l .1 .1 .1 .0) (l .1 .1 .1 .1 .0) (l .1 .1 .1 .1 .1 .0) (l .1 .1 .1 .1 .1 .1 .0)),
+            omega (arith, w, count-of n m (l .1 .0) (l .1 .1 .0) (l .1 .1 .1 .0) (l .1 .1 .1 .1 .0) (l .1 .1 .1 .1 .1 .0) (l .1 .1 .1 .1 .1 .1 .0)),
           );
-      states = e .marks .room;
+      states = (e .marks .room, e .later-teams .room);
       transitions = (e .later .from .room, e .later .to .room, e .later .low .room, e .later .high .room);
     })
 
 returns-3 : tie.Need-returns-3
 returns-3 c =
     let e = c .fill2 .ensures in
-    let os = c .before .before .before .before .before .before .before .before .before .before .args .octets .now in
+    let os = c .before .before .before .before .before .before .before .before .before .before .before .args .octets .now in
     let r = e .room in
-    rw (c .before .before .before .before .before .before .enum-told2 .given .1)
+    rw (c .before .before .before .before .before .before .before .enum-told2 .given .1)
     (record {
-      rule = λ old w. e .rule ∙ sym (import-given old os (w ∙ not-false _ (c .before .before .before .before .before .before .before .before .if1 .left)));
+      rule = λ old w. e .rule ∙ sym (import-given old os (w ∙ not-false _ (c .before .before .before .before .before .before .before .before .before .if1 .left)));
       counts = λ a. (e .states, e .transitions);
-      states = omega (arith, e .states, r .0);
+      states = (omega (arith, e .states, r .0), omega (arith, e .states, r .1));
       transitions = (omega (arith, e .transitions, r), omega (arith, e .transitions, r), omega (arith, e .transitions, r), omega (arith, e .transitions, r));
     })
 

@@ -32,7 +32,7 @@ ask-requires : tie.Need-ask-requires
 ask-requires c κs = search needs
 
 -- what it is answered, of the slices themselves
-told : (c : tie.After-ask) → c .ask .result ≡ asked (hasRoom (slices (c .before .before .before .before .before .before .before .before .before .before .before .before .before .before .args .counts .now) (c .before .before .before .before .before .before .before .before .before .before .before .before .before .before .args .marks .now) (c .before .before .before .before .before .before .before .before .before .before .before .before .before .before .args .fields .now))) (areCalls (c .before .before .before .before .before .before .before .before .before .before .before .before .before .before .args .kinds .now) (c .before .before .before .before .before .before .before .before .before .before .before .before .before .before .args .arguments .now) (c .before .before .before .before .before .before .before .before .before .before .before .before .before .before .args .octets .now)) (replayRule (c .before .before .before .before .before .before .before .before .before .before .before .before .before .before .args .n) (c .before .before .before .before .before .before .before .before .before .before .before .before .before .before .args .kinds .now) (c .before .before .before .before .before .before .before .before .before .before .before .before .before .before .args .answers .now) (c .before .before .before .before .before .before .before .before .before .before .before .before .before .before .args .walks .now) (c .before .before .before .before .before .before .before .before .before .before .before .before .before .before .args .out .now))
+told : (c : tie.After-ask) → c .ask .result ≡ asked (hasRoom (slices (c .before .before .before .before .before .before .before .before .before .before .before .before .before .before .args .counts .now) (c .before .before .before .before .before .before .before .before .before .before .before .before .before .before .args .states .now) (c .before .before .before .before .before .before .before .before .before .before .before .before .before .before .args .fields .now))) (areCalls (c .before .before .before .before .before .before .before .before .before .before .before .before .before .before .args .kinds .now) (c .before .before .before .before .before .before .before .before .before .before .before .before .before .before .args .arguments .now) (c .before .before .before .before .before .before .before .before .before .before .before .before .before .before .args .octets .now)) (replayRule (c .before .before .before .before .before .before .before .before .before .before .before .before .before .before .args .n) (c .before .before .before .before .before .before .before .before .before .before .before .before .before .before .args .kinds .now) (c .before .before .before .before .before .before .before .before .before .before .before .before .before .before .args .answers .now) (c .before .before .before .before .before .before .before .before .before .before .before .before .before .before .args .walks .now) (c .before .before .before .before .before .before .before .before .before .before .before .before .before .before .args .out .now))
 told c =
     let a = c .before .before .before .before .before .before .before .before .before .before .before .before .before .before .args in
     c .ask .ensures ∙ ap (λ (b : Bool). asked b (areCalls (a .kinds .now) (a .arguments .now) (a .octets .now)) (replayRule (a .n) (a .kinds .now) (a .answers .now) (a .walks .now) (a .out .now))) (c .before .before .before .before .has-room .ensures)
@@ -49,13 +49,13 @@ same-length-3 c = search needs
 returns : tie.Need-returns
 returns c =
     let a = c .before .before .before .before .before .before .before .before .before .before .before .before .before .before .before .args in
-    replay-told (a .n) (a .kinds .now) (a .arguments .now) (a .octets .now) (a .answers .now) (slices (a .counts .now) (a .marks .now) (a .fields .now)) (a .walks .now) (a .out .now) (c .before .ask .result) (told (c .before)) (c .if1 .taken)
+    replay-told (a .n) (a .kinds .now) (a .arguments .now) (a .octets .now) (a .answers .now) (slices (a .counts .now) (a .states .now) (a .fields .now)) (a .walks .now) (a .out .now) (c .before .ask .result) (told (c .before)) (c .if1 .taken)
 
 -- past the test it is made
-ok : (c : tie.Else1) → (hasRoom (slices (c .before .before .before .before .before .before .before .before .before .before .before .before .before .before .before .args .counts .now) (c .before .before .before .before .before .before .before .before .before .before .before .before .before .before .before .args .marks .now) (c .before .before .before .before .before .before .before .before .before .before .before .before .before .before .before .args .fields .now)) ≡ true) × (areCalls (c .before .before .before .before .before .before .before .before .before .before .before .before .before .before .before .args .kinds .now) (c .before .before .before .before .before .before .before .before .before .before .before .before .before .before .before .args .arguments .now) (c .before .before .before .before .before .before .before .before .before .before .before .before .before .before .before .args .octets .now) ≡ true) × (replayRule (c .before .before .before .before .before .before .before .before .before .before .before .before .before .before .before .args .n) (c .before .before .before .before .before .before .before .before .before .before .before .before .before .before .before .args .kinds .now) (c .before .before .before .before .before .before .before .before .before .before .before .before .before .before .before .args .answers .now) (c .before .before .before .before .before .before .before .before .before .before .before .before .before .before .before .args .walks .now) (c .before .before .before .before .before .before .before .before .before .before .before .before .before .before .before .args .out .now) ≡ accepted tt)
+ok : (c : tie.Else1) → (hasRoom (slices (c .before .before .before .before .before .before .before .before .before .before .before .before .before .before .before .args .counts .now) (c .before .before .before .before .before .before .before .before .before .before .before .before .before .before .before .args .states .now) (c .before .before .before .before .before .before .before .before .before .before .before .before .before .before .before .args .fields .now)) ≡ true) × (areCalls (c .before .before .before .before .before .before .before .before .before .before .before .before .before .before .before .args .kinds .now) (c .before .before .before .before .before .before .before .before .before .before .before .before .before .before .before .args .arguments .now) (c .before .before .before .before .before .before .before .before .before .before .before .before .before .before .before .args .octets .now) ≡ true) × (replayRule (c .before .before .before .before .before .before .before .before .before .before .before .before .before .before .before .args .n) (c .before .before .before .before .before .before .before .before .before .before .before .before .before .before .before .args .kinds .now) (c .before .before .before .before .before .before .before .before .before .before .before .before .before .before .before .args .answers .now) (c .before .before .before .before .before .before .before .before .before .before .before .before .before .before .before .args .walks .now) (c .before .before .before .before .before .before .before .before .before .before .before .before .before .before .before .args .out .now) ≡ accepted tt)
 ok c =
     let a = c .before .before .before .before .before .before .before .before .before .before .before .before .before .before .before .args in
-    allowed (hasRoom (slices (a .counts .now) (a .marks .now) (a .fields .now))) (areCalls (a .kinds .now) (a .arguments .now) (a .octets .now)) (replayRule (a .n) (a .kinds .now) (a .answers .now) (a .walks .now) (a .out .now)) (c .before .ask .result) (told (c .before)) (c .if1 .left)
+    allowed (hasRoom (slices (a .counts .now) (a .states .now) (a .fields .now))) (areCalls (a .kinds .now) (a .arguments .now) (a .octets .now)) (replayRule (a .n) (a .kinds .now) (a .answers .now) (a .walks .now) (a .out .now)) (c .before .ask .result) (told (c .before)) (c .if1 .left)
 
 fresh-requires : tie.Need-fresh-requires
 fresh-requires c κs = search needs
@@ -66,14 +66,14 @@ store-requires c κs = has-room _ _ _ (ok (c .before .before .before .before .be
 in-turn-requires : tie.Need-in-turn-requires
 in-turn-requires c κs =
     let a = c .before .before .before .before .before .before .before .before .before .before .before .before .before .before .before .before .before .before .before .before .before .before .before .before .before .before .before .before .before .before .before .args in (
-      callable (a .n) (a .kinds .now) (a .arguments .now) (a .octets .now) (a .answers .now) (slices (a .counts .now) (a .marks .now) (a .fields .now)) (a .walks .now) (a .out .now) (ok (c .before .before .before .before .before .before .before .before .before .before .before .before .before .before .before .before) .0) (ok (c .before .before .before .before .before .before .before .before .before .before .before .before .before .before .before .before) .1) (ok (c .before .before .before .before .before .before .before .before .before .before .before .before .before .before .before .before) .2),
-      still-roomy (a .counts .now) (a .marks .now) (a .fields .now) _ _ _ (has-room (a .counts .now) (a .marks .now) (a .fields .now) (ok (c .before .before .before .before .before .before .before .before .before .before .before .before .before .before .before .before) .0)) (c .before .before .before .before .before .before .before .before .before .before .store .kept .1 .0) (c .before .before .before .before .before .before .before .before .before .before .store .kept .1 .1 .0) (c .before .before .before .before .before .before .before .before .before .before .store .kept .1 .1 .1 .0),
+      callable (a .n) (a .kinds .now) (a .arguments .now) (a .octets .now) (a .answers .now) (slices (a .counts .now) (a .states .now) (a .fields .now)) (a .walks .now) (a .out .now) (ok (c .before .before .before .before .before .before .before .before .before .before .before .before .before .before .before .before) .0) (ok (c .before .before .before .before .before .before .before .before .before .before .before .before .before .before .before .before) .1) (ok (c .before .before .before .before .before .before .before .before .before .before .before .before .before .before .before .before) .2),
+      still-roomy (a .counts .now) (a .states .now) (a .fields .now) _ _ _ (has-room (a .counts .now) (a .states .now) (a .fields .now) (ok (c .before .before .before .before .before .before .before .before .before .before .before .before .before .before .before .before) .0)) (c .before .before .before .before .before .before .before .before .before .before .store .kept .1 .0) (c .before .before .before .before .before .before .before .before .before .before .store .kept .1 .1 .0) (c .before .before .before .before .before .before .before .before .before .before .store .kept .1 .1 .1 .0),
     )
 
 load-requires : tie.Need-load-requires
 load-requires c κs =
     let a = c .before .before .before .before .before .before .before .before .before .before .before .before .before .before .before .before .before .before .before .before .before .before .before .before .before .before .before .before .before .before .before .before .before .before .before .before .before .before .before .before .before .before .before .args in
-    still-roomy (a .counts .now) (a .marks .now) (a .fields .now) _ _ _ (has-room (a .counts .now) (a .marks .now) (a .fields .now) (ok (c .before .before .before .before .before .before .before .before .before .before .before .before .before .before .before .before .before .before .before .before .before .before .before .before .before .before .before .before) .0)) (c .before .before .before .before .before .before .before .before .before .before .before .in-turn .kept .1 .1 .1 .0 ∙ c .before .before .before .before .before .before .before .before .before .before .before .before .before .before .before .before .before .before .before .before .before .before .store .kept .1 .0) (c .before .before .before .before .before .before .before .before .before .before .before .in-turn .kept .1 .1 .1 .1 .0 ∙ c .before .before .before .before .before .before .before .before .before .before .before .before .before .before .before .before .before .before .before .before .before .before .store .kept .1 .1 .0) (c .before .before .before .before .before .before .before .before .before .before .before .in-turn .kept .1 .1 .1 .1 .1 .0 ∙ c .before .before .before .before .before .before .before .before .before .before .before .before .before .before .before .before .before .before .before .before .before .before .store .kept .1 .1 .1 .0)
+    still-roomy (a .counts .now) (a .states .now) (a .fields .now) _ _ _ (has-room (a .counts .now) (a .states .now) (a .fields .now) (ok (c .before .before .before .before .before .before .before .before .before .before .before .before .before .before .before .before .before .before .before .before .before .before .before .before .before .before .before .before) .0)) (c .before .before .before .before .before .before .before .before .before .before .before .in-turn .kept .1 .1 .1 .0 ∙ c .before .before .before .before .before .before .before .before .before .before .before .before .before .before .before .before .before .before .before .before .before .before .store .kept .1 .0) (c .before .before .before .before .before .before .before .before .before .before .before .in-turn .kept .1 .1 .1 .1 .0 ∙ c .before .before .before .before .before .before .before .before .before .before .before .before .before .before .before .before .before .before .before .before .before .before .store .kept .1 .1 .0) (c .before .before .before .before .before .before .before .before .before .before .before .in-turn .kept .1 .1 .1 .1 .1 .0 ∙ c .before .before .before .before .before .before .before .before .before .before .before .before .before .before .before .before .before .before .before .before .before .before .store .kept .1 .1 .1 .0)
 
 all-requires : tie.Need-all-requires
 all-requires c κs = search needs
@@ -81,9 +81,9 @@ all-requires c κs = search needs
 four-requires : tie.Need-four-requires
 four-requires c κs =
     let a = c .before .before .before .before .before .before .before .before .before .before .before .before .before .before .before .before .before .before .before .before .before .before .before .before .before .before .before .before .before .before .before .before .before .before .before .before .before .before .before .before .before .before .before .before .before .before .before .before .before .args in (
-      replay-small (a .n) (a .kinds .now) (a .arguments .now) (a .octets .now) (a .answers .now) (slices (a .counts .now) (a .marks .now) (a .fields .now)) (a .walks .now) (a .out .now) (ok (c .before .before .before .before .before .before .before .before .before .before .before .before .before .before .before .before .before .before .before .before .before .before .before .before .before .before .before .before .before .before .before .before .before .before) .0) (ok (c .before .before .before .before .before .before .before .before .before .before .before .before .before .before .before .before .before .before .before .before .before .before .before .before .before .before .before .before .before .before .before .before .before .before) .1) (ok (c .before .before .before .before .before .before .before .before .before .before .before .before .before .before .before .before .before .before .before .before .before .before .before .before .before .before .before .before .before .before .before .before .before .before) .2)
+      replay-small (a .n) (a .kinds .now) (a .arguments .now) (a .octets .now) (a .answers .now) (slices (a .counts .now) (a .states .now) (a .fields .now)) (a .walks .now) (a .out .now) (ok (c .before .before .before .before .before .before .before .before .before .before .before .before .before .before .before .before .before .before .before .before .before .before .before .before .before .before .before .before .before .before .before .before .before .before) .0) (ok (c .before .before .before .before .before .before .before .before .before .before .before .before .before .before .before .before .before .before .before .before .before .before .before .before .before .before .before .before .before .before .before .before .before .before) .1) (ok (c .before .before .before .before .before .before .before .before .before .before .before .before .before .before .before .before .before .before .before .before .before .before .before .before .before .before .before .before .before .before .before .before .before .before) .2)
           (c .before .before .before .before .before .before .before .before .before .before .before .before .before .before .before .before .before .before .before .before .before .before .before .before .before .before .before .before .before .before .before .before .before .fresh .result) (c .before .before .before .before .before .before .before .before .before .before .before .before .before .before .before .before .before .before .before .before .before .before .before .before .before .before .before .before .before .before .before .before .before .fresh .ensures) _ (c .before .before .before .before .before .before .before .before .before .before .before .before .before .before .before .before .before .before .before .before .before .before .before .before .before .before .before .before .store .ensures) _ _ (c .before .before .before .before .before .before .before .before .before .before .before .before .before .before .before .before .before .in-turn .ensures) (c .before .before .before .before .before .load .result) (c .before .before .before .before .before .load .ensures) _ (c .before .before .before .all .result) (c .before .before .before .all .ensures),
-      replay-fits (a .n) (a .kinds .now) (a .arguments .now) (a .octets .now) (a .answers .now) (slices (a .counts .now) (a .marks .now) (a .fields .now)) (a .walks .now) (a .out .now) (ok (c .before .before .before .before .before .before .before .before .before .before .before .before .before .before .before .before .before .before .before .before .before .before .before .before .before .before .before .before .before .before .before .before .before .before) .0) (ok (c .before .before .before .before .before .before .before .before .before .before .before .before .before .before .before .before .before .before .before .before .before .before .before .before .before .before .before .before .before .before .before .before .before .before) .1) (ok (c .before .before .before .before .before .before .before .before .before .before .before .before .before .before .before .before .before .before .before .before .before .before .before .before .before .before .before .before .before .before .before .before .before .before) .2) (c .before .before .before .all .result),
+      replay-fits (a .n) (a .kinds .now) (a .arguments .now) (a .octets .now) (a .answers .now) (slices (a .counts .now) (a .states .now) (a .fields .now)) (a .walks .now) (a .out .now) (ok (c .before .before .before .before .before .before .before .before .before .before .before .before .before .before .before .before .before .before .before .before .before .before .before .before .before .before .before .before .before .before .before .before .before .before) .0) (ok (c .before .before .before .before .before .before .before .before .before .before .before .before .before .before .before .before .before .before .before .before .before .before .before .before .before .before .before .before .before .before .before .before .before .before) .1) (ok (c .before .before .before .before .before .before .before .before .before .before .before .before .before .before .before .before .before .before .before .before .before .before .before .before .before .before .before .before .before .before .before .before .before .before) .2) (c .before .before .before .all .result),
     )
 
 same-length-4 : tie.Need-same-length-4
@@ -107,7 +107,7 @@ same-length-9 c = search needs
 returns-2 : tie.Need-returns-2
 returns-2 c =
     let a = c .before .before .before .before .before .before .before .before .before .before .before .before .before .before .before .before .before .before .before .before .before .before .before .before .before .before .before .before .before .before .before .before .before .before .before .before .before .before .before .before .before .before .before .before .before .before .before .before .before .before .before .before .args in
-    replay-made (a .n) (a .kinds .now) (a .arguments .now) (a .octets .now) (a .answers .now) (slices (a .counts .now) (a .marks .now) (a .fields .now)) (a .walks .now) (a .out .now) (ok (c .before .before .before .before .before .before .before .before .before .before .before .before .before .before .before .before .before .before .before .before .before .before .before .before .before .before .before .before .before .before .before .before .before .before .before .before .before) .0) (ok (c .before .before .before .before .before .before .before .before .before .before .before .before .before .before .before .before .before .before .before .before .before .before .before .before .before .before .before .before .before .before .before .before .before .before .before .before .before) .1) (ok (c .before .before .before .before .before .before .before .before .before .before .before .before .before .before .before .before .before .before .before .before .before .before .before .before .before .before .before .before .before .before .before .before .before .before .before .before .before) .2)
+    replay-made (a .n) (a .kinds .now) (a .arguments .now) (a .octets .now) (a .answers .now) (slices (a .counts .now) (a .states .now) (a .fields .now)) (a .walks .now) (a .out .now) (ok (c .before .before .before .before .before .before .before .before .before .before .before .before .before .before .before .before .before .before .before .before .before .before .before .before .before .before .before .before .before .before .before .before .before .before .before .before .before) .0) (ok (c .before .before .before .before .before .before .before .before .before .before .before .before .before .before .before .before .before .before .before .before .before .before .before .before .before .before .before .before .before .before .before .before .before .before .before .before .before) .1) (ok (c .before .before .before .before .before .before .before .before .before .before .before .before .before .before .before .before .before .before .before .before .before .before .before .before .before .before .before .before .before .before .before .before .before .before .before .before .before) .2)
     (c .before .before .before .before .before .before .before .before .before .before .before .before .before .before .before .before .before .before .before .before .before .before .before .before .before .before .before .before .before .before .before .before .before .before .before .before .fresh .result) (c .before .before .before .before .before .before .before .before .before .before .before .before .before .before .before .before .before .before .before .before .before .before .before .before .before .before .before .before .before .before .before .before .before .before .before .before .fresh .ensures) _ (c .before .before .before .before .before .before .before .before .before .before .before .before .before .before .before .before .before .before .before .before .before .before .before .before .before .before .before .before .before .before .before .store .ensures) _ _ (c .before .before .before .before .before .before .before .before .before .before .before .before .before .before .before .before .before .before .before .before .in-turn .ensures) (c .before .before .before .before .before .before .before .before .load .result) (c .before .before .before .before .before .before .before .before .load .ensures) _ (c .before .before .before .before .before .before .all .result) _ (c .before .before .four .result) (c .before .before .before .before .before .before .all .ensures) (c .before .before .four .ensures)
 
 pub replay-spec : {M : Type 1} → statement M

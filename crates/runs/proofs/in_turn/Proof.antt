@@ -24,12 +24,12 @@ use Rattle.runs.proofs.in_turn.Lts as lts
 use Rattle.item.proofs.obey.Reads as obey-reads
 
 abbrev Inv-loop : tie.InvT-loop
-Inv-loop kinds arguments octets counts₀ marks₀ fields₀ answers₀ turn₀ counts marks fields answers turn =
-    (turn ≤ length kinds) × (length answers ≡ length answers₀) × (length counts ≡ length counts₀) × (length marks ≡ length marks₀) × (length fields ≡ length fields₀)
-    × LentAfter (λ k. callIn octets (itemAt kinds arguments k)) answers₀ (slices counts₀ marks₀ fields₀) turn answers (slices counts marks fields)
+Inv-loop kinds arguments octets counts₀ states₀ fields₀ answers₀ turn₀ counts states fields answers turn =
+    (turn ≤ length kinds) × (length answers ≡ length answers₀) × (length counts ≡ length counts₀) × (length states ≡ length states₀) × (length fields ≡ length fields₀)
+    × LentAfter (λ k. callIn octets (itemAt kinds arguments k)) answers₀ (slices counts₀ states₀ fields₀) turn answers (slices counts states fields)
 
 abbrev μ-loop : tie.MeasureT-loop
-μ-loop kinds arguments octets counts₀ marks₀ fields₀ answers₀ turn₀ counts marks fields answers turn = length kinds - turn
+μ-loop kinds arguments octets counts₀ states₀ fields₀ answers₀ turn₀ counts states fields answers turn = length kinds - turn
 
 loop-holds : tie.Need-loop-holds Inv-loop μ-loop
 loop-holds c = (search needs, refl, refl, refl, refl, lent-none _ _ _ (room-of _ (c .before .before .before .before .before .before .before .pre .1)))
@@ -58,7 +58,7 @@ loop-again c =
       c .before .before .before .before .before .before .obey .kept .1 .1 .1 .1 .0 ∙ l .inv .2,
       c .before .before .before .before .before .before .obey .kept .1 .1 .1 .1 .1 .0 ∙ l .inv .3,
       c .before .before .before .before .before .before .obey .kept .1 .1 .1 .1 .1 .1 .0 ∙ l .inv .4,
-      lent-more (λ k. callIn (a .octets .now) (itemAt (a .kinds .now) (a .arguments .now) k)) (a .answers .now) (slices (a .counts .now) (a .marks .now) (a .fields .now)) (l .turn) (l .answers) (slices (l .counts) (l .marks) (l .fields)) _ (c .before .before .before .before .before .before .obey .result)
+      lent-more (λ k. callIn (a .octets .now) (itemAt (a .kinds .now) (a .arguments .now) k)) (a .answers .now) (slices (a .counts .now) (a .states .now) (a .fields .now)) (l .turn) (l .answers) (slices (l .counts) (l .states) (l .fields)) _ (c .before .before .before .before .before .before .obey .result)
           (omega (arith, c .before .before .before .before .before .before .before .before .before .before .before .before .before .before .before .before .before .before .before .pre .0 .room)) (l .inv .5) (c .before .before .before .before .before .before .obey .ensures),
     )
 
@@ -81,7 +81,7 @@ returns c =
     let l = c .before .loop in
     let e : l .turn ≡ length (a .kinds .now) = omega arith in
     let f : ℕ → Call = λ k. callIn (a .octets .now) (itemAt (a .kinds .now) (a .arguments .now) k) in
-    let p : Plan = planIn (slices (a .counts .now) (a .marks .now) (a .fields .now)) in
+    let p : Plan = planIn (slices (a .counts .now) (a .states .now) (a .fields .now)) in
     record {
       turns = record {
         answers = l .inv .5 .run .answers ∙ ap (λ (n : ℕ). over (map code (run (view p) (tabulate n f) .answers)) (a .answers .now)) e;

@@ -17,8 +17,8 @@ reach-requires c κs = let p = c .before .before .before .before .before .before
 
 figure-requires : tie.Need-figure-requires
 figure-requires c κs =
-    let p = c .before .before .before .before .before .before .before .before .before .before .before .before .before .before .before .before .before .before .args .t2 in
-    (c .before .before .before .before .before .before .before .before .before .before .before .before .before .before .before .before .before .before .pre, (c .before .before .before .before .before .before .before .before .before .before .before .before .before .before .chains .ensures, c .before .before .before .before .before .before .before .reach .ensures (p .transitions) (p .from) (linked (c .before .before .before .before .before .before .before .before .before .before .before .before .before .before))))
+    let p = c .before .before .before .before .before .before .before .before .before .before .before .before .before .before .before .before .before .before .before .args .t2 in
+    (c .before .before .before .before .before .before .before .before .before .before .before .before .before .before .before .before .before .before .before .pre, (c .before .before .before .before .before .before .before .before .before .before .before .before .before .before .before .chains .ensures, c .before .before .before .before .before .before .before .before .reach .ensures (p .transitions) (p .from) (linked (c .before .before .before .before .before .before .before .before .before .before .before .before .before .before .before))))
 
 same-length : tie.Need-same-length
 same-length c = search needs

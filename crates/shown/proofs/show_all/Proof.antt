@@ -7,23 +7,23 @@ use native.Mathlib.Omega.{arith}
 use borrow.Author.Needs.{needs}
 use lib.ListN.{length}
 use Rattle.search.specs.Chain.{Linked}
-use Rattle.figures.specs.Figures.{planOf, arraysOf}
+use Rattle.figures.specs.Figures.{arraysOf}
 use Rattle.figures.proofs.Held.{bounded-in, from-small, linked-in}
 use Rattle.plan.specs.declared.Plan.{Plan}
-use Rattle.plan.specs.View.{view}
+use Rattle.plan.specs.View.{planOf, view}
 use Rattle.shown.proofs.Parts.{Showing, cut-length, showing-none, there, showing-part, all-shown}
 use Rattle.shown.proofs.show_all.Statement.{statement}
 use Rattle.shown.proofs.show_all.Tie as tie
 
 abbrev Inv-loop : tie.InvT-loop
-Inv-loop n m marks from to low high walks₀ out reached quotes₀ i₀ walks quotes i = (i ≤ 4) × Showing (view (planOf n m marks from to low high)) i quotes walks₀ walks
+Inv-loop n m marks teams from to low high walks₀ out reached quotes₀ i₀ walks quotes i = (i ≤ 4) × Showing (view (planOf n m marks teams from to low high)) i quotes walks₀ walks
 
 abbrev μ-loop : tie.MeasureT-loop
-μ-loop n m marks from to low high walks₀ out reached quotes₀ i₀ walks quotes i = 4 - i
+μ-loop n m marks teams from to low high walks₀ out reached quotes₀ i₀ walks quotes i = 4 - i
 
 -- the plan in the arrays, with the chains of its transitions
 abbrev plan : tie.Start Inv-loop μ-loop → Plan
-plan c = planOf (c .args .n) (c .args .m) (c .args .marks .now) (c .args .from .now) (c .args .to .now) (c .args .low .now) (c .args .high .now)
+plan c = planOf (c .args .n) (c .args .m) (c .args .marks .now) (c .args .teams .now) (c .args .from .now) (c .args .to .now) (c .args .low .now) (c .args .high .now)
 
 linked : (c : tie.After-chains Inv-loop μ-loop) → Linked (arraysOf (plan (c .before .before))) (c .chains .result .head) (c .chains .result .link)
 linked c = linked-in (plan (c .before .before)) (c .before .before .pre .0) (c .chains .result) (c .chains .ensures)
@@ -86,7 +86,7 @@ loop-again c =
     let f = c .before .before .figure in
     let s = rw (c .before .before .before .before .figure-at .ensures) at (f .ensures) in
     let k : 512 * i + 512 - 512 * i ≡ 512 = omega arith in
-    (omega arith, rw add-one (showing-part (c .before .before .before .before .before .before .before .before .before .before .before .before .before .pre .1) (c .before .before .before .before .before .loop-test .taken) (c .before .before .before .before .before .before .loop .inv .1) (f .result) (f .last .1 .1 .1 .1 .1 .1 .1 .1 .1 .1 .0) (512 * i + 512 - 512 * i) k (f .kept .1 .1 .1 .1 .1 .1 .1 .1 .1 .1 .0) s))
+    (omega arith, rw add-one (showing-part (c .before .before .before .before .before .before .before .before .before .before .before .before .before .pre .1) (c .before .before .before .before .before .loop-test .taken) (c .before .before .before .before .before .before .loop .inv .1) (f .result) (f .last .1 .1 .1 .1 .1 .1 .1 .1 .1 .1 .1 .0) (512 * i + 512 - 512 * i) k (f .kept .1 .1 .1 .1 .1 .1 .1 .1 .1 .1 .1 .0) s))
 
 array-copy-out-least-delay : tie.Need-array-copy-out-least-delay Inv-loop μ-loop
 array-copy-out-least-delay c = search needs

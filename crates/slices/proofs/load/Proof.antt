@@ -11,8 +11,11 @@ shared-slice-read-t5 c = search needs
 shared-slice-read-t7 : tie.Need-shared-slice-read-t7
 shared-slice-read-t7 c = search needs
 
-marks-of-requires : tie.Need-marks-of-requires
-marks-of-requires c κs = search needs
+states-of-requires : tie.Need-states-of-requires
+states-of-requires c κs = search needs
+
+states-of-requires-2 : tie.Need-states-of-requires-2
+states-of-requires-2 c κs = search needs
 
 field-of-requires : tie.Need-field-of-requires
 field-of-requires c κs = search needs
@@ -28,11 +31,12 @@ field-of-requires-4 c κs = search needs
 
 returns : tie.Need-returns
 returns c =
-    let a = c .before .before .before .before .before .before .before .before .before .before .args in
+    let a = c .before .before .before .before .before .before .before .before .before .before .before .args in
     λ i. record {
       states = getD (a .counts .now) 0 0;
       transitions = getD (a .counts .now) 1 0;
-      marks = c .before .before .before .before .marks-of .ensures i;
+      marks = c .before .before .before .before .before .states-of .ensures i;
+      teams = c .before .before .before .before .states-of2 .ensures i;
       from = c .before .before .before .field-of .ensures i;
       to = c .before .before .field-of2 .ensures i;
       low = c .before .field-of3 .ensures i;
@@ -45,7 +49,8 @@ load-spec =
     (tie.spec
     shared-slice-read-t5
     shared-slice-read-t7
-    marks-of-requires
+    states-of-requires
+    states-of-requires-2
     field-of-requires
     field-of-requires-2
     field-of-requires-3

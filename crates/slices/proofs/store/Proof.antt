@@ -12,11 +12,11 @@ use Rattle.slices.proofs.store.Tie as tie
 use Rattle.slices.proofs.store.Reads as reads
 use Rattle.slices.proofs.store.Lts as lts
 use Rattle.slices.proofs.put_field.Reads as put-field-reads
-use Rattle.slices.proofs.put_marks.Reads as put-marks-reads
+use Rattle.slices.proofs.put_states.Reads as put-states-reads
 
 -- the arrays of a plan value have their lengths
 sized : (c : tie.Start) → Sized (c .args .t1)
-sized c = record { marks = search needs; from = search needs; to = search needs; low = search needs; high = search needs }
+sized c = record { marks = search needs; teams = search needs; from = search needs; to = search needs; low = search needs; high = search needs }
 
 slice-write-counts : tie.Need-slice-write-counts
 slice-write-counts c = search needs
@@ -24,24 +24,29 @@ slice-write-counts c = search needs
 slice-write-counts-2 : tie.Need-slice-write-counts-2
 slice-write-counts-2 c = search needs
 
-put-marks-requires : tie.Need-put-marks-requires
-put-marks-requires c κs = search needs
+put-states-requires : tie.Need-put-states-requires
+put-states-requires c κs = search needs
+
+put-states-requires-2 : tie.Need-put-states-requires-2
+put-states-requires-2 c κs = search needs
 
 put-field-requires : tie.Need-put-field-requires
 put-field-requires c κs = search needs
 
 put-field-requires-2 : tie.Need-put-field-requires-2
-put-field-requires-2 c κs = search needs
+put-field-requires-2 c κs =
+    let z = sized (c .before .before .before .before .before .before .before .before .before .before .before .before .before .before .before .before .before .before .before .before .before .before .before .before) in
+    (omega arith, omega (arith, c .before .before .before .before .before .before .before .before .before .before .before .before .before .before .before .before .before .before .before .before .before .before .before .before .pre .transitions, c .before .before .before .before .before .put-field .kept), omega (arith, z .to))
 
 put-field-requires-3 : tie.Need-put-field-requires-3
 put-field-requires-3 c κs =
-    let z = sized (c .before .before .before .before .before .before .before .before .before .before .before .before .before .before .before .before .before .before .before .before .before .before .before .before) in
-    (omega arith, omega (arith, c .before .before .before .before .before .before .before .before .before .before .before .before .before .before .before .before .before .before .before .before .before .before .before .before .pre .transitions, c .before .before .before .before .before .before .before .before .before .before .before .put-field .kept, c .before .before .before .before .before .put-field2 .kept), omega (arith, z .low, z .high))
+    let z = sized (c .before .before .before .before .before .before .before .before .before .before .before .before .before .before .before .before .before .before .before .before .before .before .before .before .before .before .before .before .before .before) in
+    (omega arith, omega (arith, c .before .before .before .before .before .before .before .before .before .before .before .before .before .before .before .before .before .before .before .before .before .before .before .before .before .before .before .before .before .before .pre .transitions, c .before .before .before .before .before .before .before .before .before .before .before .put-field .kept, c .before .before .before .before .before .put-field2 .kept), omega (arith, z .low, z .high))
 
 put-field-requires-4 : tie.Need-put-field-requires-4
 put-field-requires-4 c κs =
-    let z = sized (c .before .before .before .before .before .before .before .before .before .before .before .before .before .before .before .before .before .before .before .before .before .before .before .before .before .before .before .before .before .before) in
-    (omega arith, omega (arith, c .before .before .before .before .before .before .before .before .before .before .before .before .before .before .before .before .before .before .before .before .before .before .before .before .before .before .before .before .before .before .pre .transitions, c .before .before .before .before .before .before .before .before .before .before .before .before .before .before .before .before .before .put-field .kept, c .before .before .before .before .before .before .before .before .before .before .before .put-field2 .kept, c .before .before .before .before .before .put-field3 .kept), omega (arith, z .low, z .high))
+    let z = sized (c .before .before .before .before .before .before .before .before .before .before .before .before .before .before .before .before .before .before .before .before .before .before .before .before .before .before .before .before .before .before .before .before .before .before .before .before) in
+    (omega arith, omega (arith, c .before .before .before .before .before .before .before .before .before .before .before .before .before .before .before .before .before .before .before .before .before .before .before .before .before .before .before .before .before .before .before .before .before .before .before .before .pre .transitions, c .before .before .before .before .before .before .before .before .before .before .before .before .before .before .before .before .before .put-field .kept, c .before .before .before .before .before .before .before .before .before .before .before .put-field2 .kept, c .before .before .before .before .before .put-field3 .kept), omega (arith, z .low, z .high))
 
 same-length : tie.Need-same-length
 same-length c = search needs
@@ -54,11 +59,11 @@ same-length-3 c = search needs
 
 returns : tie.Need-returns
 returns c =
-    let a = c .before .before .before .before .before .before .before .before .before .before .before .before .before .before .before .before .before .before .before .before .before .before .before .before .before .before .before .before .before .before .before .before .before .args in
+    let a = c .before .before .before .before .before .before .before .before .before .before .before .before .before .before .before .before .before .before .before .before .before .before .before .before .before .before .before .before .before .before .before .before .before .before .before .before .before .before .before .args in
     let p = a .t1 in
     let P : List ℕ → ℕ → List ℕ → List ℕ = λ d at s. paste d at s 2048 in
-    stored p (sized (c .before .before .before .before .before .before .before .before .before .before .before .before .before .before .before .before .before .before .before .before .before .before .before .before .before .before .before .before .before .before .before .before .before)) (a .counts .now) (a .marks .now) (a .fields .now) (c .before .before .before .before .before .before .before .before .before .before .before .before .before .before .before .before .before .before .before .before .before .before .before .before .before .before .put-marks .last .0) (c .before .before .put-field4 .last .0) (c .before .before .before .before .before .before .before .before .before .before .before .before .before .before .before .before .before .before .before .before .before .before .before .before .before .before .before .before .before .before .before .before .before .pre)
-    (c .before .before .before .before .before .before .before .before .before .before .before .before .before .before .before .before .before .before .before .before .before .before .before .before .before .before .put-marks .ensures)
+    stored p (sized (c .before .before .before .before .before .before .before .before .before .before .before .before .before .before .before .before .before .before .before .before .before .before .before .before .before .before .before .before .before .before .before .before .before .before .before .before .before .before .before)) (a .counts .now) (a .states .now) (a .fields .now) (c .before .before .before .before .before .before .before .before .before .before .before .before .before .before .before .before .before .before .before .before .before .before .before .before .before .before .put-states2 .last .0) (c .before .before .put-field4 .last .0) (c .before .before .before .before .before .before .before .before .before .before .before .before .before .before .before .before .before .before .before .before .before .before .before .before .before .before .before .before .before .before .before .before .before .before .before .before .before .before .before .pre)
+    (c .before .before .before .before .before .before .before .before .before .before .before .before .before .before .before .before .before .before .before .before .before .before .before .before .before .before .put-states2 .ensures ∙ ap (λ (d : List ℕ). paste d 512 (p .teams) 512) (c .before .before .before .before .before .before .before .before .before .before .before .before .before .before .before .before .before .before .before .before .before .before .before .before .before .before .before .before .before .before .before .before .put-states .ensures))
     (c .before .before .put-field4 .ensures
     ∙ ap (λ (d : List ℕ). P d 6144 (p .high))
     (c .before .before .before .before .before .before .before .before .put-field3 .ensures
@@ -70,7 +75,8 @@ store-spec =
     (tie.spec
     slice-write-counts
     slice-write-counts-2
-    put-marks-requires
+    put-states-requires
+    put-states-requires-2
     put-field-requires
     put-field-requires-2
     put-field-requires-3

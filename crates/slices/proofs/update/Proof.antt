@@ -16,11 +16,11 @@ use Rattle.slices.proofs.update.Reads as reads
 use Rattle.slices.proofs.update.Lts as lts
 use Rattle.numbers.proofs.number.Reads as number-reads
 use Rattle.slices.proofs.put_field.Reads as put-field-reads
-use Rattle.slices.proofs.put_marks.Reads as put-marks-reads
+use Rattle.slices.proofs.put_states.Reads as put-states-reads
 
 -- the arrays of a plan value have their lengths
 sized : (c : tie.Start) → Sized (c .args .t1 .plan)
-sized c = record { marks = search needs; from = search needs; to = search needs; low = search needs; high = search needs }
+sized c = record { marks = search needs; teams = search needs; from = search needs; to = search needs; low = search needs; high = search needs }
 
 enum-known-answer : tie.Need-enum-known-answer
 enum-known-answer c = search needs
@@ -35,7 +35,7 @@ enum-told : tie.Need-enum-told
 enum-told c = search needs
 
 -- past the test the plan is an accepted one's
-later : (c : tie.After-enum-told) → SameLater (c .before .before .before .before .before .args .t1 .plan) (slices (c .before .before .before .before .before .args .counts .now) (c .before .before .before .before .before .args .marks .now) (c .before .before .before .before .before .args .fields .now))
+later : (c : tie.After-enum-told) → SameLater (c .before .before .before .before .before .args .t1 .plan) (slices (c .before .before .before .before .before .args .counts .now) (c .before .before .before .before .before .args .states .now) (c .before .before .before .before .before .args .fields .now))
 later c = c .before .before .before .before .before .pre .1 (c .enum-told .given .1)
 
 slice-write-counts : tie.Need-slice-write-counts
@@ -44,35 +44,41 @@ slice-write-counts c = search needs
 slice-write-counts-2 : tie.Need-slice-write-counts-2
 slice-write-counts-2 c = search needs
 
-put-marks-requires : tie.Need-put-marks-requires
-put-marks-requires c κs =
+put-states-requires : tie.Need-put-states-requires
+put-states-requires c κs =
     let z = sized (c .before .before .before .before .before .before .before .before) in
     let k = later (c .before .before .before) in
     (omega (arith, k .states), omega (arith, c .before .before .before .before .before .before .before .before .pre .0 .states), omega (arith, z .marks))
 
-put-field-requires : tie.Need-put-field-requires
-put-field-requires c κs =
+put-states-requires-2 : tie.Need-put-states-requires-2
+put-states-requires-2 c κs =
     let z = sized (c .before .before .before .before .before .before .before .before .before .before .before .before .before .before) in
     let k = later (c .before .before .before .before .before .before .before .before .before) in
-    (omega (arith, k .transitions), omega (arith, c .before .before .before .before .before .before .before .before .before .before .before .before .before .before .pre .0 .transitions), omega (arith, z .from))
+    (omega (arith, k .states), omega (arith, c .before .before .before .before .before .before .before .before .before .before .before .before .before .before .pre .0 .states, c .before .before .before .before .before .put-states .kept), omega (arith, z .teams))
+
+put-field-requires : tie.Need-put-field-requires
+put-field-requires c κs =
+    let z = sized (c .before .before .before .before .before .before .before .before .before .before .before .before .before .before .before .before .before .before .before .before) in
+    let k = later (c .before .before .before .before .before .before .before .before .before .before .before .before .before .before .before) in
+    (omega (arith, k .transitions), omega (arith, c .before .before .before .before .before .before .before .before .before .before .before .before .before .before .before .before .before .before .before .before .pre .0 .transitions), omega (arith, z .from))
 
 put-field-requires-2 : tie.Need-put-field-requires-2
 put-field-requires-2 c κs =
-    let z = sized (c .before .before .before .before .before .before .before .before .before .before .before .before .before .before .before .before .before .before .before .before) in
-    let k = later (c .before .before .before .before .before .before .before .before .before .before .before .before .before .before .before) in
-    (omega (arith, k .transitions), omega (arith, c .before .before .before .before .before .before .before .before .before .before .before .before .before .before .before .before .before .before .before .before .pre .0 .transitions, c .before .before .before .before .before .put-field .kept), omega (arith, z .to))
+    let z = sized (c .before .before .before .before .before .before .before .before .before .before .before .before .before .before .before .before .before .before .before .before .before .before .before .before .before .before) in
+    let k = later (c .before .before .before .before .before .before .before .before .before .before .before .before .before .before .before .before .before .before .before .before .before) in
+    (omega (arith, k .transitions), omega (arith, c .before .before .before .before .before .before .before .before .before .before .before .before .before .before .before .before .before .before .before .before .before .before .before .before .before .before .pre .0 .transitions, c .before .before .before .before .before .put-field .kept), omega (arith, z .to))
 
 put-field-requires-3 : tie.Need-put-field-requires-3
 put-field-requires-3 c κs =
-    let z = sized (c .before .before .before .before .before .before .before .before .before .before .before .before .before .before .before .before .before .before .before .before .before .before .before .before .before .before) in
-    let k = later (c .before .before .before .before .before .before .before .before .before .before .before .before .before .before .before .before .before .before .before .before .before) in
-    (omega (arith, k .transitions), omega (arith, c .before .before .before .before .before .before .before .before .before .before .before .before .before .before .before .before .before .before .before .before .before .before .before .before .before .before .pre .0 .transitions, c .before .before .before .before .before .before .before .before .before .before .before .put-field .kept, c .before .before .before .before .before .put-field2 .kept), omega (arith, z .low))
+    let z = sized (c .before .before .before .before .before .before .before .before .before .before .before .before .before .before .before .before .before .before .before .before .before .before .before .before .before .before .before .before .before .before .before .before) in
+    let k = later (c .before .before .before .before .before .before .before .before .before .before .before .before .before .before .before .before .before .before .before .before .before .before .before .before .before .before .before) in
+    (omega (arith, k .transitions), omega (arith, c .before .before .before .before .before .before .before .before .before .before .before .before .before .before .before .before .before .before .before .before .before .before .before .before .before .before .before .before .before .before .before .before .pre .0 .transitions, c .before .before .before .before .before .before .before .before .before .before .before .put-field .kept, c .before .before .before .before .before .put-field2 .kept), omega (arith, z .low))
 
 put-field-requires-4 : tie.Need-put-field-requires-4
 put-field-requires-4 c κs =
-    let z = sized (c .before .before .before .before .before .before .before .before .before .before .before .before .before .before .before .before .before .before .before .before .before .before .before .before .before .before .before .before .before .before .before .before) in
-    let k = later (c .before .before .before .before .before .before .before .before .before .before .before .before .before .before .before .before .before .before .before .before .before .before .before .before .before .before .before) in
-    (omega (arith, k .transitions), omega (arith, c .before .before .before .before .before .before .before .before .before .before .before .before .before .before .before .before .before .before .before .before .before .before .before .before .before .before .before .before .before .before .before .before .pre .0 .transitions, c .before .before .before .before .before .before .before .before .before .before .before .before .before .before .before .before .before .put-field .kept, c .before .before .before .before .before .before .before .before .before .before .before .put-field2 .kept, c .before .before .before .before .before .put-field3 .kept), omega (arith, z .high))
+    let z = sized (c .before .before .before .before .before .before .before .before .before .before .before .before .before .before .before .before .before .before .before .before .before .before .before .before .before .before .before .before .before .before .before .before .before .before .before .before .before .before) in
+    let k = later (c .before .before .before .before .before .before .before .before .before .before .before .before .before .before .before .before .before .before .before .before .before .before .before .before .before .before .before .before .before .before .before .before .before) in
+    (omega (arith, k .transitions), omega (arith, c .before .before .before .before .before .before .before .before .before .before .before .before .before .before .before .before .before .before .before .before .before .before .before .before .before .before .before .before .before .before .before .before .before .before .before .before .before .before .pre .0 .transitions, c .before .before .before .before .before .before .before .before .before .before .before .before .before .before .before .before .before .put-field .kept, c .before .before .before .before .before .before .before .before .before .before .before .put-field2 .kept, c .before .before .before .before .before .put-field3 .kept), omega (arith, z .high))
 
 same-length : tie.Need-same-length
 same-length c = search needs
@@ -85,12 +91,12 @@ same-length-3 c = search needs
 
 returns-2 : tie.Need-returns-2
 returns-2 c =
-    let a = c .before .before .before .before .before .before .before .before .before .before .before .before .before .before .before .before .before .before .before .before .before .before .before .before .before .before .before .before .before .before .before .before .before .before .before .args in
+    let a = c .before .before .before .before .before .before .before .before .before .before .before .before .before .before .before .before .before .before .before .before .before .before .before .before .before .before .before .before .before .before .before .before .before .before .before .before .before .before .before .before .before .args in
     let p = a .t1 .plan in
     let P : List ℕ → ℕ → List ℕ → List ℕ = λ d at s. paste d at s (p .transitions) in
-    let e : a .t1 .answer ≡ Answer.Accepted = c .before .before .before .before .before .before .before .before .before .before .before .before .before .before .before .before .before .before .before .before .before .before .before .before .before .before .before .before .before .before .enum-told .given .1 in
-    let w = fronts-stored p (sized (c .before .before .before .before .before .before .before .before .before .before .before .before .before .before .before .before .before .before .before .before .before .before .before .before .before .before .before .before .before .before .before .before .before .before .before)) (a .counts .now) (a .marks .now) (a .fields .now) (c .before .before .before .before .before .before .before .before .before .before .before .before .before .before .before .before .before .before .before .before .before .before .before .before .before .before .before .before .before .before .before .before .before .before .before .pre .0) (later (c .before .before .before .before .before .before .before .before .before .before .before .before .before .before .before .before .before .before .before .before .before .before .before .before .before .before .before .before .before .before)) (c .before .before .before .before .before .before .before .before .before .before .before .before .before .before .before .before .before .before .before .before .before .before .before .before .before .before .put-marks .last .0) (c .before .before .put-field4 .last .0)
-    (c .before .before .before .before .before .before .before .before .before .before .before .before .before .before .before .before .before .before .before .before .before .before .before .before .before .before .put-marks .ensures)
+    let e : a .t1 .answer ≡ Answer.Accepted = c .before .before .before .before .before .before .before .before .before .before .before .before .before .before .before .before .before .before .before .before .before .before .before .before .before .before .before .before .before .before .before .before .before .before .before .before .enum-told .given .1 in
+    let w = fronts-stored p (sized (c .before .before .before .before .before .before .before .before .before .before .before .before .before .before .before .before .before .before .before .before .before .before .before .before .before .before .before .before .before .before .before .before .before .before .before .before .before .before .before .before .before)) (a .counts .now) (a .states .now) (a .fields .now) (c .before .before .before .before .before .before .before .before .before .before .before .before .before .before .before .before .before .before .before .before .before .before .before .before .before .before .before .before .before .before .before .before .before .before .before .before .before .before .before .before .before .pre .0) (later (c .before .before .before .before .before .before .before .before .before .before .before .before .before .before .before .before .before .before .before .before .before .before .before .before .before .before .before .before .before .before .before .before .before .before .before .before)) (c .before .before .before .before .before .before .before .before .before .before .before .before .before .before .before .before .before .before .before .before .before .before .before .before .before .before .put-states2 .last .0) (c .before .before .put-field4 .last .0)
+    (c .before .before .before .before .before .before .before .before .before .before .before .before .before .before .before .before .before .before .before .before .before .before .before .before .before .before .put-states2 .ensures ∙ ap (λ (d : List ℕ). paste d 512 (p .teams) (p .states)) (c .before .before .before .before .before .before .before .before .before .before .before .before .before .before .before .before .before .before .before .before .before .before .before .before .before .before .before .before .before .before .before .before .put-states .ensures))
     (c .before .before .put-field4 .ensures
     ∙ ap (λ (d : List ℕ). P d 6144 (p .high)) (c .before .before .before .before .before .before .before .before .put-field3 .ensures ∙ ap (λ (d : List ℕ). P d 4096 (p .low)) (c .before .before .before .before .before .before .before .before .before .before .before .before .before .before .put-field2 .ensures ∙ ap (λ (d : List ℕ). P d 2048 (p .to)) (c .before .before .before .before .before .before .before .before .before .before .before .before .before .before .before .before .before .before .before .before .put-field .ensures)))) in
     rw e (refl, w .0, w .1)
@@ -105,7 +111,8 @@ update-spec =
     enum-told
     slice-write-counts
     slice-write-counts-2
-    put-marks-requires
+    put-states-requires
+    put-states-requires-2
     put-field-requires
     put-field-requires-2
     put-field-requires-3

@@ -8,30 +8,24 @@ use Rattle.writing.proofs.state.Reads as reads
 use Rattle.writing.proofs.state.Lts as lts
 use Rattle.store.proofs.put_four.Reads as put-four-reads
 
--- src/writing.rt:36:16
-cast-t7 : tie.Need-cast-t7
-cast-t7 c = search needs
+cast-t8 : tie.Need-cast-t8
+cast-t8 c = search needs
 
--- src/writing.rt:37:17
-cast-t10 : tie.Need-cast-t10
-cast-t10 c = search needs
+cast-t11 : tie.Need-cast-t11
+cast-t11 c = search needs
 
--- src/writing.rt:38:16
-cast-t12 : tie.Need-cast-t12
-cast-t12 c = search needs
+cast-t13 : tie.Need-cast-t13
+cast-t13 c = search needs
 
--- src/writing.rt:41:5
 put-four-requires : tie.Need-put-four-requires
 unfolding AllFit
 put-four-requires c κs = ((record { most = omega arith; inside = omega arith; near = omega arith }, omega arith, omega arith), (omega arith, (omega arith, (omega arith, (omega arith, tt)))))
 
--- src/writing.rt:31:1
 same-length : tie.Need-same-length
 same-length c = search needs
 
--- src/writing.rt:31:1
 returns : tie.Need-returns
 returns c = search needs
 
 pub state-spec : {M : Type 1} → statement M
-state-spec = tie.close (tie.spec cast-t7 cast-t10 cast-t12 put-four-requires same-length returns)
+state-spec = tie.close (tie.spec cast-t8 cast-t11 cast-t13 put-four-requires same-length returns)

@@ -31,15 +31,15 @@ use Rattle.writing.proofs.transitions.Reads as transitions-reads
 
 -- the plan that the counts and arrays hold, and its counts
 graph : tie.Start → Graph
-graph c = graphOf (c .args .n) (c .args .m) (c .args .marks .now) (c .args .from .now) (c .args .to .now) (c .args .low .now) (c .args .high .now)
+graph c = graphOf (c .args .n) (c .args .m) (c .args .marks .now) (c .args .teams .now) (c .args .from .now) (c .args .to .now) (c .args .low .now) (c .args .high .now)
 
 states-here : (c : tie.Start) → states (graph c) ≡ c .args .n
 unfolding graph
-states-here c = states-of (c .args .n) (c .args .m) (c .args .marks .now) (c .args .from .now) (c .args .to .now) (c .args .low .now) (c .args .high .now)
+states-here c = states-of (c .args .n) (c .args .m) (c .args .marks .now) (c .args .teams .now) (c .args .from .now) (c .args .to .now) (c .args .low .now) (c .args .high .now)
 
 count-here : (c : tie.Start) → count (graph c) ≡ c .args .m
 unfolding graph
-count-here c = count-of (c .args .n) (c .args .m) (c .args .marks .now) (c .args .from .now) (c .args .to .now) (c .args .low .now) (c .args .high .now)
+count-here c = count-of (c .args .n) (c .args .m) (c .args .marks .now) (c .args .teams .now) (c .args .from .now) (c .args .to .now) (c .args .low .now) (c .args .high .now)
 
 in-limits-requires : tie.Need-in-limits-requires
 in-limits-requires c κs = search needs
@@ -78,7 +78,8 @@ header-requires : tie.Need-header-requires
 header-requires c κs = omega (arith, limits (c .before .before .before), states-here (c .before .before .before .before .before .before), count-here (c .before .before .before .before .before .before), room (c .before))
 
 states-requires : tie.Need-states-requires
-states-requires c κs = omega (arith, limits (c .before .before .before .before .before .before .before), states-here (c .before .before .before .before .before .before .before .before .before .before), count-here (c .before .before .before .before .before .before .before .before .before .before), room (c .before .before .before .before .before), c .before .before .before .header .kept .0)
+unfolding graph
+states-requires c κs = (omega (arith, limits (c .before .before .before .before .before .before .before), states-here (c .before .before .before .before .before .before .before .before .before .before), count-here (c .before .before .before .before .before .before .before .before .before .before), room (c .before .before .before .before .before), c .before .before .before .header .kept .0), limits (c .before .before .before .before .before .before .before) .each-state)
 
 transitions-requires : tie.Need-transitions-requires
 unfolding graph
@@ -103,12 +104,12 @@ returns-3 c =
     let m = a .m in
     let w = sound (c .before .before .before .before .before .before .before .before .before .before .before .before .before .before) in
     let k : ltb (length b) (imageLength n m) ≡ false = le-ltb (length b) (imageLength n m) (room (c .before .before .before .before .before .before .before .before .before .before .before .before)) in
-    let S = fieldsOfEach stateFields (statesOf n (a .marks .now)) in
+    let S = fieldsOfEach stateFields (statesOf n (a .marks .now) (a .teams .now)) in
     let T = fieldsOfEach transitionFields (transitionsOf m (a .from .now) (a .to .now) (a .low .now) (a .high .now)) in
-    let e : c .before .before .transitions .last .0 ≡ putAll (putAll (putAll b 0 (headerFields n m)) 32 S) (32 + 8 * n) T =
+    let e : c .before .before .transitions .last .0 ≡ putAll (putAll (putAll b 0 (headerFields 2 n m)) 32 S) (32 + 8 * n) T =
     c .before .before .transitions .ensures
     ∙ ap (λ (x : List ℕ). putAll x (32 + 8 * n) T) (c .before .before .before .before .before .before .states .ensures ∙ ap (λ (x : List ℕ). putAll x 32 S) (c .before .before .before .before .before .before .before .before .before .before .header .ensures)) in
-    let f = put-arrays n m (a .marks .now) (a .from .now) (a .to .now) (a .low .now) (a .high .now) b (λ i. c .before .before .before .before .before .before .before .before .before .before .before .before .before .before .before .before .slice-known .given i .fits) (room (c .before .before .before .before .before .before .before .before .before .before .before .before)) in
+    let f = put-arrays n m (a .marks .now) (a .teams .now) (a .from .now) (a .to .now) (a .low .now) (a .high .now) b (λ i. c .before .before .before .before .before .before .before .before .before .before .before .before .before .before .before .before .slice-known .given i .fits) (room (c .before .before .before .before .before .before .before .before .before .before .before .before)) in
     record { answer = rw (w, states-here s, count-here s, k) (ap accepted (c .before .before .before .before .before .before .before .before .before .before .before .before .before .size .ensures)); buffer = rw (w, states-here s, count-here s, k) (e ∙ f) }
 
 pub write-spec : {M : Type 1} → statement M

@@ -36,6 +36,7 @@ returns c =
     record {
       rule = rw e (sym (by-header os _ (sym (h .answer) ∙ ap said e)));
       marks = later-none 0 _ (omega arith);
+      later-teams = later-none 0 _ (omega arith);
       later = same 0 _ (omega arith) (omega arith) (omega arith) (omega arith);
       all = λ f. absurd (let z : _≡_ {A = ℕ} 0 1 = cc in omega arith);
       most = h .most;
@@ -53,22 +54,25 @@ head c =
 
 states-requires : tie.Need-states-requires
 states-requires c κs =
-    let h = head (c .before .before) in
-    omega (arith, h .states, h .transitions, header _ _ _ h, c .before .before .before .before .header .ensures .all (c .before .before .enum-told2 .given .1))
+    let h = head (c .before .before .before) in
+    let k = header _ _ _ h in
+    let e = c .before .before .before .enum-told2 .given .1 in
+    (omega (arith, h .states, k), omega (arith, h .states, k), omega (arith, h .states, k), omega (arith, h .states, h .transitions, k), c .before .before .before .before .before .header .ensures .all e, c .before .before .before .before .before .header .ensures .version e)
 
 enum-told-3 : tie.Need-enum-told-3
 enum-told-3 c = search needs
 
 returns-2 : tie.Need-returns-2
 returns-2 c =
-    let os = c .before .before .before .before .before .before .before .before .before .before .before .args .octets .now in
-    let h = head (c .before .before .before .before .before) in
+    let os = c .before .before .before .before .before .before .before .before .before .before .before .before .args .octets .now in
+    let h = head (c .before .before .before .before .before .before) in
     let k = header _ _ _ h in
     let s = c .before .before .states .ensures in
     let e = c .enum-told3 .given .1 in
     record {
       rule = rw e (sym (by-states os _ _ h _ (sym (s .answer) ∙ ap said e)));
       marks = s .later;
+      later-teams = s .later-teams;
       later = same _ _ (omega (arith, h .transitions, k)) (omega (arith, h .transitions, k)) (omega (arith, h .transitions, k)) (omega (arith, h .transitions, k));
       all = λ f. absurd (let z : _≡_ {A = ℕ} 0 1 = cc in omega arith);
       most = omega (arith, s .most, h .states, k);
@@ -78,25 +82,26 @@ enum-told-4 : tie.Need-enum-told-4
 enum-told-4 c = search needs
 
 -- no row of a state holds
-clear : (c : tie.After-enum-told4) → first (statesRows (c .before .before .before .before .before .before .before .before .before .before .before .args .octets .now) (c .before .before .before .before .before .before .before .header .result .states)) ≡ accepted tt
+clear : (c : tie.After-enum-told4) → first (statesRows (c .before .before .before .before .before .before .before .before .before .before .before .before .args .octets .now) (c .before .before .before .before .before .before .before .before .header .result .states)) ≡ accepted tt
 clear c = sym (c .before .before .states .ensures .answer) ∙ ap said (c .enum-told4 .given .1)
 
 transitions-requires : tie.Need-transitions-requires
 transitions-requires c κs =
-    let h = head (c .before .before .before .before .before .before .before .before .before) in
+    let h = head (c .before .before .before .before .before .before .before .before .before .before) in
     omega (arith, h .states, h .transitions, header _ _ _ h, c .before .before .before .before .before .before .states .ensures .all (c .before .before .before .before .enum-told4 .given .1))
 
 returns-3 : tie.Need-returns-3
 returns-3 c =
-    let os = c .before .before .before .before .before .before .before .before .before .before .before .before .before .before .before .before .args .octets .now in
-    let h = head (c .before .before .before .before .before .before .before .before .before .before) in
+    let os = c .before .before .before .before .before .before .before .before .before .before .before .before .before .before .before .before .before .args .octets .now in
+    let h = head (c .before .before .before .before .before .before .before .before .before .before .before) in
     let k = header _ _ _ h in
     let s = c .before .before .before .before .before .before .before .states .ensures in
     let t = c .transitions .ensures in
     let l = c .transitions .last in
     record {
-      rule = by-answer os _ _ h (clear (c .before .before .before .before .before)) (c .transitions .result) (c .before .before .before .before .before .before .before .states .last .1 .1 .1 .0) (l .1 .1 .1 .1 .0) (l .1 .1 .1 .1 .1 .0) (l .1 .1 .1 .1 .1 .1 .0) (l .1 .1 .1 .1 .1 .1 .1 .0) (t .answer) (s .states (c .before .before .before .before .before .enum-told4 .given .1)) (t .transitions);
+      rule = by-answer os _ _ h (clear (c .before .before .before .before .before)) (c .transitions .result) (c .before .before .before .before .before .before .before .states .last .1 .1 .1 .1 .0) (c .before .before .before .before .before .before .before .states .last .1 .1 .1 .1 .1 .0) (l .1 .1 .1 .1 .0) (l .1 .1 .1 .1 .1 .0) (l .1 .1 .1 .1 .1 .1 .0) (l .1 .1 .1 .1 .1 .1 .1 .0) (t .answer) (s .states (c .before .before .before .before .before .enum-told4 .given .1)) (t .transitions);
       marks = s .later;
+      later-teams = s .later-teams;
       later = t .later;
       all = λ f. omega (arith, t .all f, h .states, h .transitions, k);
       most = omega (arith, t .most, h .states, h .transitions, k);
