@@ -472,7 +472,8 @@ static void open_highs(void)
     CHECK(callplan_record(&plan, buffer, sizeof buffer, NULL) == CALLPLAN_ACCEPTED);
     CHECK(memcmp(buffer, open_record, sizeof open_record) == 0);
 
-    /* A second less is a number, and out of a final state an open high is of no account. A low of 2,047 is 2,047 seconds. */
+    /* A second less is a number, and out of a final state that is no start an open high is of no account. A low of 2,047 is 2,047
+     * seconds. */
     CHECK(callplan_unjoin(&plan, 1) == CALLPLAN_ACCEPTED);
     CHECK(callplan_join(&plan, 1, 2, 1, CALLPLAN_OPEN_HIGH - 1) == CALLPLAN_ACCEPTED);
     CHECK(callplan_join(&plan, 2, 0, 0, CALLPLAN_OPEN_HIGH) == CALLPLAN_ACCEPTED);
@@ -485,6 +486,61 @@ static void open_highs(void)
     CHECK(callplan_greatest_delay(&plan, &figure) == CALLPLAN_ACCEPTED);
     CHECK(is_figure(&figure, CALLPLAN_ENDLESS, 0, 2, 2) && figure.walk[1] == 2);
     CHECK(callplan_join(&plan, 1, 2, 0, CALLPLAN_OPEN_HIGH + 1) == CALLPLAN_REFUSED_DURATION);
+}
+
+/* Calls that begin answered: a route has at least one transition, and its first state may be final. */
+static void begun_answered(void)
+{
+    static const uint8_t p2_record[CALLPLAN_RECORD_OCTETS] = {0x40, 0x00, 0x02, 0x00, 0x00, 0x04, 0x00, 0x00, 0x20, 0x00, 0x00};
+    callplan_plan plan;
+    callplan_figure figure;
+    uint8_t buffer[CALLPLAN_RECORD_OCTETS];
+
+    /* P2: a final start without transitions is no route. */
+    CHECK(callplan_fresh(&plan, 1) == CALLPLAN_ACCEPTED);
+    CHECK(callplan_mark(&plan, 0, CALLPLAN_START + CALLPLAN_FINAL + CALLPLAN_COUNTED) == CALLPLAN_ACCEPTED);
+    CHECK(callplan_least_delay(&plan, &figure) == CALLPLAN_ACCEPTED && is_figure(&figure, CALLPLAN_NONE, 0, 0, 0));
+    CHECK(callplan_greatest_delay(&plan, &figure) == CALLPLAN_ACCEPTED && is_figure(&figure, CALLPLAN_STRANDED, 0, 0, 0));
+    CHECK(callplan_least_count(&plan, &figure) == CALLPLAN_ACCEPTED && is_figure(&figure, CALLPLAN_NONE, 0, 0, 0));
+    CHECK(callplan_greatest_count(&plan, &figure) == CALLPLAN_ACCEPTED && is_figure(&figure, CALLPLAN_STRANDED, 0, 0, 0));
+    CHECK(callplan_record(&plan, buffer, sizeof buffer, NULL) == CALLPLAN_ACCEPTED);
+    CHECK(memcmp(buffer, p2_record, sizeof p2_record) == 0);
+
+    /* With a transition to itself it is one, which ends where it began, and its state counts twice. */
+    CHECK(callplan_join(&plan, 0, 0, 3, 4) == CALLPLAN_ACCEPTED);
+    CHECK(callplan_least_delay(&plan, &figure) == CALLPLAN_ACCEPTED && is_figure(&figure, CALLPLAN_NUMBER, 3, 1, 0) && figure.walk[0] == 0);
+    CHECK(callplan_greatest_delay(&plan, &figure) == CALLPLAN_ACCEPTED && is_figure(&figure, CALLPLAN_NUMBER, 4, 1, 0));
+    CHECK(callplan_least_count(&plan, &figure) == CALLPLAN_ACCEPTED && is_figure(&figure, CALLPLAN_NUMBER, 2, 1, 0));
+    CHECK(callplan_greatest_count(&plan, &figure) == CALLPLAN_ACCEPTED && is_figure(&figure, CALLPLAN_NUMBER, 2, 1, 0));
+    CHECK(callplan_greatest_count_for(&plan, 0, &figure) == CALLPLAN_ACCEPTED && is_figure(&figure, CALLPLAN_NUMBER, 2, 1, 0));
+    CHECK(callplan_greatest_count_for(&plan, 1, &figure) == CALLPLAN_ACCEPTED && is_figure(&figure, CALLPLAN_NUMBER, 0, 1, 0));
+    CHECK(callplan_join(&plan, 0, 0, 3, CALLPLAN_OPEN_HIGH) == CALLPLAN_ACCEPTED);
+    CHECK(callplan_greatest_delay(&plan, &figure) == CALLPLAN_ACCEPTED && is_figure(&figure, CALLPLAN_ENDLESS, 0, 1, 1) && figure.walk[0] == 1);
+
+    /* From a final start to a dead end, which then becomes a loop. */
+    CHECK(callplan_fresh(&plan, 2) == CALLPLAN_ACCEPTED);
+    CHECK(callplan_mark(&plan, 0, CALLPLAN_START + CALLPLAN_FINAL) == CALLPLAN_ACCEPTED);
+    CHECK(callplan_join(&plan, 0, 1, 1, 1) == CALLPLAN_ACCEPTED);
+    CHECK(callplan_greatest_count(&plan, &figure) == CALLPLAN_ACCEPTED && is_figure(&figure, CALLPLAN_STRANDED, 0, 1, 0) && figure.walk[0] == 0);
+    CHECK(callplan_join(&plan, 1, 1, 1, 1) == CALLPLAN_ACCEPTED);
+    CHECK(callplan_least_count(&plan, &figure) == CALLPLAN_ACCEPTED && is_figure(&figure, CALLPLAN_NONE, 0, 0, 0));
+    CHECK(callplan_greatest_count(&plan, &figure) == CALLPLAN_ACCEPTED && is_figure(&figure, CALLPLAN_ENDLESS, 0, 2, 1) && figure.walk[1] == 1);
+
+    /* The ring of 512 states: the greatest figures that there are, and 512 transitions in 512 places. */
+    CHECK(callplan_fresh(&plan, CALLPLAN_MAX_STATES) == CALLPLAN_ACCEPTED);
+    for (size_t state = 0; state < CALLPLAN_MAX_STATES; state++) {
+        const uint32_t marks = state == 0 ? CALLPLAN_START + CALLPLAN_FINAL + CALLPLAN_COUNTED : CALLPLAN_COUNTED;
+        if (callplan_mark(&plan, state, marks) != CALLPLAN_ACCEPTED ||
+            callplan_join(&plan, state, (state + 1) % CALLPLAN_MAX_STATES, 2047, 2047) != CALLPLAN_ACCEPTED) {
+            CHECK(!"marked and joined");
+        }
+    }
+    CHECK(callplan_least_delay(&plan, &figure) == CALLPLAN_ACCEPTED && is_figure(&figure, CALLPLAN_NUMBER, 1048064, 512, 0));
+    CHECK(figure.walk[0] == 0 && figure.walk[511] == 511);
+    CHECK(callplan_least_count(&plan, &figure) == CALLPLAN_ACCEPTED && is_figure(&figure, CALLPLAN_NUMBER, 513, 512, 0));
+    CHECK(callplan_greatest_count(&plan, &figure) == CALLPLAN_ACCEPTED && is_figure(&figure, CALLPLAN_NUMBER, 513, 512, 0));
+    CHECK(callplan_greatest_delay(&plan, &figure) == CALLPLAN_ACCEPTED && figure.kind == CALLPLAN_ENDLESS && figure.j == figure.k);
+    CHECK(callplan_record(&plan, buffer, sizeof buffer, NULL) == CALLPLAN_ACCEPTED);
 }
 
 static void quotations_of_an_image(void)
@@ -739,6 +795,7 @@ int main(void)
     quotations();
     counts_for_a_class();
     open_highs();
+    begun_answered();
     quotations_of_an_image();
     broken_plan();
     short_slices();

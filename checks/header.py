@@ -190,6 +190,9 @@ def comparisons(t):
     bounds = re.findall(r"(?m)^most \w+ = (\d+)$", t["figure"])
     said = re.findall(r"seconds, at most ([\d,]+) for the least delay and ([\d,]+) for the greatest, or counted states, at most (\d+);", t["header"])
     yield "include/callplan.h: the bounds of a number", bounds, [x.replace(",", "") for least, greatest, count in said for x in (least, greatest, count, count)]
+    words = re.sub(r"\s*///\s*", " ", t["crate"])
+    said = re.findall(r"Seconds, at most ([\d,]+) for the least delay and ([\d,]+) for the greatest, or counted states, at most (\d+)\.", words)
+    yield "rust/callplan: the bounds of a number", bounds, [x.replace(",", "") for least, greatest, count in said for x in (least, greatest, count, count)]
     declared = between(t["header"], "typedef enum callplan_kind {", "} callplan_kind;")
     yield "include/callplan.h: the kinds", kinds, numbers(declared, r"CALLPLAN_(\w+) = (\d)")
 
@@ -298,7 +301,8 @@ DAMAGES = [
     ("graph", "finalBit v = v / 2", "finalBit v = v / 4"),
     ("graph", "countedBit v = v % 2", "countedBit v = v / 8 % 2"),
     ("figure", "kind STRANDED = 2", "kind STRANDED = 3"),
-    ("figure", "most GreatestDelay = 1045506", "most GreatestDelay = 1046017"),
+    ("figure", "most GreatestDelay = 1047552", "most GreatestDelay = 1048064"),
+    ("figure", "most LeastCount = 513", "most LeastCount = 512"),
     ("route", "eqb high 2047", "eqb high 2046"),
     ("header", "uint32_t callplan_lent_read(", "uint64_t callplan_lent_read("),
     ("header", "uint32_t callplan_lent_write(const size_t *counts", "uint32_t callplan_lent_write(size_t *counts"),
@@ -333,7 +337,9 @@ DAMAGES = [
     ("header", "CALLPLAN_MAX_TRANSITIONS 2048", "CALLPLAN_MAX_TRANSITIONS 2047"),
     ("header", "CALLPLAN_MAX_DURATION 2047", "CALLPLAN_MAX_DURATION 2048"),
     ("header", "CALLPLAN_OPEN_HIGH 2047", "CALLPLAN_OPEN_HIGH 2046"),
-    ("header", "1,046,017 for the least", "1,045,506 for the least"),
+    ("header", "1,048,064 for the least", "1,047,552 for the least"),
+    ("header", "counted states, at most 513", "counted states, at most 512"),
+    ("crate", "1,047,552 for the greatest", "1,048,064 for the greatest"),
     ("header", "CALLPLAN_MAX_IMAGE_OCTETS 10756", "CALLPLAN_MAX_IMAGE_OCTETS 10755"),
     ("header", "CALLPLAN_MAX_TEXT_OCTETS 51221", "CALLPLAN_MAX_TEXT_OCTETS 51220"),
     ("header", "CALLPLAN_RECORD_OCTETS 11", "CALLPLAN_RECORD_OCTETS 16"),
@@ -372,16 +378,16 @@ DAMAGES = [
     ("header", 'return "the marks value is above 7"', 'return "the marks value is above 8"'),
     ("header", "a transition's to is not below the state count\"", "a transition's from is not below the state count\""),
     ("header", '    case CALLPLAN_ACCEPTED: return "accepted";\n', ""),
-    ("header", "CALLPLAN_VERSION_NUMBER 6", "CALLPLAN_VERSION_NUMBER 7"),
-    ("binding", "r ≡ 600 ⌝", "r ≡ 601 ⌝"),
-    ("crate", "VERSION_NUMBER: u32 = 6", "VERSION_NUMBER: u32 = 7"),
+    ("header", "CALLPLAN_VERSION_NUMBER 7", "CALLPLAN_VERSION_NUMBER 8"),
+    ("binding", "r ≡ 700 ⌝", "r ≡ 701 ⌝"),
+    ("crate", "VERSION_NUMBER: u32 = 7", "VERSION_NUMBER: u32 = 8"),
     ("launch", "version=0", "version=1"),
     ("page", '"callplan 0', '"callplan 1'),
     ("import page", '"callplan 0', '"callplan 1'),
     ("rules page", "| 16 | join", "| 18 | join"),
     ("rules page", "| 18 | team", "| 19 | team"),
     ("rules page", "| 1 to 9 | wards |", "| 1 to 10 | wards |"),
-    ("changes", "## 0.6", "## 0.7"),
+    ("changes", "## 0.7", "## 0.8"),
     ("proved", "value: u32,\n    ) -> u32", "value: u32,\n    ) -> u16"),
     ("proved", "walk_len: usize", "length: usize"),
     ("proved", "STATES: usize = 2 * MAX_STATES", "STATES: usize = MAX_STATES"),

@@ -49,8 +49,8 @@
 extern "C" {
 #endif
 
-#define CALLPLAN_VERSION "0.6.0"
-#define CALLPLAN_VERSION_NUMBER 600 /* 10,000 times the first number, 100 times the second, and the third */
+#define CALLPLAN_VERSION "0.7.0"
+#define CALLPLAN_VERSION_NUMBER 700 /* 10,000 times the first number, 100 times the second, and the third */
 
 #define CALLPLAN_MAX_STATES 512
 #define CALLPLAN_MAX_TRANSITIONS 2048
@@ -125,16 +125,17 @@ typedef struct callplan_transition {
 typedef enum callplan_kind {
     CALLPLAN_NUMBER = 0,
     CALLPLAN_NONE = 1,     /* a least figure of a plan without routes, or a greatest one of a plan without a start */
-    CALLPLAN_STRANDED = 2, /* a call can end unanswered, in a state that nothing leaves */
+    CALLPLAN_STRANDED = 2, /* a call can end unanswered, in a state that nothing leaves: an unfinished one, or a start, final or not */
     CALLPLAN_ENDLESS = 3   /* a call can go on forever unanswered; for the greatest delay also by a transition with an open high */
 } callplan_kind;
 
 /* A figure, and the walk that shows it: the transition numbers walk[0] to walk[k - 1]. */
 typedef struct callplan_figure {
     callplan_kind kind;
-    uint32_t value; /* seconds, at most 1,046,017 for the least delay and 1,045,506 for the greatest, or counted states, at most 512;
+    uint32_t value; /* seconds, at most 1,048,064 for the least delay and 1,047,552 for the greatest, or counted states, at most 513;
                        0 unless kind is CALLPLAN_NUMBER */
-    size_t k;       /* at most 512. 0 beside a number or CALLPLAN_STRANDED: the walk is a start alone */
+    size_t k;       /* at most the plan's states, so at most 512. At least 1 beside a number; 0 beside CALLPLAN_STRANDED: the walk is a
+                       start alone, which nothing leaves */
     size_t j;       /* CALLPLAN_ENDLESS: either j is below k, and the state after k transitions is the state after j; or, of the
                        greatest delay alone, j is k, and the last transition has an open high. Otherwise 0 */
     uint16_t walk[CALLPLAN_MAX_STATES];
@@ -404,6 +405,12 @@ CALLPLAN_ANSWERS callplan_export(const callplan_plan *plan, uint8_t *buffer, siz
 
 /* ---- Quotations.
  *
+ * A route begins at a start and takes at least one transition, the last to a final state. Its first state may be final too, as of a desk
+ * that puts a caller back into the plan, and no state between its first and its last is. So a route may end where it began, and that
+ * state then counts twice; otherwise the states of a route that is shown differ. A walk that shows CALLPLAN_STRANDED or CALLPLAN_ENDLESS
+ * may begin at a final start as well, and the states after it are unfinished, but for the one that an open transition at its end leads
+ * to. A start that nothing leaves is CALLPLAN_STRANDED, final or not.
+ *
  * Each puts a figure of *plan, with a walk that shows it, into *figure; places of walk from k on stay. Which of several such walks
  * is shown is left free.
  * Refused: PLAN_LIMITS. */
@@ -459,8 +466,8 @@ CALLPLAN_ANSWERS callplan_least_delay(const callplan_plan *plan, callplan_figure
 
 /* The greatest delay: the first that applies of CALLPLAN_NONE, CALLPLAN_ENDLESS and CALLPLAN_STRANDED, and otherwise the largest
  * sum of highs over all routes. It is CALLPLAN_ENDLESS also where a walk of unfinished states from a start can take a transition with an
- * open high. Such a walk is shown with j at k: it ends with that transition, which may lead anywhere, and the states that it leaves
- * differ. Where there is a loop too, either may be shown. */
+ * open high, which may leave a final start too. Such a walk is shown with j at k: it ends with that transition, which may lead anywhere,
+ * and the states that it leaves differ. Where there is a loop too, either may be shown. */
 CALLPLAN_ANSWERS callplan_greatest_delay(const callplan_plan *plan, callplan_figure *figure)
 {
     return callplan_private_quotation(callplan_lent_greatest_delay, plan, figure);

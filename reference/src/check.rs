@@ -1,5 +1,5 @@
-//! Whether a shown walk is one that document 01 asks for ("Routes and figures"), and E2 and E4 of
-//! document 02.
+//! Whether a shown walk is one that document 01 asks for ("Routes and figures"), and E2, E4 and E5
+//! of document 02.
 //!
 //! The checker takes the value as said and looks at the walk alone. Whether the value is right is
 //! for the calculators to say.
@@ -25,9 +25,12 @@ pub enum Fault {
     NoStart,
     /// A transition departs elsewhere than the one before arrived.
     Break,
+    /// A number without a transition.
+    Alone,
     /// A state is visited twice where none may be.
     Twice,
-    /// A final state is on the walk before its last state, or as the last of an unfinished one.
+    /// A final state is on the walk between its first and its last state, or as the last of an
+    /// unfinished one.
     Finished,
     /// The last state of a route is not final.
     Unanswered,
@@ -56,9 +59,12 @@ pub fn check(plan: &Plan, asked: impl Into<Asked>, shown: &Quotation) -> Result<
     )?;
     match shown.value {
         Value::None => require(k == 0, Fault::WalkOfNone),
-        Value::Number(number) => from_some_start(plan, shown, |states| {
-            is_route(plan, asked, shown, states, number)
-        }),
+        Value::Number(number) => {
+            require(k > 0, Fault::Alone)?;
+            from_some_start(plan, shown, |states| {
+                is_route(plan, asked, shown, states, number)
+            })
+        }
         Value::Stranded => {
             require(!figure.is_least(), Fault::Kind)?;
             from_some_start(plan, shown, |states| is_stranded(plan, states))
@@ -96,7 +102,8 @@ fn from_some_start(
     is_as_asked(&states)
 }
 
-/// "a route that attains the figure and visits no state twice"
+/// "a route that attains the figure and visits no state twice" (01), but "A shown route may end where
+/// it began" (E5). "Its first state may be final, and no state between its first and last may be."
 fn is_route(
     plan: &Plan,
     asked: Asked,
@@ -104,10 +111,11 @@ fn is_route(
     states: &[usize],
     number: u32,
 ) -> Result<(), Fault> {
-    let (&last, earlier) = states.split_last().expect("a walk has a state");
-    require(all_unfinished(plan, earlier), Fault::Finished)?;
-    require(plan.is_final(last), Fault::Unanswered)?;
-    require(all_differ(states), Fault::Twice)?;
+    let k = shown.walk.len();
+    require(all_unfinished(plan, &states[1..k]), Fault::Finished)?;
+    require(plan.is_final(states[k]), Fault::Unanswered)?;
+    let differ = all_differ(&states[..k]) && all_differ(&states[1..]);
+    require(differ, Fault::Twice)?;
     let steps = shown.walk.iter().map(|&number| plan.transitions[number]);
     let attained = match asked.figure {
         Figure::LeastDelay => Some(steps.map(|step| step.low).sum()),
@@ -126,9 +134,10 @@ fn is_route(
     require(attained == Some(number), Fault::OtherNumber)
 }
 
-/// "an unfinished walk to a dead end, no state twice"
+/// "an unfinished walk to a dead end, no state twice", which "may begin at a final start"; "and a start
+/// without transitions is a dead end" (E5)
 fn is_stranded(plan: &Plan, states: &[usize]) -> Result<(), Fault> {
-    require(all_unfinished(plan, states), Fault::Finished)?;
+    require(all_unfinished(plan, &states[1..]), Fault::Finished)?;
     require(all_differ(states), Fault::Twice)?;
     let last = states[states.len() - 1];
     let left = plan.transitions.iter().any(|step| step.from == last);
@@ -136,20 +145,21 @@ fn is_stranded(plan: &Plan, states: &[usize]) -> Result<(), Fault> {
 }
 
 /// "an unfinished walk and a place j below k, where the state after k transitions is the state
-/// after j, and the first k states differ"
+/// after j, and the first k states differ" (01). It too "may begin at a final start" (E5), which it does
+/// not come back to: a loop is of unfinished states.
 fn is_loop(plan: &Plan, states: &[usize], j: usize) -> Result<(), Fault> {
     let k = states.len() - 1;
-    require(all_unfinished(plan, states), Fault::Finished)?;
+    require(all_unfinished(plan, &states[1..]), Fault::Finished)?;
     require(j < k && states[k] == states[j], Fault::NoReturn)?;
     require(all_differ(&states[..k]), Fault::Twice)
 }
 
 /// "A walk shown for that ends with the transition, j equals k, and its first k states still
-/// differ." (E2) The transition leaves an unfinished state and may lead to any; the counts "pay no
-/// heed to it".
+/// differ." (E2) The transition leaves an unfinished state, or a final start (E5), and may lead to any;
+/// the counts "pay no heed to it".
 fn is_open(plan: &Plan, figure: Figure, shown: &Quotation, states: &[usize]) -> Result<(), Fault> {
     let k = shown.walk.len();
-    require(all_unfinished(plan, &states[..k]), Fault::Finished)?;
+    require(all_unfinished(plan, &states[1..k]), Fault::Finished)?;
     require(all_differ(&states[..k]), Fault::Twice)?;
     let last = plan.transitions[shown.walk[k - 1]];
     let is_open = figure == Figure::GreatestDelay && last.longest() == Duration::Open;
@@ -180,8 +190,8 @@ mod tests {
     use crate::plan::{Transition, MAX_CLOSED_HIGH, OPEN_HIGH};
     use Figure::{GreatestCount, GreatestDelay, LeastCount, LeastDelay};
 
-    /// State 0 and the final state 6 are starts, state 3 is final, 4 and 7 are dead ends, 7 a
-    /// start; 2 and 3 are counted.
+    /// State 0 is a start, and so are 6, which is final, and 7, both without transitions. State 3 is
+    /// final, 4 a dead end; 2 and 3 are counted.
     fn plan() -> Plan {
         let ends = [
             (0, 1), // 0
@@ -224,13 +234,11 @@ mod tests {
                 verdict(figure, Value::Number(number), &[0, 1, 2], 0),
                 Ok(())
             );
-            // State 6 alone, a start that is final.
-            assert_eq!(verdict(figure, Value::Number(0), &[], 0), Ok(()));
             assert_eq!(verdict(figure, Value::None, &[], 0), Ok(()));
         }
         for figure in [GreatestDelay, GreatestCount] {
             assert_eq!(verdict(figure, Value::Stranded, &[0, 4], 0), Ok(()));
-            // State 7 alone, a start that is a dead end.
+            // State 6 or 7 alone, a start without transitions.
             assert_eq!(verdict(figure, Value::Stranded, &[], 0), Ok(()));
             assert_eq!(verdict(figure, Value::Endless, &[0, 6], 1), Ok(()));
             assert_eq!(verdict(figure, Value::Endless, &[0, 1, 3], 1), Ok(()));
@@ -366,10 +374,9 @@ mod tests {
                 assert_eq!(verdict(number, &[0, 1, 2]), Ok(()), "{team}");
                 let other = verdict(number + 1, &[0, 1, 2]);
                 assert_eq!(other, Err(Fault::OtherNumber), "{team}");
-                // State 6 alone.
+                // State 6 alone is no route.
                 let alone = u32::from(team == 20);
-                assert_eq!(verdict(alone, &[]), Ok(()), "{team}");
-                assert_eq!(verdict(1 - alone, &[]), Err(Fault::NoStart), "{team}");
+                assert_eq!(verdict(alone, &[]), Err(Fault::Alone), "{team}");
             }
         }
         // The walks of the other kinds are those of any count.
@@ -435,7 +442,8 @@ mod tests {
             (6, &[0, 1, 2], Fault::OtherNumber),
             (8, &[0, 1, 2], Fault::OtherNumber),
             (14, &[0, 1, 2], Fault::OtherNumber),
-            (1, &[], Fault::NoStart),
+            (0, &[], Fault::Alone),
+            (1, &[], Fault::Alone),
         ] {
             let found = verdict(LeastDelay, Value::Number(number), walk, 0);
             assert_eq!(found, Err(fault), "{number} {walk:?}");
@@ -464,11 +472,20 @@ mod tests {
             let found = verdict(GreatestCount, Value::Stranded, walk, 0);
             assert_eq!(found, Err(fault), "{walk:?}");
         }
-        // No transitions, and no start that is a dead end: 7 is no start now, 4 never was one.
-        let mut plan = plan();
-        plan.states[7].marks = 0;
-        let shown = Quotation::new(Value::Stranded, Vec::new());
-        assert_eq!(check(&plan, GreatestDelay, &shown), Err(Fault::NoStart));
+        // No transitions: a start that is final or one that is not; and where 6 and 7 are no starts, none
+        // is without transitions, as 4 never was a start.
+        for (marks, expected) in [
+            ([6, 0], Ok(())),
+            ([2, 4], Ok(())),
+            ([2, 0], Err(Fault::NoStart)),
+        ] {
+            let mut plan = plan();
+            for (state, marks) in [6, 7].into_iter().zip(marks) {
+                plan.states[state].marks = marks;
+            }
+            let shown = Quotation::new(Value::Stranded, Vec::new());
+            assert_eq!(check(&plan, GreatestDelay, &shown), expected);
+        }
     }
 
     #[test]
@@ -492,6 +509,138 @@ mod tests {
         ] {
             let found = verdict(GreatestDelay, Value::Endless, walk, j);
             assert_eq!(found, Err(fault), "{walk:?} @{j}");
+        }
+    }
+
+    /// Calls that begin answered (E5): state 0 is start, final and counted, state 3 final and counted,
+    /// 4 a dead end, and 5 a start.
+    fn answered() -> Plan {
+        let ends = [
+            (0, 0), // 0
+            (0, 1), // 1
+            (1, 2), // 2
+            (2, 0), // 3, back to the start
+            (2, 3), // 4, to another answer
+            (2, 1), // 5, back on the walk
+            (1, 4), // 6, to a dead end
+            (0, 3), // 7
+            (3, 1), // 8, on from a final state that is no start
+            (5, 0), // 9, to the final start
+        ];
+        let steps = ends
+            .iter()
+            .zip(0..)
+            .map(|(&(from, to), number)| Transition {
+                from,
+                to,
+                low: 1 << number,
+                high: 2 << number,
+            });
+        Plan::of(vec![7, 0, 1, 3, 0, 4], steps.collect())
+    }
+
+    fn answered_verdict(
+        figure: Figure,
+        value: Value,
+        walk: &[usize],
+        j: usize,
+    ) -> Result<(), Fault> {
+        let walk = walk.to_vec();
+        check(&answered(), figure, &Quotation { value, walk, j })
+    }
+
+    #[test]
+    fn walks_that_begin_answered() {
+        // Round itself, round two unfinished states, to another answer at once and later: the first state
+        // counts, and the last one too where it is the first.
+        for (walk, low, count) in [
+            (&[0][..], 1, 2),
+            (&[1, 2, 3], 2 + 4 + 8, 3),
+            (&[7], 128, 2),
+            (&[1, 2, 4], 2 + 4 + 16, 3),
+            (&[9], 512, 1),
+        ] {
+            for (figure, number) in [
+                (LeastDelay, low),
+                (GreatestDelay, 2 * low),
+                (LeastCount, count),
+                (GreatestCount, count),
+            ] {
+                let verdict = |number| answered_verdict(figure, Value::Number(number), walk, 0);
+                assert_eq!(verdict(number), Ok(()), "{walk:?}");
+                for other in [number - 1, number + 1] {
+                    assert_eq!(verdict(other), Err(Fault::OtherNumber), "{walk:?}");
+                }
+            }
+        }
+        for figure in [GreatestDelay, GreatestCount] {
+            let verdict = |value, walk: &[usize], j| answered_verdict(figure, value, walk, j);
+            assert_eq!(verdict(Value::Stranded, &[1, 6], 0), Ok(()));
+            assert_eq!(verdict(Value::Endless, &[1, 2, 5], 1), Ok(()));
+        }
+    }
+
+    #[test]
+    fn wrong_walks_that_begin_answered() {
+        // Routes through a final state: the start itself, and another one.
+        for (walk, number) in [
+            (&[0, 0][..], 2),
+            (&[0, 7], 129),
+            (&[9, 0], 513),
+            (&[1, 2, 3, 7], 142),
+            (&[7, 8, 2, 3], 396),
+        ] {
+            let found = answered_verdict(LeastDelay, Value::Number(number), walk, 0);
+            assert_eq!(found, Err(Fault::Finished), "{walk:?}");
+        }
+        for (value, walk, j, fault) in [
+            (Value::Number(0), &[][..], 0, Fault::Alone),
+            // An unfinished state twice, a route that ends at none, and one from a state that is no start.
+            (Value::Number(46), &[1, 2, 5, 2, 3], 0, Fault::Twice),
+            (Value::Number(6), &[1, 2], 0, Fault::Unanswered),
+            (Value::Number(256 + 4 + 8), &[8, 2, 3], 0, Fault::NoStart),
+            // Every start has a transition.
+            (Value::Stranded, &[], 0, Fault::NoStart),
+            (Value::Stranded, &[0, 1, 6], 0, Fault::Finished),
+            (Value::Stranded, &[9, 1, 6], 0, Fault::Finished),
+            (Value::Stranded, &[7], 0, Fault::Finished),
+            (Value::Stranded, &[0], 0, Fault::Finished),
+            (Value::Stranded, &[1, 2, 5, 6], 0, Fault::Twice),
+            // A walk back to the final start is a route, and no loop.
+            (Value::Endless, &[0], 0, Fault::Finished),
+            (Value::Endless, &[1, 2, 3], 0, Fault::Finished),
+            (Value::Endless, &[9, 0], 1, Fault::Finished),
+            (Value::Endless, &[1, 2, 5], 0, Fault::NoReturn),
+            (Value::Endless, &[9, 1, 2, 5], 2, Fault::Finished),
+        ] {
+            let found = answered_verdict(GreatestDelay, value, walk, j);
+            assert_eq!(found, Err(fault), "{value:?} {walk:?} @{j}");
+        }
+    }
+
+    #[test]
+    fn open_walks_that_begin_answered() {
+        let verdict = |open: &[usize], walk: &[usize]| {
+            let mut plan = answered();
+            for &number in open {
+                plan.transitions[number].high = OPEN_HIGH;
+            }
+            check(&plan, GreatestDelay, &Quotation::of_open(walk.to_vec()))
+        };
+        // Out of the final start at once, to itself, to an unfinished state and to an answer; and later.
+        for walk in [&[0][..], &[1], &[7], &[1, 2], &[1, 2, 3], &[1, 6], &[9]] {
+            let last = walk[walk.len() - 1];
+            assert_eq!(verdict(&[last], walk), Ok(()), "{walk:?}");
+            assert_eq!(verdict(&[], walk), Err(Fault::NotOpen), "{walk:?}");
+        }
+        for (open, walk, fault) in [
+            (8, &[7, 8][..], Fault::Finished),
+            (1, &[9, 1], Fault::Finished),
+            (0, &[0, 0], Fault::Finished),
+            (6, &[1, 2, 5, 6], Fault::Twice),
+            (8, &[8], Fault::NoStart),
+        ] {
+            assert_eq!(verdict(&[open], walk), Err(fault), "{walk:?}");
         }
     }
 }

@@ -80,7 +80,8 @@ impl Asked {
         Cost::Number(u32::from(self.counts(plan, state)))
     }
 
-    /// What a walk costs that begins at a state.
+    /// What a walk costs that begins at a state. One that it arrives at in the end as well "counts twice
+    /// if counted" (document 02, E5): here, and with the transition that leads there.
     pub(crate) fn first_cost(self, plan: &Plan, state: usize) -> Cost {
         match self.figure {
             Figure::LeastDelay | Figure::GreatestDelay => Cost::Number(0),
@@ -158,6 +159,11 @@ pub struct Quotation {
     /// Of ENDLESS: below k the place to which the walk comes back, and k where its last transition
     /// is open. Else 0.
     pub j: usize,
+}
+
+/// The values of the four figures.
+pub fn values(quotations: &[Quotation; 4]) -> [Value; 4] {
+    quotations.each_ref().map(|quotation| quotation.value)
 }
 
 impl Quotation {

@@ -22,7 +22,7 @@ pub mod rounds;
 pub mod text;
 pub mod walks;
 
-pub use figure::{Asked, Figure, Quotation, Value, FIGURES};
+pub use figure::{values, Asked, Figure, Quotation, Value, FIGURES};
 pub use plan::{
     Duration, Plan, State, Transition, MAX_CLOSED_HIGH, MAX_DURATION, MAX_MARKS, MAX_STATES,
     MAX_TEAM, MAX_TRANSITIONS, OPEN_HIGH,

@@ -121,9 +121,9 @@ impl Plan {
         self.states[state].marks % 2 == 1
     }
 
-    /// Whether the state is unfinished and no transition leaves it.
-    pub fn is_dead_end(&self, state: usize) -> bool {
-        !self.is_final(state) && self.transitions.iter().all(|step| step.from != state)
+    /// Whether some transition leaves the state.
+    pub fn is_left(&self, state: usize) -> bool {
+        self.transitions.iter().any(|step| step.from == state)
     }
 
     /// Whether the plan keeps every limit.

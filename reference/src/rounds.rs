@@ -3,6 +3,9 @@
 //! Round r finds, for each state, the best walk of just r transitions that ends there, from the
 //! walks of the round before and all transitions. These are Bellman and Ford's rounds, kept
 //! apart by length. As many rounds as there are states are enough, for the reasons in `walks`.
+//! "Its first state may be final" (document 02, E5): round 1 leaves every start, and each later
+//! round the unfinished states alone. So what it costs to arrive at a final state and what it costs
+//! to begin there stand in different rounds.
 //! An endless cost is the best of a greatest delay, so the rounds carry a walk that takes an open
 //! transition on as they do any other.
 
@@ -24,7 +27,8 @@ struct Rounds<'a> {
 }
 
 impl Rounds<'_> {
-    /// Rounds 0 to n, or up to the first with no walk. No walk goes on from a final state.
+    /// Rounds 0 to n, or up to the first with no walk. No walk goes on from a final state but from
+    /// its first.
     fn new(plan: &Plan, asked: Asked) -> Rounds<'_> {
         let figure = asked.figure;
         let n = plan.states.len();
@@ -39,13 +43,14 @@ impl Rounds<'_> {
         };
         let mut ends: Vec<Vec<Option<End>>> = vec![(0..n).map(first).collect()];
         while ends.len() <= n && ends[ends.len() - 1].iter().any(Option::is_some) {
+            let is_first_step = ends.len() == 1;
             let before = &ends[ends.len() - 1];
             let mut after: Vec<Option<End>> = vec![None; n];
             for (number, transition) in plan.transitions.iter().enumerate() {
                 let Some(end) = before[transition.from] else {
                     continue;
                 };
-                if plan.is_final(transition.from) {
+                if plan.is_final(transition.from) && !is_first_step {
                     continue;
                 }
                 let cost = end.cost + costs[number];
@@ -86,10 +91,12 @@ impl Rounds<'_> {
         (state, walk)
     }
 
-    /// The best cost over the routes of all rounds.
+    /// The best cost over the routes of all rounds. Round 0 has none: "a route has at least one
+    /// transition" (E5).
     fn best(&self, figure: Figure) -> Option<Cost> {
         let finals = (0..self.plan.states.len()).filter(|&state| self.plan.is_final(state));
-        let ends = finals.flat_map(|state| self.ends.iter().filter_map(move |row| row[state]));
+        let rounds = &self.ends[1..];
+        let ends = finals.flat_map(|state| rounds.iter().filter_map(move |row| row[state]));
         let costs = ends.map(|end| end.cost);
         if figure.is_least() {
             costs.min()
@@ -121,8 +128,11 @@ pub fn quote(plan: &Plan, asked: impl Into<Asked>) -> Quotation {
         if let Some((round, state)) = open {
             return Quotation::of_open(rounds.walk(round, state).1);
         }
-        let dead_ends: Vec<bool> = (0..n).map(|state| plan.is_dead_end(state)).collect();
-        if let Some((round, state)) = rounds.find(|_, state| dead_ends[state]) {
+        // "a start without transitions is a dead end" (E5), final or not; later ones are unfinished.
+        let is_left: Vec<bool> = (0..n).map(|state| plan.is_left(state)).collect();
+        let stranded =
+            rounds.find(|round, state| !is_left[state] && (round == 0 || !plan.is_final(state)));
+        if let Some((round, state)) = stranded {
             return Quotation::new(Value::Stranded, rounds.walk(round, state).1);
         }
     }
@@ -131,9 +141,10 @@ pub fn quote(plan: &Plan, asked: impl Into<Asked>) -> Quotation {
         Some(Cost::Endless) => panic!("no walk of the rounds takes an open transition"),
         None => return Quotation::none(),
     };
-    // The first round that attains it: the fewest transitions, so no state is on the route twice.
+    // The first round that attains it: the fewest transitions, so no unfinished state is on the route
+    // twice. A final one is, where it is the first and the last.
     let attains = |round: usize, state: usize| {
-        plan.is_final(state) && costs(round, state, Cost::Number(number))
+        round > 0 && plan.is_final(state) && costs(round, state, Cost::Number(number))
     };
     let (round, state) = rounds.find(attains).expect("some route attains the best");
     Quotation::new(Value::Number(number), rounds.walk(round, state).1)

@@ -66,8 +66,9 @@ mod tests {
                 &[0, 1, 3][..],
                 0,
             ),
-            ("greatest delay 0:\n", Value::Number(0), &[], 0),
+            ("greatest delay 0: 5\n", Value::Number(0), &[5], 0),
             ("greatest delay NONE:\n", Value::None, &[], 0),
+            ("greatest delay STRANDED:\n", Value::Stranded, &[], 0),
             ("greatest delay STRANDED: 7\n", Value::Stranded, &[7], 0),
             (
                 "greatest delay ENDLESS: 4 2047 @1\n",

@@ -1,10 +1,12 @@
 //! Quotations of small plans in document 01's own words: list the walks and look among them.
 //!
-//! Walks of up to n transitions are enough, n the number of states. A route that visits no state
-//! twice has fewer. An unfinished walk of n transitions visits a state twice, so it can go on
-//! forever; and an endless walk begins with one. A shortest walk that takes an open transition takes
-//! it last and leaves no state twice, so it has at most n. The list grows with a power of the
-//! transitions.
+//! Walks of up to n transitions are enough, n the number of states. A route that leaves no state
+//! twice has at most n, and n where it visits every state and ends where it began (document 02, E5);
+//! one that does leave a state twice goes round a loop of unfinished states. A walk of n transitions
+//! to unfinished states visits one of them twice: its first state is unfinished too, which makes n + 1
+//! visits, or it is final, and the others are at most n - 1. So it can go on forever; and an endless
+//! walk begins with one. A shortest walk that takes an open transition takes it last and leaves no
+//! state twice, so it has at most n. The list grows with a power of the transitions.
 
 use std::ops::Add;
 
@@ -19,6 +21,11 @@ struct Walk {
 }
 
 impl Walk {
+    /// Whether it is a start alone.
+    fn is_alone(&self) -> bool {
+        self.transitions.is_empty()
+    }
+
     fn last_state(&self, plan: &Plan) -> usize {
         match self.transitions.last() {
             Some(&number) => plan.transitions[number].to,
@@ -33,8 +40,8 @@ impl Walk {
     }
 }
 
-/// The walks of up to n transitions that no final state is on but as their last, shorter ones
-/// first.
+/// The walks of up to n transitions that no final state is on but as their first or their last,
+/// shorter ones first.
 fn walks(plan: &Plan) -> Vec<Walk> {
     let n = plan.states.len();
     let starts = (0..n).filter(|&state| plan.is_start(state));
@@ -47,7 +54,8 @@ fn walks(plan: &Plan) -> Vec<Walk> {
     while place < list.len() {
         let walk = list[place].clone();
         let state = walk.last_state(plan);
-        if walk.transitions.len() < n && !plan.is_final(state) {
+        let goes_on = walk.is_alone() || !plan.is_final(state);
+        if walk.transitions.len() < n && goes_on {
             for (number, transition) in plan.transitions.iter().enumerate() {
                 if transition.from == state {
                     let mut longer = walk.clone();
@@ -74,11 +82,12 @@ pub fn quote(plan: &Plan, asked: impl Into<Asked>) -> Quotation {
         return Quotation::of_open(walk.transitions.clone());
     }
 
+    // "a route has at least one transition" (E5): a start alone, final or not, is unfinished.
     let (routes, unfinished): (Vec<Walk>, Vec<Walk>) = list
         .into_iter()
-        .partition(|walk| plan.is_final(walk.last_state(plan)));
+        .partition(|walk| !walk.is_alone() && plan.is_final(walk.last_state(plan)));
     let best = if asked.figure.is_least() {
-        // The first of the least: the one with fewest transitions, so no state is on it twice.
+        // The first of the least: the one with fewest transitions, so it leaves no state twice.
         routes.iter().min_by_key(cost)
     } else {
         let endless = unfinished.iter().find(|walk| walk.transitions.len() == n);
@@ -87,7 +96,7 @@ pub fn quote(plan: &Plan, asked: impl Into<Asked>) -> Quotation {
         }
         let stranded = unfinished
             .into_iter()
-            .find(|walk| plan.is_dead_end(walk.last_state(plan)));
+            .find(|walk| !plan.is_left(walk.last_state(plan)));
         if let Some(walk) = stranded {
             return Quotation::new(Value::Stranded, walk.transitions);
         }

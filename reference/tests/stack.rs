@@ -107,7 +107,17 @@ fn plans() -> Vec<Plan> {
             transition.high = OPEN_HIGH;
         }
     }
-    vec![Plan::fresh(1).unwrap(), chain, loops, stranded, open]
+    // A ring through a state that is start and final, whose one route is all its states.
+    let mut ring = chain.clone();
+    ring.states[0].marks = 7;
+    ring.states[MAX_STATES - 1].marks = 1;
+    ring.transitions[0] = Transition {
+        from: MAX_STATES - 1,
+        to: 0,
+        low: 0,
+        high: 0,
+    };
+    vec![Plan::fresh(1).unwrap(), chain, loops, stranded, open, ring]
 }
 
 /// The most stack that the call uses on a plan, where it is accepted.

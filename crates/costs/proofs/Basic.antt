@@ -97,8 +97,8 @@ both-counted = refl
 pub seven : divided (number (7 * 1024 + 2)) ≡ number 7
 seven = refl
 
--- 511 transitions of 0 seconds are still nothing
-pub zero-seconds : divided (number 511) ≡ number 0
+-- 512 transitions of 0 seconds are still nothing
+pub zero-seconds : divided (number 512) ≡ number 0
 zero-seconds = refl
 
 pub other-kinds : divided ENDLESS ≡ ENDLESS

@@ -10,7 +10,7 @@ pub record Scaled (times extra : ℕ) (g : Graph) (c c′ : Cost) : Type 0 where
   pub step : (t : ℕ) → t < count g → c′ .step t ≡ times * c .step t + extra
   pub close : (s : ℕ) → s < states g → c′ .close s ≡ times * c .close s
 
--- what the costs of a least figure are multiplied by: more than a route that visits no state twice has transitions
+-- what the costs of a least figure are multiplied by: more than a route that is shown has transitions, 512 at most
 abbrev pub scale : ℕ
 scale = 1024
 

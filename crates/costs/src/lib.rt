@@ -1,7 +1,8 @@
 // The cost of a figure as weights: one for each transition, and a close for each state, which the last state of a route adds.
 //
 // A greatest figure is searched over the costs themselves: scale 1 and extra 0. A least one is searched over SCALE and extra 1, where each
-// transition weighs something: a route that visits no state twice has at most 511 transitions, so the figure is what is found, divided by SCALE.
+// transition weighs something: a route that visits no state twice, but perhaps its first as its last, has at most 512 transitions, so the figure is what is
+// found, divided by SCALE.
 ghost use mathlib.Core.Path.{_≡_};
 ghost use Prim.Native.Nat.{ℕ, _*_, _≤_, _<_};
 ghost use lib.ListN.{getD};

@@ -25,7 +25,7 @@ use Rattle.demands.proofs.Basic.{steps}
 module _ (g : Graph) (w : within g ≡ true) (p : Premises g) where
   agrees : Agreement g
   agrees =
-      let total : TotalPlan g = record { closed = within-closed g w; started = p .started; leaves = p .leaves } in
+      let total : TotalPlan g = record { closed = within-closed g w; started = p .started; leaves = p .leaves; apart = p .apart } in
       agreement g (record { total = total; lows-one = p .lows-one; highs-one = p .highs-one })
 
   pub report-figures : ReportFigures g
@@ -71,4 +71,5 @@ steps-premises =
       highs-one = q .highs-one;
       started = q .total .started;
       leaves = q .total .leaves;
+      apart = q .total .apart;
     }

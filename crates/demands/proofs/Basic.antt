@@ -1,8 +1,8 @@
 -- The claim on small plans: runs written out beside computed figures, and plans that the premises leave out.
 -- Assumes nothing.
 use Prim.Native.Nat.{ℕ, zero, suc}
-use mathlib.Core.Path.{_≡_, refl}
-use mathlib.Core.Bool.{false≢true}
+use mathlib.Core.Path.{_≡_, refl, _∙_, ap}
+use mathlib.Core.Bool.{true≢false, false≢true}
 use mathlib.Core.List.{[], _∷_}
 use native.Mathlib.Nat.{not-suc-le-zero}
 use native.Mathlib.Omega.{arith}
@@ -10,12 +10,14 @@ use lib.Dec.{lit<}
 use Rattle.graph.specs.Graph.{Graph, marksOf, start, final, counted, transition, from, to, low, high}
 use Rattle.graph.specs.Walk.{Begins}
 use Rattle.graph.specs.Compute.{any, figureFor}
+use Rattle.graph.specs.Figure.{value}
 use Rattle.graph.specs.Known.{plan, P1, P3}
 use Rattle.report.specs.Procedure.{ends, turns, Returns}
 use Rattle.report.specs.Sets.{empty, same, N, T, T⁻¹}
-use Rattle.report.specs.Bounds.{finite, ∞, upper}
+use Rattle.report.specs.Bounds.{finite, ∞, lower, upper}
 use Rattle.report.specs.Counts.{those, Nₐ, Tₐ, updated}
-use Rattle.report.proofs.Basic.{step}
+use Rattle.report.specs.Agreement.{leastFigure}
+use Rattle.report.proofs.Basic.{step, answered-steps, answered-lower}
 use Rattle.report.proofs.Loop.{returns-once}
 use Rattle.demands.specs.Report.{Premises, ReportFigures}
 
@@ -75,3 +77,16 @@ no-start-out p = let (s, b) = p .started in none s b
     none : (s : ℕ) → Begins (plan (2 ∷ []) []) s → ⊥
     none zero b = false≢true b
     none (suc s) b = false≢true b
+
+-- a state that is both start and final (document 02, E5): a plan that meets all the other premises (report's `answered-else`)
+pub answered-out : Premises answered-steps → ⊥
+unfolding marksOf start final
+answered-out p = true≢false (p .apart 0 refl)
+
+-- and the claim is false of it: lower returns 0, and the least delay is 1
+pub answered-differs : ReportFigures answered-steps → ⊥
+unfolding figureFor any marksOf start final counted transition from to low high
+answered-differs r =
+    let (b, run, e) = r .least-delay in
+    let z : _≡_ {A = ℕ} 0 1 = ap value (ap leastFigure (returns-once (lower answered-steps) (answered-lower .0) run) ∙ e) in
+    omega arith

@@ -2,11 +2,13 @@
 -- whoever does not look; a shown walk has the count that is quoted; a list of two marks gives away whoever obeys the first; the known octets
 -- give away the rest. Then those of document 02's E3: a bad from, and a bad to, give away whoever tests them in another order, and read's list of numbers whoever still has 7.
 -- And those of E4: a count for a class whose walk lacks it; a mark that clears the team; an image written by version 1, so that one which was read comes back; 18 after 11.
+-- And those of E5: a final start taken for a route of no transitions, or for no dead end; a route that comes back to its start and counts it once; one that goes on
+-- through a final state.
 -- Assumes nothing.
 use mathlib.Core.Bool.{Bool, true, false, true≢false}
 use mathlib.Core.List.{List, [], _∷_, _++_}
 use mathlib.Core.Path.{_≡_, refl, sym, ap, ap₂, _∙_, subst}
-use Prim.Native.Nat.{ℕ, _≤_, _<_}
+use Prim.Native.Nat.{ℕ, suc, _≤_, _<_}
 use borrow.Author.Tests.{eqb-true, eqb-false}
 use native.Mathlib.Omega.{arith}
 use lib.Dec.{leb, eqb}
@@ -18,12 +20,14 @@ use Rattle.graph.specs.declared.Asked.the-variants.{One, LeastCountFor, Greates
 use Rattle.graph.specs.declared.Which.{Which}
 use Rattle.graph.specs.declared.Which.the-variants.{LeastDelay, GreatestDelay, LeastCount, GreatestCount}
 use Rattle.graph.specs.Compute.{any, figureFor}
-use Rattle.graph.specs.Figure.{Figure, number, NONE, STRANDED, ENDLESS, kind, value, Shown}
-use Rattle.graph.specs.Class.{teamOk, inClassOf, counting}
-use Rattle.graph.specs.Graph.{Graph, Transition, stateWith, states, count, state, marksOf, teamOf, start, final, counted, transition, from, to, low, high}
-use Rattle.graph.specs.Known.{Row, plan, join as to-join, P1, P2, P6}
-use Rattle.graph.specs.Route.{Route, counts, number-on}
-use Rattle.graph.proofs.Sentences.{shown-count}
+use Rattle.graph.specs.Figure.{Figure, number, NONE, STRANDED, ENDLESS, kind, value, Shown, costOver}
+use Rattle.graph.specs.Class.{teamOk, figureOf, inClassOf, counting}
+use Rattle.graph.specs.Graph.{Graph, Transition, stateWith, states, count, state, marksOf, teamOf, start, final, counted, transition, from, to, low, high, Final}
+use Rattle.graph.specs.Known.{Row, plan, join as to-join, P1, P2, P6, P8, answered-returns, answered-alone}
+use Rattle.graph.specs.Route.{Route, Cost, counts, number-on}
+use Rattle.graph.proofs.Repeat.{nth}
+use Rattle.graph.proofs.Walks.{arrives-at}
+use Rattle.graph.proofs.Sentences.{route-is, number-some, shown-count}
 use Rattle.rules.specs.declared.Answer.the-variants.{Accepted, Refused}
 use Rattle.rules.specs.declared.Quotation.the-variants.{Quoted, Refused as NotQuoted}
 use Rattle.rules.specs.declared.Quote.{Quote}
@@ -34,7 +38,7 @@ use Rattle.rules.specs.declared.Written.the-variants.{Length}
 use Rattle.rules.specs.Calls.{Call, mark, team, join, read, rowsOf, run, runFresh}
 use Rattle.rules.specs.Image.{imageBy, image, versionOf, transitionRows}
 use Rattle.rules.specs.Limits.{within, all, stateCountOk}
-use Rattle.rules.specs.Quotations.{meant, quoteRows}
+use Rattle.rules.specs.Quotations.{meant, quoteRows, saysOver, Shows}
 use Rattle.rules.specs.Refusal.{refused, said, code}
 use Rattle.rules.specs.Rules.{freshGraph}
 use Rattle.rules.specs.Table.{Row as TableRow, first}
@@ -109,6 +113,19 @@ other-listable GreatestDelay = one-state
 other-listable LeastCount = two-states
 other-listable GreatestCount = one-state
 
+-- those of document 02's E5
+pub returns-listable : Listable (answered-returns .plan)
+unfolding run within all
+returns-listable = record { n = 1; n-ok = refl; calls = mark 0 7 ∷ join (to-join 0 0 3 4) ∷ []; makes = refl }
+
+pub alone-listable : Listable (answered-alone .plan)
+unfolding run within all
+alone-listable = record { n = 3; n-ok = refl; calls = mark 0 6 ∷ mark 1 4 ∷ mark 2 2 ∷ join (to-join 1 2 1 2) ∷ []; makes = refl }
+
+pub walks-on-listable : Listable (P8 .plan)
+unfolding run within all
+walks-on-listable = record { n = 2; n-ok = refl; calls = mark 0 4 ∷ mark 1 2 ∷ join (to-join 0 1 1 2) ∷ join (to-join 1 1 5 5) ∷ []; makes = refl }
+
 -- two starts, of which only the second is counted, and a transition from the first to an answer: the walk 0 has no counted state, though it would have one if
 -- it began at the other start, where it is no route
 abbrev pub two-starts : Graph
@@ -117,7 +134,7 @@ two-starts = plan (4 ∷ 5 ∷ 2 ∷ []) (to-join 0 2 1 1 ∷ [])
 pub two-starts-lack : (first : ℕ) → Route two-starts first (0 ∷ []) → number-on two-starts (counted two-starts) first (0 ∷ []) ≡ 1 → ⊥
 unfolding marksOf start final counted transition from to low high
 two-starts-lack first r e =
-    let z : _≡_ {A = ℕ} 0 1 = subst (λ (s : ℕ). number-on two-starts (counted two-starts) s (0 ∷ []) ≡ 1) (sym (r .1 .1 .source)) e in
+    let z : _≡_ {A = ℕ} 0 1 = subst (λ (s : ℕ). number-on two-starts (counted two-starts) s (0 ∷ []) ≡ 1) (sym (r .1 .0 .source)) e in
     omega arith
 
 -- and of two states of the classes that 9 and 10 are of: a walk from the first to the second has one state of each, not two of either
@@ -127,8 +144,16 @@ two-classes = record { stateList = stateWith 4 9 ∷ stateWith 2 10 ∷ []; tran
 pub two-classes-lack : (first : ℕ) → Route two-classes first (0 ∷ []) → number-on two-classes (inClassOf two-classes 9) first (0 ∷ []) ≡ 2 → ⊥
 unfolding teamOf inClassOf transition from to
 two-classes-lack first r e =
-    let z : _≡_ {A = ℕ} 1 2 = subst (λ (s : ℕ). number-on two-classes (inClassOf two-classes 9) s (0 ∷ []) ≡ 2) (sym (r .1 .1 .source)) e in
+    let z : _≡_ {A = ℕ} 1 2 = subst (λ (s : ℕ). number-on two-classes (inClassOf two-classes 9) s (0 ∷ []) ≡ 2) (sym (r .1 .0 .source)) e in
     omega arith
+
+-- what a quotation says of the walk
+shows-said : (which : Which) (p : ℕ → Bool) (g : Graph) (f : Figure) (k j : ℕ) (before after : List ℕ) → saysOver which p g f k j before after
+    → Shows g (costOver which p g) f k j before after
+shows-said LeastDelay p g f k j before after x = x .shows
+shows-said GreatestDelay p g f k j before after x = x .shows
+shows-said LeastCount p g f k j before after x = x .shows
+shows-said GreatestCount p g f k j before after x = x .shows
 
 module _ (c : Calculator) where
   -- a session whose list of calls makes the plan g, and of which demand 3's claim holds, quotes the figure f
@@ -176,7 +201,7 @@ module _ (c : Calculator) where
       differ LeastDelay e = let z : _≡_ {A = ℕ} 7 0 = e in omega arith
       differ GreatestDelay e = let z : _≡_ {A = ℕ} 60 0 = e in omega arith
       differ LeastCount e = let z : _≡_ {A = ℕ} 1 0 = e in omega arith
-      differ GreatestCount e = let z : _≡_ {A = ℕ} 2 1 = e in omega arith
+      differ GreatestCount e = let z : _≡_ {A = ℕ} 2 0 = e in omega arith
 
       go : (b : Bool) → eqb (value f) (value (P1 .figures which)) ≡ b → (g : Graph) × Listable g × (Heard g which f → ⊥)
       go true e = (
@@ -190,10 +215,75 @@ module _ (c : Calculator) where
         λ h. eqb-false (value f) (value (P1 .figures which)) e (ap value (heard (P1 .plan) which f h ∙ first-known which)),
       )
 
+  -- ---- calls that begin answered (document 02, E5), by their figures
+
+  -- one that takes a final start for a route of no transitions, whatever number it quotes: P2's four figures are NONE and STRANDED
+  pub answers-at-once : (which : Which) (x : ℕ) → Heard (P2 .plan) which (number x) → ⊥
+  unfolding figureFor any marksOf start final counted transition from to low high
+  answers-at-once LeastDelay x h = let z : _≡_ {A = ℕ} 0 1 = ap kind (heard (P2 .plan) LeastDelay (number x) h) in omega arith
+  answers-at-once GreatestDelay x h = let z : _≡_ {A = ℕ} 0 2 = ap kind (heard (P2 .plan) GreatestDelay (number x) h) in omega arith
+  answers-at-once LeastCount x h = let z : _≡_ {A = ℕ} 0 1 = ap kind (heard (P2 .plan) LeastCount (number x) h) in omega arith
+  answers-at-once GreatestCount x h = let z : _≡_ {A = ℕ} 0 2 = ap kind (heard (P2 .plan) GreatestCount (number x) h) in omega arith
+
+  -- one that takes a final start without transitions for no dead end, whatever else it says of the greatest delay: alone, and beside a start with a route
+  pub no-dead-end : (f : Figure) → (f ≡ STRANDED → ⊥) → Heard (P2 .plan) GreatestDelay f → ⊥
+  unfolding figureFor any marksOf start final counted transition from to low high
+  no-dead-end f other h = other (heard (P2 .plan) GreatestDelay f h)
+
+  pub no-dead-end-beside : (f : Figure) → (f ≡ STRANDED → ⊥) → Heard (answered-alone .plan) GreatestDelay f → ⊥
+  unfolding figureFor any marksOf start final counted transition from to low high
+  no-dead-end-beside f other h = other (heard (answered-alone .plan) GreatestDelay f h)
+
+  -- one that counts the state once where a route begins and ends at it, "such a state counts twice if counted"
+  pub counts-the-return-once : Heard (answered-returns .plan) LeastCount (number 1) → ⊥
+  unfolding figureFor any marksOf start final counted transition from to low high
+  counts-the-return-once h = let z : _≡_ {A = ℕ} 1 2 = ap value (heard (answered-returns .plan) LeastCount (number 1) h) in omega arith
+
+  pub greatest-return-once : Heard (answered-returns .plan) GreatestCount (number 1) → ⊥
+  unfolding figureFor any marksOf start final counted transition from to low high
+  greatest-return-once h = let z : _≡_ {A = ℕ} 1 2 = ap value (heard (answered-returns .plan) GreatestCount (number 1) h) in omega arith
+
+  -- one that goes on through a final state between the first and the last: P8 by 0→1, 1→1, of 2 and 5 seconds; and round 0→0 twice, of 4, where the final
+  -- state is the start too
+  pub goes-on-answered : Heard (P8 .plan) GreatestDelay (number 7) → ⊥
+  unfolding figureFor any marksOf start final counted transition from to low high
+  goes-on-answered h = let z : _≡_ {A = ℕ} 7 2 = ap value (heard (P8 .plan) GreatestDelay (number 7) h) in omega arith
+
+  pub goes-round-answered : Heard (answered-returns .plan) GreatestDelay (number 8) → ⊥
+  unfolding figureFor any marksOf start final counted transition from to low high
+  goes-round-answered h = let z : _≡_ {A = ℕ} 8 4 = ap value (heard (answered-returns .plan) GreatestDelay (number 8) h) in omega arith
+
   module _ (s : Session c) (d : OneClaim c s) where
     -- the plan after the list
     abbrev after-list : Graph
     after-list = runFresh (s .n) (s .calls) .last
+
+    -- the walk shown beside a number, whatever the plan and what was asked: "a route has at least one transition .. no state between its first and last may be"
+    -- final (E5)
+    module _ (asked : Asked) (q : Quote) (x : ℕ) (e : s .quotation asked ≡ Quoted q) (f : meant (q .figure) ≡ number x) where
+      abbrev cost : Cost
+      cost = costOver (figureOf asked) (counting asked after-list) after-list
+
+      abbrev walk : List ℕ
+      walk = take (q .k) (s .places-after asked)
+
+      numbered : Shows after-list cost (number x) (q .k) (q .j) (s .places-before asked) (s .places-after asked)
+      numbered =
+          subst (λ (f : Figure). Shows after-list cost f (q .k) (q .j) (s .places-before asked) (s .places-after asked)) f
+          (shows-said (figureOf asked) (counting asked after-list) after-list _ _ _ _ _ (d .right asked q e))
+
+      -- one that shows a start alone
+      pub shows-a-start-alone : q .k ≡ 0 → ⊥
+      shows-a-start-alone none = omega (arith, numbered .number-of, number-some after-list cost x (q .j) walk (numbered .walk))
+
+      -- one that goes on where a transition arrived at a final state
+      pub shows-on-through-an-answer : (i : ℕ) → suc i < q .k → Final after-list (to after-list (nth walk i)) → ⊥
+      shows-on-through-an-answer i h answered =
+          let (first, r, t, v, z) = numbered .walk in
+          let w = route-is after-list first walk .0 r in
+          let further : suc i < length walk = omega (arith, numbered .number-of) in
+          let there = arrives-at after-list (λ y. Unit) (λ y. Unit) first walk (w .walk .1) i (omega arith) in
+          true≢false (sym (subst (Final after-list) there answered) ∙ w .middle i further)
 
     -- the shown walk has no start from which it is a route with x states of which the test says yes
     abbrev Lacks : (ℕ → Bool) → List ℕ → ℕ → Type 0
@@ -248,13 +338,13 @@ module _ (c : Calculator) where
         let z : _≡_ {A = ℕ} 4 2 = ap (λ (g : Graph). (state g 0) .marks) e in
         omega arith
 
-    -- and one that hides it, and quotes: after mark 0 4 and mark 0 6 state 0 is final, and who obeyed only the first calls it a dead end
-    pub quotes-the-first : s .n ≡ 1 → s .calls ≡ mark 0 4 ∷ mark 0 6 ∷ [] → (q : Quote) → s .quotation (One GreatestDelay) ≡ Quoted q
+    -- and one that hides it, and quotes: after mark 0 4 and mark 0 0 no state is a start, and who obeyed only the first calls state 0 a dead end
+    pub quotes-the-first : s .n ≡ 1 → s .calls ≡ mark 0 4 ∷ mark 0 0 ∷ [] → (q : Quote) → s .quotation (One GreatestDelay) ≡ Quoted q
         → meant (q .figure) ≡ STRANDED → ⊥
     unfolding run within all figureFor any marksOf start final counted transition from to low high
     quotes-the-first n calls q e f =
-        let h : STRANDED ≡ number 0 =
-        heard (plan (6 ∷ []) []) GreatestDelay STRANDED
+        let h : STRANDED ≡ NONE =
+        heard (plan (0 ∷ []) []) GreatestDelay STRANDED
         (record {
           session = s;
           demand = d;
@@ -263,7 +353,7 @@ module _ (c : Calculator) where
           quoted = e;
           figure = f;
         }) in
-        let z : _≡_ {A = ℕ} 2 0 = ap kind h in
+        let z : _≡_ {A = ℕ} 2 1 = ap kind h in
         omega arith
 
   -- ---- demands 1 and 2: the image

@@ -126,6 +126,7 @@ module _ (c : Calculator) where
     pub writes-version-2 : {old : Plan} {octets before after : List ℕ} {e : Edited} {w : Written} → Octets octets → c .edits old (read octets) e
         → e .answer ≡ Accepted → length octets ≤ length before → c .writes (e .plan) before after w
         → (w ≡ Length (length octets)) × (after ≡ image (view (e .plan)) ++ drop (length octets) before)
+    -- (02, E5) "The report's procedures are matched from then on for plans where no state is both start and final.":
     -- "Where all durations are 1, some state is marked start and every unfinished state has a transition out, the figures are those of the procedures
     -- lower, upper,
     pub lower-is : {p : Plan} {before after : List ℕ} (q : Quote) → Premises (view p) → c .quotes (One LeastDelay) p before after (Quoted q)
@@ -158,6 +159,9 @@ module _ (c : Calculator) where
 -- (02, E1, of import) "demand 3's lists may hold it":
 -- (02, E2, of a call that goes on forever) "For the greatest delay an open ring then counts as going on forever unanswered.":
 -- (02, E4, of team) "The list of edits behind a quotation may include the new call.":
+-- (02, E5, of a start that leads to an answer) "a route has at least one transition. Its first state may be final, and no state between its first and last may
+-- be.": (of a call that goes on forever, and of one that ends unanswered) "An endless or stranded walk, or one that takes an open high, likewise may begin at a
+-- final start, and a start without transitions is a dead end.":
 -- "For every list of mark, join, unjoin and read calls from a fresh plan, refused ones included,
 pub record OneClaim (c : Calculator) (s : Session c) : Type 0 where
   pub fresh-accepted : s .made .answer ≡ Accepted

@@ -1,6 +1,7 @@
 -- Demand 2's sentence about the report, of plans: where all durations are 1, some state is marked start and every
--- unfinished state has a transition out, the report's lower and upper return the least and the greatest delay, and
--- wherever upper is finite its mincount and maxcount return the least and the greatest count.
+-- unfinished state has a transition out, and by document 02's E5 no state is both start and final, the report's lower and
+-- upper return the least and the greatest delay, and wherever upper is finite its mincount and maxcount return the least
+-- and the greatest count.
 --
 -- The figures are those that are quoted, by computation (graph's specs/Compute.antt). Assumes nothing.
 use Prim.Native.Nat.{ℕ, _<_}
@@ -24,6 +25,8 @@ pub record Premises (g : Graph) : Type 0 where
   pub started : (s : ℕ) × Begins g s
   -- "every unfinished state has a transition out"
   pub leaves : (s : ℕ) → s < states g → Unfinished g s → (t : ℕ) × Departs g s t
+  -- (02, E5) "The report's procedures are matched from then on for plans where no state is both start and final."
+  pub apart : (s : ℕ) → Begins g s → Unfinished g s
 
 -- run, the procedure returns a value, and that stands for the figure. (It returns no other: `returns-once`.)
 abbrev pub Gives : {S : Type 0} → Procedure S Bound → (Bound → Figure) → Figure → Type 0

@@ -11,10 +11,10 @@ use native.Mathlib.Nat.{not-suc-le-zero, le-of-suc-le-suc, zero-add, zero-lt-suc
 use native.Mathlib.Omega.{arith}
 use lib.ListN.{length}
 use Rattle.graph.specs.Graph.{Graph, to, Departs}
-use Rattle.graph.specs.Walk.{WalkTo, visits, arrival, Different}
+use Rattle.graph.specs.Walk.{WalkTo, AfterStart, visits, arrival, Different}
 use Rattle.graph.specs.Route.{Cost, total, delay}
 use Rattle.graph.proofs.Repeat.{nth, Apart}
-use Rattle.graph.proofs.Walks.{length-visits}
+use Rattle.graph.proofs.Walks.{length-visits, stopped}
 
 -- ---- one more transition
 
@@ -41,6 +41,13 @@ module _ (g : Graph) where
   pub total-is : (c : Cost) (s : ℕ) (ts : List ℕ) → total g c s ts ≡ delay (c .step) ts + c .close (arrival g s ts)
   total-is c s [] = sym (zero-add (c .close s))
   total-is c s (t ∷ ts) = omega (arith, total-is c (to g t) ts)
+
+-- a walk of the plan, one transition longer
+pub after-snoc : (g : Graph) (alone pass stop stop′ : ℕ → Type 0) (s : ℕ) (ts : List ℕ) (t : ℕ) → AfterStart g alone (WalkTo g pass stop) s ts
+    → ((x : ℕ) → stop x → pass x) → Departs g (arrival g s ts) t → stop′ (to g t) → AfterStart g alone (WalkTo g pass stop′) s (ts ++ (t ∷ []))
+after-snoc g alone pass stop stop′ s [] t w p d q = (d, q)
+after-snoc g alone pass stop stop′ s (u ∷ ts) t w p d q =
+    (w .0, walk-snoc g pass stop stop′ (to g u) ts t (w .1) (p (arrival g (to g u) ts) (stopped g pass stop (to g u) ts (w .1))) d q)
 
 pub delay-snoc : (f : ℕ → ℕ) (ts : List ℕ) (t : ℕ) → delay f (ts ++ (t ∷ [])) ≡ delay f ts + f t
 delay-snoc f [] t = omega arith

@@ -5,10 +5,12 @@
 --    and from k - 1 back to j (`next`).
 -- 2. An endless walk has a walk of every length, its first k transitions (`run-walk`); and a sequence of transitions
 --    of which that is so is an endless walk (`endless-of`). The first k of the one in 1 are the walk itself (`run-round`).
--- 3. So a plan of n states has an endless walk exactly when n transitions can be walked from a start through unfinished
---    states: by 2 one way; and by 1 the other, since n + 1 states below n hold a repeat. Up to the first repeat, that
---    walk is what 01 asks to be shown for a loop (`repeat-shown`).
--- 4. Where no endless walk exists, every walk through unfinished states visits no state twice (`simple-or-endless`).
+-- 3. One of the plan is a first step and an endless walk after it: each transition departs where the one before arrived, the first from a start, and leads to
+--    an unfinished state (`endless-at`, `at-endless`).
+-- 4. So a plan of n states has an endless walk exactly when a first step from a start and n transitions through unfinished
+--    states after it can be walked: by 2 one way; and by 1 the other, since n + 1 states below n hold a repeat. Up to the first repeat, that
+--    walk is what 01 asks to be shown for a loop (`repeat-shown`): a state that is come back to was arrived at, so it is unfinished, final as the start may be.
+-- 5. Where no endless walk exists, every walk through unfinished states visits no state twice (`simple-or-endless`).
 -- Assumes nothing.
 use Prim.Native.Nat.{ℕ, zero, suc, _+_, _≤_, _<_, zero-le}
 use mathlib.Core.Path.{_≡_, refl, sym, _∙_, ap, ap₂, subst}
@@ -21,13 +23,13 @@ use lib.Dec.{eqb}
 use lib.ListN.{length, take}
 use lib.Seq.{length-take-le, take-take}
 use borrow.Author.Tests.{eqb-true, eqb-false, ne-eqb}
-use Rattle.graph.specs.Graph.{Graph, states, Unfinished, Closed}
-use Rattle.graph.specs.Walk.{Begins, WalkTo, visits, arrival, UnfinishedFrom, Different}
+use Rattle.graph.specs.Graph.{Graph, states, to, Departs, Unfinished, Closed}
+use Rattle.graph.specs.Walk.{Begins, FirstStep, AfterStart, WalkTo, WalkFrom, visits, arrival, UnfinishedFrom, UnfinishedWalk, Different}
 use Rattle.graph.specs.Walk.{reached, EndlessFrom, EndlessWalk}
 use Rattle.graph.specs.Figure.{LoopShown}
 use Rattle.graph.proofs.Repeat.{nth, Repeat, first-repeat, repeat-below, different-take}
 use Rattle.graph.proofs.Walks.{start-below, length-visits, state-after, state-last, visits-take, passed}
-use Rattle.graph.proofs.Walks.{departs-at, arrives-at, stopped, visits-below, front}
+use Rattle.graph.proofs.Walks.{departs-at, arrives-at, stopped, visits-below, all-unfinished, after-plain, after-front}
 use Rattle.graph.proofs.Build.{arrival-snoc, last-departs}
 
 -- ---- 1
@@ -75,26 +77,38 @@ place-front j k (suc i) h =
 pub round : List ℕ → ℕ → ℕ → ℕ → ℕ
 round ts j k i = nth ts (place j k i)
 
-module _ (g : Graph) (stop : ℕ → Type 0) (s : ℕ) (ts : List ℕ) (w : WalkTo g (Unfinished g) stop s ts) where
-  pub repeated-endless : (j k : ℕ) → j < k → k ≤ length ts → nth (visits g s ts) k ≡ nth (visits g s ts) j
-      → EndlessFrom g s (round ts j k)
+-- a walk that comes back goes round: whatever is asked of its states
+module _ (g : Graph) (pass stop : ℕ → Type 0) (s : ℕ) (ts : List ℕ) (w : WalkTo g pass stop s ts)
+    (j k : ℕ) (l : j < k) (h : k ≤ length ts) (e : nth (visits g s ts) k ≡ nth (visits g s ts) j) where
+  at : (i : ℕ) → place j k i < length ts
+  at i = lt-of-lt-of-le (place-below j k i l) h
+
+  -- the endless walk is at that place of the walk
+  here : (i : ℕ) → reached g s (round ts j k) i ≡ nth (visits g s ts) (place j k i)
   unfolding place round
-  repeated-endless j k l h e = record {
-    departs = λ i. rw (here i) (departs-at g (Unfinished g) stop s ts w (place j k i) (at i));
-    unfinished = λ i. rw (here i) (passed g (Unfinished g) stop s ts w (place j k i) (at i));
-  }
-    where
-      at : (i : ℕ) → place j k i < length ts
-      at i = lt-of-lt-of-le (place-below j k i l) h
+  here zero = sym (state-after g s ts 0 zero-le)
+  here (suc i) = arrives-at g pass stop s ts w (place j k i) (at i) ∙ next-same (nth (visits g s ts)) j k (place j k i) e
 
-      -- the endless walk is at that place of the walk
-      here : (i : ℕ) → reached g s (round ts j k) i ≡ nth (visits g s ts) (place j k i)
-      here zero = sym (state-after g s ts 0 zero-le)
-      here (suc i) = arrives-at g (Unfinished g) stop s ts w (place j k i) (at i) ∙ next-same (nth (visits g s ts)) j k (place j k i) e
+  round-departs : (i : ℕ) → Departs g (reached g s (round ts j k) i) (round ts j k i)
+  unfolding round
+  round-departs i = rw (here i) (departs-at g pass stop s ts w (place j k i) (at i))
 
+  round-passes : (i : ℕ) → pass (reached g s (round ts j k) i)
+  round-passes i = rw (here i) (passed g pass stop s ts w (place j k i) (at i))
+
+  -- it arrives where the walk arrived
+  round-arrives : (i : ℕ) → (p : ℕ) × (p < length ts) × (to g (round ts j k i) ≡ nth (visits g s ts) (suc p))
+  unfolding round
+  round-arrives i = (place j k i, at i, arrives-at g pass stop s ts w (place j k i) (at i))
+
+module _ (g : Graph) (stop : ℕ → Type 0) (s : ℕ) (ts : List ℕ) (w : WalkTo g (Unfinished g) stop s ts) where
   -- as the first repeat that a search of its states finds
   repeat-endless : (r : Repeat (nth (visits g s ts)) (length (visits g s ts))) → EndlessFrom g s (round ts (r .earlier) (r .later))
-  repeat-endless r = repeated-endless (r .earlier) (r .later) (r .order) (omega (arith, length-visits g s ts)) (r .same)
+  repeat-endless r =
+      let h : r .later ≤ length ts = omega (arith, length-visits g s ts) in record {
+        departs = round-departs g (Unfinished g) stop s ts w (r .earlier) (r .later) (r .order) h (r .same);
+        unfinished = round-passes g (Unfinished g) stop s ts w (r .earlier) (r .later) (r .order) h (r .same);
+      }
 
 -- ---- 2
 
@@ -154,17 +168,79 @@ module _ (g : Graph) (s : ℕ) (taken : ℕ → ℕ) where
 
 -- ---- 3
 
-module _ (g : Graph) (stop : ℕ → Type 0) (s : ℕ) (ts : List ℕ) (below : s < states g) (w : WalkTo g (Unfinished g) stop s ts) where
-  -- a walk of n transitions has a repeat, so it goes on forever
-  long-repeat : Closed g → states g ≤ length ts → Repeat (nth (visits g s ts)) (length (visits g s ts))
-  long-repeat closed h =
-      repeat-below (states g) (nth (visits g s ts)) (length (visits g s ts)) (omega (arith, length-visits g s ts))
-      (visits-below g (Unfinished g) stop closed s ts below w)
+module _ (g : Graph) (s : ℕ) (taken : ℕ → ℕ) where
+  -- the sequence after its first transition
+  after : (i : ℕ) → reached g (to g (taken 0)) (λ i. taken (suc i)) i ≡ to g (taken i)
+  after zero = refl
+  after (suc i) = refl
 
-  pub long-endless : Closed g → states g ≤ length ts → (taken : ℕ → ℕ) × EndlessFrom g s taken
-  long-endless closed h = let r = long-repeat closed h in (round ts (r .earlier) (r .later), repeat-endless g stop s ts w r)
+  pub endless-at : ((i : ℕ) → Departs g (reached g s taken i) (taken i)) → ((i : ℕ) → Unfinished g (to g (taken i)))
+      → FirstStep g (EndlessFrom g) s (taken 0) (λ i. taken (suc i))
+  endless-at departs unfinished =
+      (departs 0, record { departs = λ i. rw (after i) (departs (suc i)); unfinished = λ i. rw (after i) (unfinished i) })
 
-module _ (g : Graph) (stop : ℕ → Type 0) (s : ℕ) (ts : List ℕ) (b : Begins g s) (w : WalkTo g (Unfinished g) stop s ts) where
+  pub at-departs : FirstStep g (EndlessFrom g) s (taken 0) (λ i. taken (suc i)) → (i : ℕ) → Departs g (reached g s taken i) (taken i)
+  at-departs (d, e) zero = d
+  at-departs (d, e) (suc i) = subst (λ (x : ℕ). Departs g x (taken (suc i))) (after i) (e .departs i)
+
+  pub at-unfinished : FirstStep g (EndlessFrom g) s (taken 0) (λ i. taken (suc i)) → (i : ℕ) → Unfinished g (to g (taken i))
+  at-unfinished (d, e) i = subst (Unfinished g) (after i) (e .unfinished i)
+
+run-after : (taken : ℕ → ℕ) (i k : ℕ) → run (λ x. taken (suc x)) i k ≡ run taken (suc i) k
+run-after taken i zero = refl
+run-after taken i (suc k) = ap (λ (ts : List ℕ). taken (suc i) ∷ ts) (run-after taken (suc i) k)
+
+-- its first k transitions are a walk of the plan
+pub run-begun : (g : Graph) (s : ℕ) (taken : ℕ → ℕ) → EndlessWalk g s taken → (k : ℕ) → UnfinishedWalk g s (run taken 0 k)
+run-begun g s taken (b, e) zero = (b, tt)
+run-begun g s taken (b, (d, e)) (suc k) =
+    (b, (d, subst (UnfinishedFrom g (to g (taken 0))) (run-after taken 0 k) (run-walk g (to g (taken 0)) (λ i. taken (suc i)) e 0 k)))
+
+-- and a sequence of which that is so is an endless walk
+pub of-runs : (g : Graph) (s : ℕ) (taken : ℕ → ℕ) → ((k : ℕ) → UnfinishedWalk g s (run taken 0 k)) → FirstStep g (EndlessFrom g) s (taken 0) (λ i. taken (suc i))
+of-runs g s taken w =
+    (w 1 .1 .0, endless-of g (to g (taken 0)) (λ i. taken (suc i)) (λ k. subst (UnfinishedFrom g (to g (taken 0))) (sym (run-after taken 0 k)) (w (suc k) .1 .1)))
+
+-- one transition, and then a sequence
+pub then : ℕ → (ℕ → ℕ) → ℕ → ℕ
+then t taken zero = t
+then t taken (suc i) = taken i
+
+pub then-endless : (g : Graph) (s t : ℕ) (taken : ℕ → ℕ) → Begins g s → Departs g s t → EndlessFrom g (to g t) taken → EndlessWalk g s (then t taken)
+unfolding then
+then-endless g s t taken b d e = (b, (d, e))
+
+-- a walk from an unfinished start
+pub endless-begun : (g : Graph) (s : ℕ) (taken : ℕ → ℕ) → Begins g s → EndlessFrom g s taken → EndlessWalk g s taken
+endless-begun g s taken b e = (b, endless-at g s taken (e .departs) (λ i. e .unfinished (suc i)))
+
+-- ---- 4
+
+-- a walk of n transitions has a repeat, so it goes on forever
+long-repeat : (g : Graph) (pass stop : ℕ → Type 0) (s : ℕ) (ts : List ℕ) → s < states g → WalkTo g pass stop s ts → Closed g → states g ≤ length ts
+    → Repeat (nth (visits g s ts)) (length (visits g s ts))
+long-repeat g pass stop s ts below w closed h =
+    repeat-below (states g) (nth (visits g s ts)) (length (visits g s ts)) (omega (arith, length-visits g s ts))
+    (visits-below g pass stop closed s ts below w)
+
+pub long-endless : (g : Graph) (stop : ℕ → Type 0) (s : ℕ) (ts : List ℕ) → s < states g → WalkTo g (Unfinished g) stop s ts → Closed g → states g ≤ length ts
+    → (taken : ℕ → ℕ) × EndlessFrom g s taken
+long-endless g stop s ts below w closed h =
+    let r = long-repeat g (Unfinished g) stop s ts below w closed h in
+    (round ts (r .earlier) (r .later), repeat-endless g stop s ts w r)
+
+module _ (g : Graph) (s : ℕ) (ts : List ℕ) (w : UnfinishedWalk g s ts) where
+  -- whatever state it arrives at is unfinished
+  later-unfinished : (i : ℕ) → i < length ts → Unfinished g (nth (visits g s ts) (suc i))
+  later-unfinished = go ts (w .1)
+    where
+      go : (us : List ℕ) → AfterStart g (λ x. Unit) (UnfinishedFrom g) s us → (i : ℕ) → i < length us → Unfinished g (nth (visits g s us) (suc i))
+      go [] v i h = absurd (not-suc-le-zero h)
+      go (u ∷ us) v i h = all-unfinished g (to g u) us (v .1) i (le-of-suc-le-suc h)
+
+  walked : WalkFrom g s ts
+  walked = after-plain g (λ x. Unit) (Unfinished g) (Unfinished g) s ts (w .1)
+
   -- up to the first repeat, the walk is as 01 asks for a loop
   pub repeat-shown : (r : Repeat (nth (visits g s ts)) (length (visits g s ts)))
       → LoopShown g (take (r .later) ts) (r .earlier)
@@ -174,12 +250,10 @@ module _ (g : Graph) (stop : ℕ → Type 0) (s : ℕ) (ts : List ℕ) (b : Begi
       let xs = visits g s ts in
       let hk : k ≤ length ts = omega (arith, length-visits g s ts) in
       let lk : length (take k ts) ≡ k = length-take-le k ts hk in
-      let j-unfinished : Unfinished g (nth xs j) = passed g (Unfinished g) stop s ts w j (omega arith) in
-      let k-unfinished : Unfinished g (nth xs k) = rw (r .same) j-unfinished in
       let at-j = state-after g s ts j (omega arith) in
       let returns : arrival g s (take k ts) ≡ arrival g s (take j ts) = sym (state-after g s ts k hk) ∙ r .same ∙ at-j in (
         s,
-        (b, front g (Unfinished g) stop (Unfinished g) s ts k w hk k-unfinished),
+        (w .0, after-front g (λ x. Unit) (Unfinished g) (Unfinished g) (Unfinished g) s ts k (w .1) hk (λ i h. later-unfinished i (omega arith))),
         omega arith,
         rw (take-take j k ts (omega arith)) returns,
         rw (lk, visits-take g s ts k hk, take-take k (suc k) xs (omega arith)) (different-take xs k (r .apart)),
@@ -187,28 +261,32 @@ module _ (g : Graph) (stop : ℕ → Type 0) (s : ℕ) (ts : List ℕ) (b : Begi
 
   pub long-shown : Closed g → states g ≤ length ts → (k : ℕ) × (j : ℕ) × LoopShown g (take k ts) j × (k ≤ length ts)
   long-shown closed h =
-      let r = long-repeat g stop s ts (start-below g s b) w closed h in
+      let r = long-repeat g (λ x. Unit) (λ x. Unit) s ts (start-below g s (w .0)) walked closed h in
       (r .later, r .earlier, repeat-shown r, omega (arith, length-visits g s ts))
 
 module _ (g : Graph) where
   -- every endless walk has a front that may be shown: its first k transitions, for some k ..
   pub endless-shown : Closed g → (s : ℕ) (taken : ℕ → ℕ) → EndlessWalk g s taken
       → (k : ℕ) × (j : ℕ) × LoopShown g (run taken 0 k) j
-  endless-shown closed s taken (b, e) =
+  endless-shown closed s taken e =
       let n = states g in
       let l : length (run taken 0 n) ≡ n = length-run taken 0 n in
-      let (k, j, shown, h) = long-shown g (Unfinished g) s (run taken 0 n) b (run-walk g s taken e 0 n) closed (omega arith) in
+      let (k, j, shown, h) = long-shown g s (run taken 0 n) (run-begun g s taken e n) closed (omega arith) in
       (k, j, subst (λ (us : List ℕ). LoopShown g us j) (take-run taken 0 k n (omega arith)) shown)
 
   -- .. and what is shown goes on forever: it is the front of an endless walk
   pub shown-endless : (ts : List ℕ) (j : ℕ) → LoopShown g ts j
       → (s : ℕ) × (taken : ℕ → ℕ) × EndlessWalk g s taken × (run taken 0 (length ts) ≡ ts)
-  shown-endless ts j (s, (b, w), l, e, d) =
+  shown-endless ts j (s, w, l, e, d) =
+      let k = length ts in
       let same = state-last g s ts ∙ e ∙ sym (state-after g s ts j (le-of-lt l)) in
-      let endless = repeated-endless g (Unfinished g) s ts w j (length ts) l (le-refl (length ts)) same in
-      (s, round ts j (length ts), (b, endless), run-round ts j)
+      let v = walked g s ts w in
+      let departs = round-departs g (λ x. Unit) (λ x. Unit) s ts v j k l (le-refl k) same in
+      let at = round-arrives g (λ x. Unit) (λ x. Unit) s ts v j k l (le-refl k) same in
+      let arrives : (i : ℕ) → Unfinished g (to g (round ts j k i)) = λ i. rw (at i .2) (later-unfinished g s ts w (at i .0) (at i .1)) in
+      (s, round ts j k, (w .0, endless-at g s (round ts j k) departs arrives), run-round ts j)
 
--- ---- 4
+-- ---- 5
 
 pub simple-or-endless : (g : Graph) (stop : ℕ → Type 0) (s : ℕ) (ts : List ℕ) → WalkTo g (Unfinished g) stop s ts
     → ((taken : ℕ → ℕ) × EndlessFrom g s taken) ⊎ Different (visits g s ts)

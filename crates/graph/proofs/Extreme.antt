@@ -7,6 +7,7 @@
 -- are before all costs are before each other, so they are equal (`extreme-unique`). Assumes nothing.
 use Prim.Native.Nat.{ℕ, _≤_, min, max}
 use mathlib.Core.Path.{_≡_, refl, _∙_}
+use mathlib.Core.Bool.{false, false≢true}
 use mathlib.Core.Logic.{_⊎_, inl, inr}
 use mathlib.Core.List.{List, [], _∷_, List·Memᴰ·head, List·Memᴰ·tail, List·Memᴰ·cases-cons, List·Memᴰ·not-nil}
 use mathlib.Core.List.{List·Memᴰ·eq-of-singleton}
@@ -15,11 +16,13 @@ use native.Mathlib.Nat.{le-refl, le-trans, le-antisymm, min-le-left, min-le-righ
 use native.Mathlib.Nat.{min-eq-left, min-eq-right, max-eq-left, max-eq-right}
 use native.Mathlib.Decide.{decLe}
 use native.Mathlib.Omega.{arith}
-use Rattle.graph.specs.Graph.{Graph, final}
+use lib.ListN.{length}
+use Rattle.graph.specs.Graph.{Graph, states, final, Final, Unfinished}
 use Rattle.graph.specs.Route.{Route, Cost, total}
 use Rattle.graph.specs.Figure.{Figure, number, NONE, STRANDED, ENDLESS, Attained, Extreme}
 use Rattle.graph.specs.Compute.{fold, extreme, costs, within}
-use Rattle.graph.proofs.Listed.{_∈_, of-within}
+use Rattle.graph.proofs.Listed.{_∈_, Yes, of-within, in-within}
+use Rattle.graph.proofs.Walks.{after-with}
 
 pub record Picks (pick : ℕ → ℕ → ℕ) (before : ℕ → ℕ → Type 0) : Type 0 where
   pub either : (a b : ℕ) → (pick a b ≡ a) ⊎ (pick a b ≡ b)
@@ -65,17 +68,19 @@ picks-max = record {
     go a b (no h) = inr (max-eq-right (omega arith))
 
 module _ (g : Graph) (c : Cost) where
-  -- what is listed is what some route costs, and what a route of fewer than n transitions costs is listed
+  -- what is listed is what some route costs, and what a route of at most n transitions costs is listed
   of-costs : (k : ℕ) → k ∈ costs g c → Attained g c k
   unfolding costs
   of-costs k m =
-      let (r, n, q) = Memᴰ·of-map (λ r. total g c (r .0) (r .1)) (within g (final g)) m in
-      let (b, w) = of-within g (final g) r n in
-      (r .0, r .1, (b, w), q)
+      let (r, n, q) = Memᴰ·of-map (λ r. total g c (r .0) (r .1)) (within g (λ s. false) (final g)) m in
+      let (b, w) = of-within g (λ s. false) (final g) r n in
+      (r .0, r .1, (b, after-with g (Yes (λ s. false)) (Unfinished g) (Final g) (λ s. ⊥) (Final g) (λ x e. false≢true e) (λ x f. f) (r .0) (r .1) w), q)
 
-  pub in-costs : (s : ℕ) (ts : List ℕ) → (s, ts) ∈ within g (final g) → total g c s ts ∈ costs g c
+  pub in-costs : (s : ℕ) (ts : List ℕ) → Route g s ts → length ts ≤ states g → total g c s ts ∈ costs g c
   unfolding costs
-  in-costs s ts m = Memᴰ·map (λ r. total g c (r .0) (r .1)) m
+  in-costs s ts (b, w) h =
+      Memᴰ·map (λ r. total g c (r .0) (r .1)) (in-within g (λ s. false) (final g) s ts
+      (b, after-with g (λ s. ⊥) (Unfinished g) (Final g) (Yes (λ s. false)) (Final g) (λ x e. absurd e) (λ x f. f) s ts w) h)
 
 module _ (pick : ℕ → ℕ → ℕ) (before : ℕ → ℕ → Type 0) (P : Picks pick before) where
   pub fold-in : (x : ℕ) (xs : List ℕ) → fold pick x xs ∈ (x ∷ xs)

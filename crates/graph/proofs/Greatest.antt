@@ -1,36 +1,38 @@
 -- The greatest figure exists, is one, and can be shown: for any cost.
 --
--- 1. Each of the tests says yes exactly when what it asks for exists. An endless walk exists exactly when n transitions
---    can be walked from a start through unfinished states (Endless.antt). A walk to a dead end has a simple one, of
---    fewer than n transitions, and so has one to a state that an open transition leaves (Open.antt). A call can go on
+-- 1. Each of the tests says yes exactly when what it asks for exists. An endless walk exists exactly when a first step from a start and n transitions
+--    through unfinished states after it can be walked (Endless.antt). A walk to a dead end has a simple one, of
+--    at most n transitions, and so has one to a state that an open transition leaves (Open.antt). A call can go on
 --    forever where one of the two walks exists (`goes-on`).
--- 2. Where neither an endless walk nor a walk to a dead end exists, every start leads to an answer: walk on from it,
+-- 2. Where neither an endless walk nor a walk to a dead end exists, every start leads to an answer: a transition leaves it; walk on from where that leads,
 --    and within n transitions it ends in a final state, as it can neither be stuck nor go on (`go-on`).
--- 3. There, too, every route is simple, so its cost is listed: the largest of the list is the largest over all routes.
---    By 2 the list is not empty.
+-- 3. There, too, every route visits no state twice but for its ends (`route-simple`), so its cost is listed: the largest of the list is the largest over all
+--    routes. By 2 the list is not empty.
 -- 4. So what is computed is the greatest figure (`greatest-is`); each kind excludes the ones after it, so it is the
 --    only one (`greatest-unique`); and each kind can be shown (`greatest-shown`).
 -- Assumes nothing.
 use Prim.Native.Nat.{ℕ, zero, suc, max}
-use mathlib.Core.Path.{_≡_, refl, sym, ap, subst}
-use mathlib.Core.Bool.{Bool, true, false, not, cond, _||_}
+use mathlib.Core.Path.{_≡_, refl, sym, _∙_, ap, subst}
+use mathlib.Core.Bool.{Bool, true, false, not, cond, _||_, false≢true}
 use mathlib.Core.Logic.{_⊎_, inl, inr}
 use mathlib.Core.List.{List, [], _∷_}
 use native.Mathlib.Nat.{le-of-eq, le-refl}
 use lib.ListN.{length}
-use Rattle.graph.specs.Graph.{Graph, states, start, final, to, Departs, Final, Unfinished, DeadEnd, Closed}
-use Rattle.graph.specs.Walk.{Begins, visits, UnfinishedFrom, Different, EndlessFrom}
-use Rattle.graph.specs.Route.{RouteFrom, Route, LeadsToAnswer, StrandedFrom, HasEndlessWalk, GoesOnForever, EndsUnanswered}
+use borrow.Author.Tests.{not-true}
+use Rattle.graph.specs.Graph.{Graph, states, start, final, to, Departs, Final, Unfinished, NoneDeparts, DeadEnd, Closed}
+use Rattle.graph.specs.Walk.{Begins, AfterStart, visits, arrival, UnfinishedFrom, Different, DifferentButEnds, EndlessFrom}
+use Rattle.graph.specs.Route.{RouteFrom, Route, LeadsToAnswer, StrandedFrom, StrandedWalk, HasEndlessWalk, GoesOnForever, EndsUnanswered}
 use Rattle.graph.specs.Route.{Cost, total}
 use Rattle.graph.specs.Figure.{Figure, number, NONE, STRANDED, ENDLESS, IsGreatest, NoStart, Shown}
 use Rattle.graph.specs.Compute.{leaving, deadEnd, extreme, begun, within, costs, anyStart, anyEndless}
 use Rattle.graph.specs.Compute.{anyOpen, anyStranded, greatest}
 use Rattle.graph.proofs.Tests.{decided, or-cases, or-left, or-right, Tests, refuted, any-of, in-any}
-use Rattle.graph.proofs.Walks.{start-below, with-stop}
-use Rattle.graph.proofs.Simple.{simple, simple-length, short-length}
-use Rattle.graph.proofs.Endless.{run, length-run, run-walk, long-endless, endless-shown, simple-or-endless}
+use Rattle.graph.proofs.Repeat.{different-one, different-ends}
+use Rattle.graph.proofs.Walks.{start-below, stopped, with-stop, after-with}
+use Rattle.graph.proofs.Simple.{SimpleBegun, simple-begun, begun-length, returns-last}
+use Rattle.graph.proofs.Endless.{run, length-run, run-walk, long-endless, then, then-endless, endless-begun, endless-shown, simple-or-endless}
 use Rattle.graph.proofs.Listed.{_∈_, Yes, of-nonempty, in-nonempty, of-begun, in-begun, of-within, in-within}
-use Rattle.graph.proofs.Listed.{of-leaving, dead-end-is, of-deadEnd, in-deadEnd}
+use Rattle.graph.proofs.Listed.{of-leaving, in-leaving, dead-end-is, of-deadEnd, in-deadEnd}
 use Rattle.graph.proofs.Open.{any-open, open-shown}
 use Rattle.graph.proofs.Extreme.{AtLeast, picks-max, Covered, IsExtreme, in-costs, extreme-is, extreme-unique}
 
@@ -53,36 +55,61 @@ module _ (g : Graph) where
     sound = λ e.
         let (r, m) = of-nonempty (begun g unanswered (states g)) e in
         let l = of-begun g unanswered (states g) r m in
-        let (taken, walk) = long-endless g (Yes unanswered) (r .0) (r .1) (start-below g (r .0) (l .begins)) (l .walk) closed (le-of-eq (sym (l .size))) in
-        (r .0, taken, (l .begins, walk));
-    complete = λ (s, taken, (b, e)).
-        let ts = run taken 0 (states g) in
-        let u = run-walk g s taken e 0 (states g) in
-        let w = with-stop g (Unfinished g) (Unfinished g) (Yes unanswered) (λ x u. ap not u) s ts u in
-        let m = in-begun g unanswered s ts b w in
+        let (d, w) = l .step in
+        let (taken, walk) = long-endless g (Yes unanswered) (to g (l .first)) (l .rest) (closed (l .first) (d .listed)) w closed (le-of-eq (sym (l .size))) in
+        (r .0, then (l .first) taken, then-endless g (r .0) (l .first) taken (l .begins) d walk);
+    complete = λ (s, taken, (b, (d, e))).
+        let x = to g (taken 0) in
+        let after : ℕ → ℕ = λ i. taken (suc i) in
+        let ts = run after 0 (states g) in
+        let w = with-stop g (Unfinished g) (Unfinished g) (Yes unanswered) (λ x u. ap not u) x ts (run-walk g x after e 0 (states g)) in
+        let m = in-begun g unanswered s (taken 0) ts b (d, w) in
         in-nonempty (begun g unanswered (states g))
-        (subst (λ (k : ℕ). (s, ts) ∈ begun g unanswered k) (length-run taken 0 (states g)) m);
+        (subst (λ (k : ℕ). (s, taken 0 ∷ ts) ∈ begun g unanswered k) (length-run after 0 (states g)) m);
   }
+
+  -- a walk to a dead end that visits no state twice
+  simple-stranded : (s : ℕ) (ts : List ℕ) → StrandedWalk g s ts → SimpleBegun g (NoneDeparts g) (DeadEnd g) s ts
+  simple-stranded s ts w = simple-begun g (NoneDeparts g) (DeadEnd g) (λ x u d. d .none-departs) s ts (w .1)
+
+  -- a start without transitions, by the test
+  of-none : (s : ℕ) → Yes (λ x. not (leaving g x)) s → NoneDeparts g s
+  of-none s e t d = false≢true (sym (not-true (leaving g s) e) ∙ in-leaving g s t d)
+
+  in-none : (s : ℕ) → NoneDeparts g s → Yes (λ x. not (leaving g x)) s
+  in-none s none = go (decided (leaving g s))
+    where
+      go : (leaving g s ≡ true) ⊎ (leaving g s ≡ false) → not (leaving g s) ≡ true
+      go (inl e) = let (t, d) = of-leaving g s e in absurd (none t d)
+      go (inr e) = ap not e
+
+  abbrev nowhere : ℕ → Bool
+  nowhere s = not (leaving g s)
 
   any-stranded : Closed g → Tests (anyStranded g) (EndsUnanswered g)
   unfolding anyStranded
   any-stranded closed = record {
     sound = λ e.
-        let (r, m) = of-nonempty (within g (deadEnd g)) e in
-        let (b, w) = of-within g (deadEnd g) r m in
-        (r .0, r .1, (b, with-stop g (Unfinished g) (Yes (deadEnd g)) (DeadEnd g) (of-deadEnd g) (r .0) (r .1) w));
-    complete = λ u.
-        let (s, ts, w) = u in
-        let q = simple g (Unfinished g) (DeadEnd g) s ts (w .1) in
-        let h = short-length g (Unfinished g) (DeadEnd g) closed s ts (w .0) q in
-        let v = with-stop g (Unfinished g) (DeadEnd g) (Yes (deadEnd g)) (in-deadEnd g) s (q .short) (q .walk) in
-        in-nonempty (within g (deadEnd g)) (in-within g (deadEnd g) s (q .short) (w .0) v h);
+        let (r, m) = of-nonempty (within g nowhere (deadEnd g)) e in
+        let (b, w) = of-within g nowhere (deadEnd g) r m in
+        (r .0, r .1, (b, after-with g (Yes nowhere) (Unfinished g) (Yes (deadEnd g)) (NoneDeparts g) (DeadEnd g) of-none (of-deadEnd g) (r .0) (r .1) w));
+    complete = λ (s, ts, w).
+        let q = simple-stranded s ts w in
+        let h = begun-length g (NoneDeparts g) (DeadEnd g) closed s (q .short) (w .0, q .walk) (q .different) in
+        let v = after-with g (NoneDeparts g) (Unfinished g) (DeadEnd g) (Yes nowhere) (Yes (deadEnd g)) in-none (in-deadEnd g) s (q .short) (q .walk) in
+        in-nonempty (within g nowhere (deadEnd g)) (in-within g nowhere (deadEnd g) s (q .short) (w .0, v) h);
   }
+
+-- the last state of a walk to a dead end is unfinished, unless it is a start alone
+stranded-apart : (g : Graph) (s : ℕ) (ts : List ℕ) → AfterStart g (NoneDeparts g) (StrandedFrom g) s ts
+    → (Unfinished g (arrival g s ts) → Different (visits g s ts)) → Different (visits g s ts)
+stranded-apart g s [] w d = different-one s
+stranded-apart g s (t ∷ ts) w d = d (stopped g (Unfinished g) (DeadEnd g) (to g t) ts (w .1) .unfinished)
 
 -- whatever goes on forever begins at a start
 pub forever-begins : (g : Graph) (c : Cost) → GoesOnForever g c → (s : ℕ) × Begins g s
 forever-begins g c (inl (s, taken, (b, e))) = (s, b)
-forever-begins g c (inr (s, ts, (b, w))) = (s, b)
+forever-begins g c (inr (s, ts, w)) = (s, w .unfinished .0)
 
 goes-on : (g : Graph) (c : Cost) → Closed g → Tests (anyEndless g || anyOpen g c) (GoesOnForever g c)
 goes-on g c closed = record { sound = λ e. of-either (or-cases (anyEndless g) (anyOpen g c) e); complete = in-either }
@@ -123,32 +150,46 @@ module _ (g : Graph) where
       here (inr u) (inl l) rest = let (t, d) = of-leaving g s l in one-more k s t u d (rest t)
       here (inr u) (inr l) rest = inr (inl ([], dead-end-is g s u l))
 
+  -- from a start: a first step, whatever its own mark, or it is a dead end
   pub leads-to-answer : Closed g → (HasEndlessWalk g → ⊥) → (EndsUnanswered g → ⊥) → (s : ℕ) → Begins g s
       → LeadsToAnswer g s
-  leads-to-answer closed finite unstranded s b = go (go-on (states g) s)
+  leads-to-answer closed finite unstranded s b = go (decided (leaving g s))
     where
-      go : Onward (states g) s → LeadsToAnswer g s
-      go (inl (ts, w)) = (ts, (b, w))
-      go (inr (inl (ts, w))) = absurd (unstranded (s, ts, (b, w)))
-      go (inr (inr (ts, w, l))) =
-          let (taken, e) = long-endless g (Unfinished g) s ts (start-below g s b) w closed (le-of-eq (sym l)) in
-          absurd (finite (s, taken, (b, e)))
+      on : (t : ℕ) → Departs g s t → Onward (states g) (to g t) → LeadsToAnswer g s
+      on t d (inl (ts, w)) = (t ∷ ts, (b, (d, w)))
+      on t d (inr (inl (ts, w))) = absurd (unstranded (s, t ∷ ts, (b, (d, w))))
+      on t d (inr (inr (ts, w, l))) =
+          let (taken, e) = long-endless g (Unfinished g) (to g t) ts (closed t (d .listed)) w closed (le-of-eq (sym l)) in
+          absurd (finite (s, then t taken, then-endless g s t taken b d e))
+
+      go : (leaving g s ≡ true) ⊎ (leaving g s ≡ false) → LeadsToAnswer g s
+      go (inl l) = let (t, d) = of-leaving g s l in on t d (go-on (states g) (to g t))
+      go (inr l) = absurd (unstranded (s, [], (b, of-none g s (ap not l))))
 
 -- ---- 3
 
--- every route is simple
+-- every route visits no state twice but for its ends
 pub route-simple : (g : Graph) → (HasEndlessWalk g → ⊥) → (s : ℕ) (ts : List ℕ) → Route g s ts
-    → Different (visits g s ts)
-route-simple g finite s ts r = go (simple-or-endless g (Final g) s ts (r .1))
+    → DifferentButEnds (visits g s ts)
+route-simple g finite s [] (b, w) = absurd w
+route-simple g finite s (t ∷ ts) (b, (d, w)) = go (decided (final g s))
   where
-    go : ((taken : ℕ → ℕ) × EndlessFrom g s taken) ⊎ Different (visits g s ts) → Different (visits g s ts)
-    go (inl (taken, e)) = absurd (finite (s, taken, (r .0, e)))
-    go (inr d) = d
+    rest : ((taken : ℕ → ℕ) × EndlessFrom g (to g t) taken) ⊎ Different (visits g (to g t) ts) → Different (visits g (to g t) ts)
+    rest (inl (taken, e)) = absurd (finite (s, then t taken, then-endless g s t taken b d e))
+    rest (inr e) = e
+
+    whole : ((taken : ℕ → ℕ) × EndlessFrom g s taken) ⊎ Different (visits g s (t ∷ ts)) → Different (visits g s (t ∷ ts))
+    whole (inl (taken, e)) = absurd (finite (s, taken, endless-begun g s taken b e))
+    whole (inr e) = e
+
+    go : (final g s ≡ true) ⊎ (final g s ≡ false) → DifferentButEnds (visits g s (t ∷ ts))
+    go (inl f) = returns-last g (λ x. ⊥) (Final g) s t ts f w (rest (simple-or-endless g (Final g) (to g t) ts w))
+    go (inr u) = different-ends (visits g s (t ∷ ts)) (whole (simple-or-endless g (Final g) s (t ∷ ts) (u, d, w)))
 
 cover : (g : Graph) (c : Cost) → Closed g → (HasEndlessWalk g → ⊥) → Covered max AtLeast picks-max g c
 cover g c closed finite s ts r =
-    let h = simple-length g (Unfinished g) (Final g) closed s ts r (route-simple g finite s ts r) in
-    (total g c s ts, in-costs g c s ts (in-within g (final g) s ts (r .0) (r .1) h), le-refl (total g c s ts))
+    let h = begun-length g (λ x. ⊥) (Final g) closed s ts r (route-simple g finite s ts r) in
+    (total g c s ts, in-costs g c s ts r h, le-refl (total g c s ts))
 
 -- ---- 4
 
@@ -215,8 +256,8 @@ module _ (g : Graph) (c : Cost) where
       go (inr w) = let (ts, shown) = open-shown g c w in (ts, length ts, inr shown)
   greatest-shown closed STRANDED u =
       let (s, ts, w) = u .2 in
-      let q = simple g (Unfinished g) (DeadEnd g) s ts (w .1) in
-      (q .short, 0, (s, (w .0, q .walk), q .different, refl))
+      let q = simple-stranded g s ts w in
+      (q .short, 0, (s, (w .0, q .walk), stranded-apart g s (q .short) (q .walk) (λ v. q .unanswered (rw (sym (q .ends)) v)), refl))
   greatest-shown closed (number k) u =
       let (s, ts, r, q) = u .3 .attained in
       (ts, 0, (s, r, q, route-simple g (λ e. u .1 (inl e)) s ts r, refl))

@@ -1,4 +1,4 @@
--- P1 to P9, the plans that mislead and those with open highs, hold of the rules themselves: one computed test over the tables, and one lemma
+-- P1 to P9, the plans that mislead, those with open highs and those that begin answered hold of the rules themselves: one computed test over the tables, and one lemma
 -- that turns it into the rules.
 --
 -- The test computes the four figures of a row's plan and compares them with the row's, and looks that each transition
@@ -14,7 +14,7 @@ use lib.Dec.{T, eqb, ltb, lit<}
 use lib.ListN.{length, getD}
 use borrow.Author.Tests.{eqb-true}
 use Rattle.graph.specs.Graph.{count, start, final, counted, from, to, low, high, Departs}
-use Rattle.graph.specs.Walk.{visits, Different}
+use Rattle.graph.specs.Walk.{visits, DifferentButEnds}
 use Rattle.graph.specs.Route.{Route}
 use Rattle.graph.specs.declared.Which.{Which}
 use Rattle.graph.specs.declared.Which.the-variants.{LeastDelay, GreatestDelay, LeastCount, GreatestCount}
@@ -23,6 +23,7 @@ use Rattle.graph.specs.Figure.{Figure, number, NONE, STRANDED, ENDLESS, 
 use Rattle.graph.specs.Compute.{closed, figureFor}
 use Rattle.graph.specs.Known.{Row, RowRight, known, misleading, P1, P4, P7, P8, unreached-dead-end, reached-dead-end}
 use Rattle.graph.specs.Known.{counted-ends, opened, open-reached, open-unreached, open-answered, open-and-stranded}
+use Rattle.graph.specs.Known.{P2, answered, answered-returns, answered-loop, answered-alone, answered-open}
 use Rattle.graph.proofs.Listed.{of-closed}
 use Rattle.graph.proofs.Figures.{figure-is}
 use Rattle.graph.proofs.Greatest.{route-simple}
@@ -89,15 +90,15 @@ all-hold (r ∷ rs) e zero h = holds r (both (right r) (all-right rs) e .0)
 all-hold (r ∷ rs) e (suc i) h = all-hold rs (both (right r) (all-right rs) e .1) i (le-of-suc-le-suc h)
 
 -- "P1 to P9 are shown to hold of the rules themselves, gathered into a table with one proof for the lot"; and so are
--- the plans that mislead, and those with open highs
-pub known-hold : (i : ℕ) → i < length (known ++ misleading ++ opened) → RowRight (getD (known ++ misleading ++ opened) i P1)
+-- the plans that mislead, those with open highs, and those that begin answered
+pub known-hold : (i : ℕ) → i < length (known ++ misleading ++ opened ++ answered) → RowRight (getD (known ++ misleading ++ opened ++ answered) i P1)
 unfolding all-right start final counted from to low high
-known-hold = all-hold (known ++ misleading ++ opened) refl
+known-hold = all-hold (known ++ misleading ++ opened ++ answered) refl
 
 -- ---- the walks that 01 prints for P1
 
--- no walk of P1 is endless, so each of its routes visits no state twice
-P1-different : (s : ℕ) (ts : List ℕ) → Route (P1 .plan) s ts → Different (visits (P1 .plan) s ts)
+-- no walk of P1 is endless, so each of its routes visits no state twice but for its ends
+P1-different : (s : ℕ) (ts : List ℕ) → Route (P1 .plan) s ts → DifferentButEnds (visits (P1 .plan) s ts)
 P1-different s ts r = route-simple (P1 .plan) (λ e. known-hold 0 (lit< tt) GreatestDelay .1 (inl e)) s ts r
 
 takes : (s t : ℕ) → T (ltb t (count (P1 .plan))) → from (P1 .plan) t ≡ s → Departs (P1 .plan) s t
@@ -106,12 +107,12 @@ takes s t l e = record { listed = lit< l; source = e }
 -- 0→1, 1→3
 P1-short : Route (P1 .plan) 0 (0 ∷ 2 ∷ [])
 unfolding start final from to
-P1-short = (refl, (refl, takes 0 0 tt refl, (refl, takes 1 2 tt refl, refl)))
+P1-short = (refl, (takes 0 0 tt refl, (refl, takes 1 2 tt refl, refl)))
 
 -- 0→1, 1→2, 2→3
 P1-long : Route (P1 .plan) 0 (0 ∷ 1 ∷ 3 ∷ [])
 unfolding start final from to
-P1-long = (refl, (refl, takes 0 0 tt refl, (refl, takes 1 1 tt refl, (refl, takes 2 3 tt refl, refl))))
+P1-long = (refl, (takes 0 0 tt refl, (refl, takes 1 1 tt refl, (refl, takes 2 3 tt refl, refl))))
 
 -- "least delay 7: 0 2"
 pub P1-least-delay : Shown (P1 .plan) (costFor LeastDelay (P1 .plan)) (number 7) (0 ∷ 2 ∷ []) 0
@@ -165,13 +166,31 @@ both-ends-count = known-hold 11 (lit< tt) LeastCount
 pub delay-alone : IsFigure GreatestDelay (open-reached .plan) ENDLESS × IsFigure GreatestCount (open-reached .plan) (number 1)
 delay-alone = (known-hold 12 (lit< tt) GreatestDelay, known-hold 12 (lit< tt) GreatestCount)
 
--- nor where no start reaches it, nor out of a final state
+-- nor where no start reaches it, nor out of a final state that the walk arrived at
 pub unreached-open : IsFigure GreatestDelay (open-unreached .plan) (number 3)
 unreached-open = known-hold 13 (lit< tt) GreatestDelay
 
-pub answered-open : IsFigure GreatestDelay (open-answered .plan) (number 2)
-answered-open = known-hold 14 (lit< tt) GreatestDelay
+pub arrived-open : IsFigure GreatestDelay (open-answered .plan) (number 2)
+arrived-open = known-hold 14 (lit< tt) GreatestDelay
 
 -- one plan with both: ENDLESS comes first for the delay, and the count is STRANDED
 pub open-first : IsFigure GreatestDelay (open-and-stranded .plan) ENDLESS × IsFigure GreatestCount (open-and-stranded .plan) STRANDED
 open-first = (known-hold 16 (lit< tt) GreatestDelay, known-hold 16 (lit< tt) GreatestCount)
+
+-- ---- "Its first state may be final" (document 02, E5)
+
+-- "P2 gets P3's figures"
+pub P2-stranded : IsFigure LeastDelay (P2 .plan) NONE × IsFigure GreatestDelay (P2 .plan) STRANDED
+P2-stranded = (known-hold 1 (lit< tt) LeastDelay, known-hold 1 (lit< tt) GreatestDelay)
+
+-- "such a state counts twice if counted"
+pub returns-counted : IsFigure LeastCount (answered-returns .plan) (number 2) × IsFigure GreatestCount (answered-returns .plan) (number 2)
+returns-counted = (known-hold 19 (lit< tt) LeastCount, known-hold 19 (lit< tt) GreatestCount)
+
+-- "An endless or stranded walk, or one that takes an open high, likewise may begin at a final start"
+pub answered-forever : IsFigure GreatestDelay (answered-loop .plan) ENDLESS × IsFigure GreatestDelay (answered-open .plan) ENDLESS
+answered-forever = (known-hold 20 (lit< tt) GreatestDelay, known-hold 24 (lit< tt) GreatestDelay)
+
+-- "a start without transitions is a dead end", also beside a good one
+pub alone-stranded : IsFigure LeastDelay (answered-alone .plan) (number 1) × IsFigure GreatestDelay (answered-alone .plan) STRANDED
+alone-stranded = (known-hold 23 (lit< tt) LeastDelay, known-hold 23 (lit< tt) GreatestDelay)

@@ -2,11 +2,11 @@
 --
 -- First what is in a list that is taken by a test, gathered over numbers, or not empty. Then, by recursion on the
 -- number of transitions, a list of transitions is in `walks` exactly when it is a walk of that length through
--- unfinished states to a state where the test says yes; `begun` adds the start, and `within` all lengths below n. Last,
--- the test for a dead end says yes exactly at a dead end. Assumes nothing.
-use Prim.Native.Nat.{ℕ, zero, suc, _<_}
+-- unfinished states to a state where the test says yes; `begun` adds a first step from a start, and `within` all lengths below n after it, and starts
+-- alone. Last, the test for a dead end says yes exactly at a dead end. Assumes nothing.
+use Prim.Native.Nat.{ℕ, zero, suc, _≤_, _<_}
 use mathlib.Core.Path.{_≡_, refl, sym, _∙_, ap, subst}
-use mathlib.Core.Bool.{Bool, true, false, not, false≢true, and-eq-true-iff}
+use mathlib.Core.Bool.{Bool, true, false, not, _&&_, false≢true, and-eq-true-iff}
 use mathlib.Core.Logic.{_⊎_, inl, inr}
 use mathlib.Core.List.{List, [], _∷_, _++_, map, List·Memᴰ, List·Memᴰ·head, List·Memᴰ·not-nil}
 use mathlib.Core.List.{List·Memᴰ·eq-of-singleton, List·Memᴰ·append-cases, Memᴰ·append-left, Memᴰ·append-right, Memᴰ·map}
@@ -18,8 +18,8 @@ use lib.Dec.{eqb, ltb}
 use lib.ListN.{length}
 use borrow.Author.Tests.{eqb-true, eq-eqb, ltb-true, not-true, not-false}
 use Rattle.graph.specs.Graph.{Graph, states, count, start, final, from, to, Departs, Unfinished, DeadEnd, Closed}
-use Rattle.graph.specs.Walk.{Begins, WalkTo}
-use Rattle.graph.specs.Compute.{given, gather, nonempty, any, closed, leaving, deadEnd, walks, begun, within}
+use Rattle.graph.specs.Walk.{Begins, FirstStep, AfterStart, Begun, WalkTo}
+use Rattle.graph.specs.Compute.{given, gather, nonempty, any, closed, leaving, deadEnd, onward, walks, begun, within}
 use Rattle.graph.proofs.Tests.{decided, any-of, in-any, none-of}
 use Rattle.graph.proofs.Walks.{start-below}
 
@@ -65,14 +65,28 @@ module _ {A : Type 0} where
 abbrev pub Yes : (ℕ → Bool) → ℕ → Type 0
 Yes p s = p s ≡ true
 
+-- a transition out of s, and one of the lists from where it leads
+module _ (g : Graph) (rest : ℕ → List (List ℕ)) (s : ℕ) where
+  abbrev by : ℕ → List (List ℕ)
+  by t = given (eqb (from g t) s) (map (λ ts. t ∷ ts) (rest (to g t)))
+
+  of-onward : (ts : List ℕ) → ts ∈ onward g rest s → (t : ℕ) × (us : List ℕ) × Departs g s t × (us ∈ rest (to g t)) × (t ∷ us ≡ ts)
+  unfolding onward
+  of-onward ts m =
+      let (t, h, m₁) = of-gather by (count g) m in
+      let (e, m₂) = of-given (eqb (from g t) s) m₁ in
+      let (us, m₃, q) = Memᴰ·of-map (λ ts. t ∷ ts) (rest (to g t)) m₂ in
+      (t, us, record { listed = h; source = eqb-true (from g t) s e }, m₃, q)
+
+  in-onward : (t : ℕ) (us : List ℕ) → Departs g s t → us ∈ rest (to g t) → (t ∷ us) ∈ onward g rest s
+  unfolding onward
+  in-onward t us d m =
+      in-gather by (count g) t (d .listed) (in-given (eqb (from g t) s) (eq-eqb (from g t) s (d .source)) (Memᴰ·map (λ ts. t ∷ ts) m))
+
 module _ (g : Graph) (stop : ℕ → Bool) where
   -- a walk of that length, through unfinished states to a yes
   abbrev Walked : ℕ → ℕ → List ℕ → Type 0
   Walked k s ts = WalkTo g (Unfinished g) (Yes stop) s ts × (length ts ≡ k)
-
-  -- the walks from s that begin with t
-  abbrev through : ℕ → ℕ → ℕ → List (List ℕ)
-  through k s t = given (eqb (from g t) s) (map (λ ts. t ∷ ts) (walks g stop k (to g t)))
 
   of-walks : (k s : ℕ) (ts : List ℕ) → ts ∈ walks g stop k s → Walked k s ts
   unfolding walks
@@ -81,59 +95,76 @@ module _ (g : Graph) (stop : ℕ → Bool) where
       subst (Walked 0 s) (sym (List·Memᴰ·eq-of-singleton n)) (e, refl)
   of-walks (suc k) s ts m =
       let (u, m₁) = of-given (not (final g s)) m in
-      let (t, h, m₂) = of-gather (through k s) (count g) m₁ in
-      let (e, m₃) = of-given (eqb (from g t) s) m₂ in
-      let (us, m₄, q) = Memᴰ·of-map (λ ts. t ∷ ts) (walks g stop k (to g t)) m₃ in
-      let (w, l) = of-walks k (to g t) us m₄ in
-      subst (Walked (suc k) s) q ((not-true (final g s) u, record { listed = h; source = eqb-true (from g t) s e }, w), ap suc l)
+      let (t, us, d, m₂, q) = of-onward g (λ x. walks g stop k x) s ts m₁ in
+      let (w, l) = of-walks k (to g t) us m₂ in
+      subst (Walked (suc k) s) q ((not-true (final g s) u, d, w), ap suc l)
 
   in-walks : (s : ℕ) (ts : List ℕ) → WalkTo g (Unfinished g) (Yes stop) s ts → ts ∈ walks g stop (length ts) s
   unfolding walks
   in-walks s [] w = in-given (stop s) w (List·Memᴰ·head refl)
   in-walks s (t ∷ ts) w =
-      in-given (not (final g s)) (ap not (w .0))
-      (in-gather (through (length ts) s) (count g) t (w .1 .listed)
-      (in-given (eqb (from g t) s) (eq-eqb (from g t) s (w .1 .source))
-      (Memᴰ·map (λ ts. t ∷ ts) (in-walks (to g t) ts (w .2)))))
+      in-given (not (final g s)) (ap not (w .0)) (in-onward g (λ x. walks g stop (length ts) x) s t ts (w .1) (in-walks (to g t) ts (w .2)))
 
-  -- the walks from s, with s, where s is a start
-  abbrev beginning : ℕ → ℕ → List (ℕ × List ℕ)
-  beginning k s = given (start g s) (map (λ ts. (s, ts)) (walks g stop k s))
-
-  -- a walk of the plan of that length, through unfinished states to a yes
+  -- a walk from a start: a first step, and that many transitions after it, through unfinished states to a yes
   pub record Listed (k : ℕ) (r : ℕ × List ℕ) : Type 0 where
     pub begins : Begins g (r .0)
-    pub walk : WalkTo g (Unfinished g) (Yes stop) (r .0) (r .1)
-    pub size : length (r .1) ≡ k
+    pub first : ℕ
+    pub rest : List ℕ
+    pub step : FirstStep g (WalkTo g (Unfinished g) (Yes stop)) (r .0) first rest
+    pub size : length rest ≡ k
+    pub is : first ∷ rest ≡ r .1
+
+  -- the walks with a first step from s, with s, where s is a start
+  abbrev beginning : ℕ → ℕ → List (ℕ × List ℕ)
+  beginning k s = given (start g s) (map (λ ts. (s, ts)) (onward g (walks g stop k) s))
 
   pub of-begun : (k : ℕ) (r : ℕ × List ℕ) → r ∈ begun g stop k → Listed k r
   unfolding begun
   of-begun k r m =
       let (s, h, m₁) = of-gather (beginning k) (states g) m in
       let (b, m₂) = of-given (start g s) m₁ in
-      let (ts, m₃, q) = Memᴰ·of-map {B = ℕ × List ℕ} (λ ts. (s, ts)) (walks g stop k s) m₂ in
-      let (w, l) = of-walks k s ts m₃ in
-      subst (Listed k) q (record { begins = b; walk = w; size = l })
+      let (ts, m₃, q) = Memᴰ·of-map {B = ℕ × List ℕ} (λ ts. (s, ts)) (onward g (walks g stop k) s) m₂ in
+      let (t, us, d, m₄, e) = of-onward g (walks g stop k) s ts m₃ in
+      let (w, l) = of-walks k (to g t) us m₄ in
+      subst (Listed k) q (record { begins = b; first = t; rest = us; step = (d, w); size = l; is = e })
 
-  pub in-begun : (s : ℕ) (ts : List ℕ) → Begins g s → WalkTo g (Unfinished g) (Yes stop) s ts
-      → (s, ts) ∈ begun g stop (length ts)
+  pub in-begun : (s t : ℕ) (ts : List ℕ) → Begins g s → FirstStep g (WalkTo g (Unfinished g) (Yes stop)) s t ts
+      → (s, t ∷ ts) ∈ begun g stop (length ts)
   unfolding begun
-  in-begun s ts b w =
+  in-begun s t ts b w =
       in-gather (beginning (length ts)) (states g) s (start-below g s b)
-      (in-given (start g s) b (Memᴰ·map (λ ts. (s, ts)) (in-walks s ts w)))
+      (in-given (start g s) b (Memᴰ·map (λ ts. (s, ts)) (in-onward g (walks g stop (length ts)) s t ts (w .0) (in-walks (to g t) ts (w .1)))))
 
-  pub of-within : (r : ℕ × List ℕ) → r ∈ within g stop
-      → Begins g (r .0) × WalkTo g (Unfinished g) (Yes stop) (r .0) (r .1)
-  unfolding within
-  of-within r m =
-      let (k, h, m₁) = of-gather (begun g stop) (states g) m in
-      let l = of-begun k r m₁ in
-      (l .begins, l .walk)
+module _ (g : Graph) (alone stop : ℕ → Bool) where
+  -- a start alone
+  abbrev single : ℕ → List (ℕ × List ℕ)
+  single s = given (start g s && alone s) ((s, []) ∷ [])
 
-  pub in-within : (s : ℕ) (ts : List ℕ) → Begins g s → WalkTo g (Unfinished g) (Yes stop) s ts → length ts < states g
-      → (s, ts) ∈ within g stop
+  -- a walk of the plan, a start alone of which `alone` says yes, or through unfinished states to a yes of `stop`
+  abbrev pub Ends : ℕ × List ℕ → Type 0
+  Ends r = Begun g (Yes alone) (WalkTo g (Unfinished g) (Yes stop)) (r .0) (r .1)
+
+  pub of-within : (r : ℕ × List ℕ) → r ∈ within g alone stop → Ends r
   unfolding within
-  in-within s ts b w h = in-gather (begun g stop) (states g) (length ts) h (in-begun s ts b w)
+  of-within r m = go (List·Memᴰ·append-cases (gather single (states g)) m)
+    where
+      go : (r ∈ gather single (states g)) ⊎ (r ∈ gather (begun g stop) (states g)) → Ends r
+      go (inl l) =
+          let (s, h, m₁) = of-gather single (states g) l in
+          let (e, m₂) = of-given (start g s && alone s) m₁ in
+          subst Ends (sym (List·Memᴰ·eq-of-singleton m₂)) (and-eq-true-iff (start g s) (alone s) .0 e)
+      go (inr l) =
+          let (k, h, m₁) = of-gather (begun g stop) (states g) l in
+          let q = of-begun g stop k r m₁ in
+          (q .begins, subst (AfterStart g (Yes alone) (WalkTo g (Unfinished g) (Yes stop)) (r .0)) (q .is) (q .step))
+
+  pub in-within : (s : ℕ) (ts : List ℕ) → Ends (s, ts) → length ts ≤ states g → (s, ts) ∈ within g alone stop
+  unfolding within
+  in-within s [] (b, a) h =
+      Memᴰ·append-left (gather (begun g stop) (states g))
+      (in-gather single (states g) s (start-below g s b) (in-given (start g s && alone s) (and-eq-true-iff (start g s) (alone s) .1 (b, a)) (List·Memᴰ·head refl)))
+  in-within s (t ∷ ts) (b, w) h =
+      Memᴰ·append-right (gather single (states g)) (in-gather (begun g stop) (states g) (length ts) h (in-begun g stop s t ts b w))
 
 -- ---- plans that lead nowhere else, and dead ends
 

@@ -1,8 +1,9 @@
 -- When a walk can take an open transition, and what follows where none can.
 --
--- 1. A walk that takes one is a walk of unfinished states to a state that an open transition leaves (`Ringing`), with that transition at its end; so
---    there is one exactly when such a state is reached, and the test of specs/Compute.antt says yes exactly then (`any-open`).
--- 2. The walk to that state has a simple one, and with the transition at its end it is what is shown: the states that it leaves differ (`open-shown`).
+-- 1. A walk that takes one is a walk of unfinished states to a state that an open transition leaves (`Opens`), with that transition at its end; so
+--    there is one exactly when such a state is reached, or is a start, and the test of specs/Compute.antt says yes exactly then (`any-open`).
+-- 2. The walk to that state has one that visits no state twice, since it ends unanswered or is a start alone, and with the transition at its end it is what is
+--    shown: the states that it leaves differ (`open-shown`).
 -- 3. Where no walk takes an open transition, no route does: every transition on one lasts a number of seconds (`limited`). So a greatest delay that is
 --    a number is the sum of the highs themselves (`highs-of`).
 -- 4. A cost without open transitions has no such walk (`none-open`): lows and counts pay no heed to them.
@@ -20,75 +21,85 @@ use lib.Seq.{take-append-seam}
 use borrow.Author.Tests.{eqb-true, eq-eqb, not-true}
 use Rattle.graph.specs.declared.Duration.the-variants.{Seconds, Open}
 use Rattle.graph.specs.Graph.{Graph, count, final, from, to, high, Departs, Final, Unfinished, Closed}
-use Rattle.graph.specs.Walk.{Begins, WalkFrom, visits, arrival, UnfinishedFrom, Different}
-use Rattle.graph.specs.Route.{Route, Cost, total, limit, seconds, isOpen, highs, delay, OpenFrom, HasOpenWalk}
+use Rattle.graph.specs.Walk.{AfterStart, WalkFrom, visits, arrival, UnfinishedFrom, UnfinishedWalk, Different, DifferentButEnds}
+use Rattle.graph.specs.Route.{Route, Cost, total, limit, seconds, isOpen, highs, delay, OpenWalk, HasOpenWalk}
 use Rattle.graph.specs.Figure.{OpenShown}
-use Rattle.graph.specs.Compute.{any, within, ringing, anyOpen}
+use Rattle.graph.specs.Compute.{within, opens, ringing, anyOpen}
 use Rattle.graph.proofs.Tests.{Tests, decided, any-of, in-any}
-use Rattle.graph.proofs.Repeat.{nth}
-use Rattle.graph.proofs.Walks.{length-visits, state-after, passed, departs-at, stopped, front, with-last, plain}
+use Rattle.graph.proofs.Repeat.{nth, different-one}
+use Rattle.graph.proofs.Walks.{length-visits, state-after, departs-at, stopped, after-plain, after-passed, after-stopped, after-with, after-last, after-front}
 use Rattle.graph.proofs.Cost.{delay-is}
 use Rattle.graph.proofs.Build.{visits-snoc, walk-snoc}
-use Rattle.graph.proofs.Simple.{simple, short-length}
+use Rattle.graph.proofs.Simple.{SimpleBegun, simple-begun, begun-length}
 use Rattle.graph.proofs.Listed.{Yes, of-nonempty, in-nonempty, of-within, in-within}
 
 module _ (g : Graph) (c : Cost) where
   -- ---- 1
 
-  -- an unfinished state, and an open transition that leaves it
-  pub record Ringing (s : ℕ) : Type 0 where
-    pub unfinished : Unfinished g s
+  -- an open transition leaves the state
+  pub record Opens (s : ℕ) : Type 0 where
     pub ring : ℕ
     pub departs : Departs g s ring
     pub unlimited : c .unlimited ring ≡ true
 
-  pub of-ringing : (s : ℕ) → ringing g c s ≡ true → Ringing s
-  unfolding ringing
-  of-ringing s e =
-      let (u, v) = and-eq-true-iff (not (final g s)) (any (λ t. eqb (from g t) s && c .unlimited t) (count g)) .0 e in
-      let (t, h, q) = any-of (λ t. eqb (from g t) s && c .unlimited t) (count g) v in
-      let (d, o) = and-eq-true-iff (eqb (from g t) s) (c .unlimited t) .0 q in
-      record { unfinished = not-true (final g s) u; ring = t; departs = record { listed = h; source = eqb-true (from g t) s d }; unlimited = o }
+  abbrev leaves-open : ℕ → ℕ → Bool
+  leaves-open s t = eqb (from g t) s && c .unlimited t
 
-  pub in-ringing : (s : ℕ) → Ringing s → ringing g c s ≡ true
-  unfolding ringing
-  in-ringing s r =
+  of-opens : (s : ℕ) → opens g c s ≡ true → Opens s
+  unfolding opens
+  of-opens s e =
+      let (t, h, q) = any-of (leaves-open s) (count g) e in
+      let (d, o) = and-eq-true-iff (eqb (from g t) s) (c .unlimited t) .0 q in
+      record { ring = t; departs = record { listed = h; source = eqb-true (from g t) s d }; unlimited = o }
+
+  in-opens : (s : ℕ) → Opens s → opens g c s ≡ true
+  unfolding opens
+  in-opens s r =
       let t = r .ring in
-      let p : ℕ → Bool = λ t. eqb (from g t) s && c .unlimited t in
-      let here : p t ≡ true = and-eq-true-iff (eqb (from g t) s) (c .unlimited t) .1 (eq-eqb (from g t) s (r .departs .source), r .unlimited) in
-      and-eq-true-iff (not (final g s)) (any p (count g)) .1 (ap not (r .unfinished), in-any p (count g) t (r .departs .listed) here)
+      in-any (leaves-open s) (count g) t (r .departs .listed)
+      (and-eq-true-iff (eqb (from g t) s) (c .unlimited t) .1 (eq-eqb (from g t) s (r .departs .source), r .unlimited))
+
+  -- and the state is unfinished
+  of-ringing : (s : ℕ) → ringing g c s ≡ true → Unfinished g s × Opens s
+  unfolding ringing
+  of-ringing s e = let (u, v) = and-eq-true-iff (not (final g s)) (opens g c s) .0 e in (not-true (final g s) u, of-opens s v)
+
+  in-ringing : (s : ℕ) → Unfinished g s → Opens s → ringing g c s ≡ true
+  unfolding ringing
+  in-ringing s u r = and-eq-true-iff (not (final g s)) (opens g c s) .1 (ap not u, in-opens s r)
 
   -- where a walk takes one
-  ringing-at : (s : ℕ) (ts : List ℕ) (w : OpenFrom g c s ts) → Ringing (arrival g s (w .before))
-  ringing-at s ts w = record {
-    unfinished = stopped g (Unfinished g) (Unfinished g) s (w .before) (w .unfinished);
-    ring = w .last;
-    departs = w .departs;
-    unlimited = w .unlimited;
-  }
+  opens-at : (s : ℕ) (ts : List ℕ) (w : OpenWalk g c s ts) → Opens (arrival g s (w .before))
+  opens-at s ts w = record { ring = w .last; departs = w .departs; unlimited = w .unlimited }
+
+  -- a walk of unfinished states of which none stands twice
+  simple-unfinished : (s : ℕ) (ts : List ℕ) → UnfinishedWalk g s ts → SimpleBegun g (λ x. Unit) (Unfinished g) s ts
+  simple-unfinished s ts w = simple-begun g (λ x. Unit) (Unfinished g) (λ x u v. tt) s ts (w .1)
 
   pub any-open : Closed g → Tests (anyOpen g c) (HasOpenWalk g c)
   unfolding anyOpen
   any-open closed = record {
     sound = λ e.
-        let (p, m) = of-nonempty (within g (ringing g c)) e in
-        let (b, w) = of-within g (ringing g c) p m in
-        let r = of-ringing (arrival g (p .0) (p .1)) (stopped g (Unfinished g) (Yes (ringing g c)) (p .0) (p .1) w) in
-        let u = with-last g (Unfinished g) (Yes (ringing g c)) (Unfinished g) (p .0) (p .1) w (r .unfinished) in
-        (p .0, p .1 ++ (r .ring ∷ []), (b, record { before = p .1; last = r .ring; ends-with = refl; unfinished = u; departs = r .departs; unlimited = r .unlimited }));
-    complete = λ (s, ts, (b, w)).
-        let q = simple g (Unfinished g) (Unfinished g) s (w .before) (w .unfinished) in
-        let h = short-length g (Unfinished g) (Unfinished g) closed s (w .before) b q in
-        let r : Ringing (arrival g s (q .short)) = rw (q .ends) (ringing-at s ts w) in
-        let v = with-last g (Unfinished g) (Unfinished g) (Yes (ringing g c)) s (q .short) (q .walk) (in-ringing (arrival g s (q .short)) r) in
-        in-nonempty (within g (ringing g c)) (in-within g (ringing g c) s (q .short) b v h);
+        let (p, m) = of-nonempty (within g (opens g c) (ringing g c)) e in
+        let (b, w) = of-within g (opens g c) (ringing g c) p m in
+        let r = after-stopped g (Yes (opens g c)) (Unfinished g) (Yes (ringing g c)) Opens of-opens (λ x q. of-ringing x q .1) (p .0) (p .1) w in
+        let u = after-with g (Yes (opens g c)) (Unfinished g) (Yes (ringing g c)) (λ x. Unit) (Unfinished g) (λ x q. tt) (λ x q. of-ringing x q .0) (p .0) (p .1) w in
+        (p .0, p .1 ++ (r .ring ∷ []), record { before = p .1; last = r .ring; ends-with = refl; unfinished = (b, u); departs = r .departs; unlimited = r .unlimited });
+    complete = λ (s, ts, w).
+        let b = w .unfinished .0 in
+        let q = simple-unfinished s (w .before) (w .unfinished) in
+        let h = begun-length g (λ x. Unit) (Unfinished g) closed s (q .short) (b, q .walk) (q .different) in
+        let r : Opens (arrival g s (q .short)) = rw (q .ends) (opens-at s ts w) in
+        let v = after-last g (λ x. Unit) (Unfinished g) (Unfinished g) (Yes (opens g c)) (Yes (ringing g c)) Opens in-opens in-ringing s (q .short) (q .walk) r in
+        in-nonempty (within g (opens g c) (ringing g c)) (in-within g (opens g c) (ringing g c) s (q .short) (b, v) h);
   }
 
   -- it is a walk, of which nothing is asked where it arrives
-  pub open-plain : (s : ℕ) (ts : List ℕ) → OpenFrom g c s ts → WalkFrom g s ts
+  pub open-plain : (s : ℕ) (ts : List ℕ) → OpenWalk g c s ts → WalkFrom g s ts
   open-plain s ts w =
       rw (w .ends-with)
-      (walk-snoc g (λ s. Unit) (λ s. Unit) (λ s. Unit) s (w .before) (w .last) (plain g (Unfinished g) (Unfinished g) s (w .before) (w .unfinished)) tt (w .departs) tt)
+      (walk-snoc g (λ s. Unit) (λ s. Unit) (λ s. Unit) s (w .before) (w .last)
+      (after-plain g (λ x. Unit) (Unfinished g) (Unfinished g) s (w .before) (w .unfinished .1)) tt (w .departs) tt)
 
   -- ---- 2
 
@@ -99,32 +110,46 @@ module _ (g : Graph) (c : Cost) where
       rw (k, visits-snoc g s ts t, take-append-seam (visits g s ts) (to g t ∷ [])) d
 
   -- a walk that visits no state twice, and an open transition more
-  pub ring-shown : (s : ℕ) (ts : List ℕ) → Begins g s → UnfinishedFrom g s ts → Different (visits g s ts) → (t : ℕ) → Departs g (arrival g s ts) t
+  pub ring-shown : (s : ℕ) (ts : List ℕ) → UnfinishedWalk g s ts → Different (visits g s ts) → (t : ℕ) → Departs g (arrival g s ts) t
       → c .unlimited t ≡ true → OpenShown g c (ts ++ (t ∷ [])) (length (ts ++ (t ∷ [])))
-  ring-shown s ts b w d t e o =
-      (s, (b, record { before = ts; last = t; ends-with = refl; unfinished = w; departs = e; unlimited = o }), refl, leaves-differ s ts t d)
+  ring-shown s ts w d t e o =
+      (s, record { before = ts; last = t; ends-with = refl; unfinished = w; departs = e; unlimited = o }, refl, leaves-differ s ts t d)
+
+  -- where the walk does not end where it began, or is a start alone
+  apart-from-start : (s : ℕ) (ts : List ℕ) (q : SimpleBegun g (λ x. Unit) (Unfinished g) s ts) → Different (visits g s (q .short))
+  apart-from-start s ts q = go (q .short) (q .walk) (q .different) (λ u. q .unanswered (rw (sym (q .ends)) u))
+    where
+      go : (us : List ℕ) → AfterStart g (λ x. Unit) (UnfinishedFrom g) s us → DifferentButEnds (visits g s us)
+          → (Unfinished g (arrival g s us) → Different (visits g s us)) → Different (visits g s us)
+      go [] v d u = different-one s
+      go (t ∷ us) v d u = u (stopped g (Unfinished g) (Unfinished g) (to g t) us (v .1))
 
   pub open-shown : HasOpenWalk g c → (ts : List ℕ) × OpenShown g c ts (length ts)
-  open-shown (s, ts, (b, w)) =
-      let q = simple g (Unfinished g) (Unfinished g) s (w .before) (w .unfinished) in
-      (q .short ++ (w .last ∷ []), ring-shown s (q .short) b (q .walk) (q .different) (w .last) (rw (q .ends) (w .departs)) (w .unlimited))
+  open-shown (s, ts, w) =
+      let q = simple-unfinished s (w .before) (w .unfinished) in
+      let d = apart-from-start s (w .before) q in
+      (q .short ++ (w .last ∷ []), ring-shown s (q .short) (w .unfinished .0, q .walk) d (w .last) (rw (q .ends) (w .departs)) (w .unlimited))
 
   -- ---- 3
 
   pub limited : (HasOpenWalk g c → ⊥) → (s : ℕ) (ts : List ℕ) → Route g s ts → (i : ℕ) → i < length ts → c .unlimited (nth ts i) ≡ false
   limited none s ts (b, w) i h = go (decided (c .unlimited (nth ts i)))
     where
+      front-walk : UnfinishedWalk g s (take i ts)
+      front-walk =
+          (b, after-front g (λ x. ⊥) (Unfinished g) (Final g) (Unfinished g) s ts i w (le-of-lt h) (λ j l. after-passed g (λ x. ⊥) (Unfinished g) (Final g) s ts w j (omega arith)))
+
       go : (c .unlimited (nth ts i) ≡ true) ⊎ (c .unlimited (nth ts i) ≡ false) → c .unlimited (nth ts i) ≡ false
       go (inl o) =
-          let u : UnfinishedFrom g s (take i ts) = front g (Unfinished g) (Final g) (Unfinished g) s ts i w (le-of-lt h) (passed g (Unfinished g) (Final g) s ts w i h) in
-          let d = subst (λ (x : ℕ). Departs g x (nth ts i)) (state-after g s ts i (le-of-lt h)) (departs-at g (Unfinished g) (Final g) s ts w i h) in
-          absurd (none (s, take i ts ++ (nth ts i ∷ []), (b, record { before = take i ts; last = nth ts i; ends-with = refl; unfinished = u; departs = d; unlimited = o })))
+          let v = after-plain g (λ x. ⊥) (Unfinished g) (Final g) s ts w in
+          let d = subst (λ (x : ℕ). Departs g x (nth ts i)) (state-after g s ts i (le-of-lt h)) (departs-at g (λ x. Unit) (λ x. Unit) s ts v i h) in
+          absurd (none (s, take i ts ++ (nth ts i ∷ []), record { before = take i ts; last = nth ts i; ends-with = refl; unfinished = front-walk; departs = d; unlimited = o }))
       go (inr e) = e
 
   -- ---- 4
 
   pub none-open : ((t : ℕ) → t < count g → c .unlimited t ≡ false) → HasOpenWalk g c → ⊥
-  none-open none (s, ts, (b, w)) = false≢true (sym (none (w .last) (w .departs .listed)) ∙ w .unlimited)
+  none-open none (s, ts, w) = false≢true (sym (none (w .last) (w .departs .listed)) ∙ w .unlimited)
 
 -- the sum of a route's highs, where every one is a number
 pub seconds-of : (high : ℕ) → isOpen (limit high) ≡ false → seconds (limit high) ≡ high

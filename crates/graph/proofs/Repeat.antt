@@ -23,7 +23,7 @@ use lib.Dec.{eqb}
 use lib.ListN.{length, getD, take, drop, length-take}
 use lib.Seq.{getD-take}
 use borrow.Author.Tests.{eqb-true, eqb-false}
-use Rattle.graph.specs.Walk.{Different}
+use Rattle.graph.specs.Walk.{Different, DifferentButEnds}
 
 -- the first k numbers are apart
 abbrev pub Apart : (ℕ → ℕ) → ℕ → Type 0
@@ -234,3 +234,22 @@ different-drop (suc i) (x ∷ xs) d = different-drop i xs (λ u v l h e. d (suc 
 -- a list of different numbers below n is no longer than n
 pub different-length : (n : ℕ) (xs : List ℕ) → Different xs → ((i : ℕ) → i < length xs → nth xs i < n) → length xs ≤ n
 different-length n xs d b = pigeonhole n (nth xs) (length xs) d b
+
+-- ---- lists whose last number may be the first
+
+-- all different, or with one more in front that is none of them but perhaps the last
+pub different-ends : (xs : List ℕ) → Different xs → DifferentButEnds xs
+different-ends xs d i j l h e = absurd (d i j l h e)
+
+pub different-ends-cons : (x : ℕ) (xs : List ℕ) → ((i : ℕ) → suc i < length xs → nth xs i ≡ x → ⊥) → Different xs → DifferentButEnds (x ∷ xs)
+different-ends-cons x xs new d i zero l h e = absurd (not-suc-le-zero l)
+different-ends-cons x xs new d zero (suc j) l h e = go (decLt (suc j) (length xs))
+  where
+    go : Dec (suc j < length xs) → _≡_ {A = ℕ} 0 0 × (suc (suc j) ≡ suc (length xs))
+    go (yes r) = absurd (new j r (sym e))
+    go (no r) = (refl, omega (arith, le-of-suc-le-suc h))
+different-ends-cons x xs new d (suc i) (suc j) l h e = absurd (d i j (le-of-suc-le-suc l) (le-of-suc-le-suc h) e)
+
+-- without the last they all differ
+pub different-front : (xs : List ℕ) (k : ℕ) → k < length xs → DifferentButEnds xs → Different (take k xs)
+different-front xs k l d = different-take xs k (λ i j o h e. let (z, last) = d i j o (omega arith) e in omega arith)

@@ -1,72 +1,111 @@
 -- Sentences of 01 that follow from the definitions in a few lines, so that a reader can hold the definitions against
 -- them; and the impostors of 01's acceptance point 2 that a figure or a walk gives away, refuted.
 --
--- A walk with conditions on its states is a walk, with those conditions place by place; so a route is just what 01 says,
--- and so are the other walks (`in-words`). What is shown of a number is that number. And no figure is right for both P2
--- and P3, and no number for both P1 and P2. Assumes nothing.
-use Prim.Native.Nat.{ℕ, _<_}
-use mathlib.Core.Path.{_≡_, refl, sym, _∙_}
+-- A walk with conditions on its states is a walk, with those conditions place by place; so a route is just what 02's E5 says,
+-- and so are the other walks (`in-words`). What is shown of a number is that number. Assumes nothing.
+use Prim.Native.Nat.{ℕ, zero, suc, _≤_, _<_, zero-le}
+use mathlib.Core.Path.{_≡_, refl, sym, _∙_, ap, subst}
 use mathlib.Core.Logic.{_↔_, inl, inr}
-use mathlib.Core.Bool.{Bool, false}
+use mathlib.Core.Bool.{Bool, false, true≢false}
 use mathlib.Core.List.{List, [], _∷_, _++_}
+use native.Mathlib.Nat.{not-suc-le-zero, zero-lt-suc}
 use native.Mathlib.Omega.{arith}
-use lib.ListN.{length}
+use lib.ListN.{length, take}
 use Rattle.graph.specs.declared.Duration.the-variants.{Seconds}
-use Rattle.graph.specs.Graph.{Graph, count, low, high, Departs, Final, Unfinished, DeadEnd}
-use Rattle.graph.specs.Walk.{Begins, WalkTo, FromStart, Walk, UnfinishedWalk, EndlessWalk, visits, arrival}
+use Rattle.graph.specs.Graph.{Graph, count, to, low, high, Departs, Final, Unfinished, NoneDeparts, DeadEnd}
+use Rattle.graph.specs.Walk.{Begins, WalkTo, FromStart, AfterStart, Begun, Walk, UnfinishedWalk, EndlessWalk, visits, arrival, Different}
 use Rattle.graph.specs.Route.{Route, StrandedWalk, Cost, lows, highs, counts, delay, number-on, HasEndlessWalk, HasOpenWalk, GoesOnForever}
-use Rattle.graph.specs.Figure.{number, STRANDED, ENDLESS, IsGreatest, Shown}
+use Rattle.graph.specs.Figure.{number, STRANDED, ENDLESS, IsGreatest, LoopShown, Shown}
 use Rattle.graph.proofs.Repeat.{nth}
-use Rattle.graph.proofs.Walks.{passed, stopped, plain, walk-of}
-use Rattle.graph.proofs.Endless.{run, run-walk, endless-of}
+use Rattle.graph.proofs.Walks.{length-visits, state-after, state-last, stopped, after-plain, after-passed, after-stopped, after-of}
+use Rattle.graph.proofs.Endless.{run, run-begun, of-runs}
 use Rattle.graph.proofs.Cost.{delay-is, count-is}
 use Rattle.graph.proofs.Open.{none-open, open-high, highs-of}
 
 module _ (g : Graph) where
-  -- "A start that is final is a route of no transitions."
-  pub final-start : (s : ℕ) → Begins g s → Final g s → Route g s []
-  final-start s b f = (b, f)
-
-  -- in 01's own words: a walk, `earlier` of each state but the last, and `last` of the last one
-  pub record InWords (earlier last : ℕ → Type 0) (s : ℕ) (ts : List ℕ) : Type 0 where
+  -- in 02's own words: a walk, `between` of each state "between its first and last", `last` of the last one of a walk that has a transition, and `alone` of a
+  -- start alone
+  pub record InWords (alone between last : ℕ → Type 0) (s : ℕ) (ts : List ℕ) : Type 0 where
     pub walk : Walk g s ts
-    pub before : (i : ℕ) → i < length ts → earlier (nth (visits g s ts) i)
-    pub ends : last (arrival g s ts)
+    pub single : length ts ≡ 0 → alone s
+    pub middle : (i : ℕ) → suc i < length ts → between (nth (visits g s ts) (suc i))
+    pub ends : 0 < length ts → last (arrival g s ts)
 
-  in-words : (earlier last : ℕ → Type 0) (s : ℕ) (ts : List ℕ)
-      → FromStart g (WalkTo g earlier last) s ts ↔ InWords earlier last s ts
-  in-words earlier last s ts = (
+  in-words : (alone between last : ℕ → Type 0) (s : ℕ) (ts : List ℕ) → Begun g alone (WalkTo g between last) s ts ↔ InWords alone between last s ts
+  in-words alone between last s ts = (
     λ (b, w). record {
-      walk = (b, plain g earlier last s ts w);
-      before = passed g earlier last s ts w;
-      ends = stopped g earlier last s ts w;
+      walk = (b, after-plain g alone between last s ts w);
+      single = single ts w;
+      middle = after-passed g alone between last s ts w;
+      ends = ends ts w;
     },
-    λ r. (r .walk .0, walk-of g earlier last s ts (r .walk .1) (r .before) (r .ends)),
+    λ r. (r .walk .0, after-of g alone between last s ts (r .walk .1) (r .single) (r .middle) (r .ends)),
   )
+    where
+      single : (us : List ℕ) → AfterStart g alone (WalkTo g between last) s us → length us ≡ 0 → alone s
+      single [] w e = w
+      single (u ∷ us) w e = absurd (omega arith)
 
-  -- "A route is a finite walk whose last state is final and no earlier one is."
-  pub route-is : (s : ℕ) (ts : List ℕ) → Route g s ts ↔ InWords (Unfinished g) (Final g) s ts
-  route-is = in-words (Unfinished g) (Final g)
+      ends : (us : List ℕ) → AfterStart g alone (WalkTo g between last) s us → 0 < length us → last (arrival g s us)
+      ends [] w h = absurd (not-suc-le-zero h)
+      ends (u ∷ us) w h = stopped g between last (to g u) us (w .1)
 
-  -- "a walk of unfinished states"
-  pub unfinished-is : (s : ℕ) (ts : List ℕ) → UnfinishedWalk g s ts ↔ InWords (Unfinished g) (Unfinished g) s ts
-  unfinished-is = in-words (Unfinished g) (Unfinished g)
+  -- "a route has at least one transition. Its first state may be final, and no state between its first and last may be"; "whose last state is final"
+  pub route-is : (s : ℕ) (ts : List ℕ) → Route g s ts ↔ InWords (λ x. ⊥) (Unfinished g) (Final g) s ts
+  route-is = in-words (λ x. ⊥) (Unfinished g) (Final g)
 
-  -- "a walk of unfinished states ends in a dead end", which is unfinished too
-  pub stranded-is : (s : ℕ) (ts : List ℕ) → StrandedWalk g s ts ↔ InWords (Unfinished g) (DeadEnd g) s ts
-  stranded-is = in-words (Unfinished g) (DeadEnd g)
+  pub route-some : (s : ℕ) (ts : List ℕ) → Route g s ts → 1 ≤ length ts
+  route-some s [] (b, r) = absurd r
+  route-some s (t ∷ ts) r = zero-lt-suc (length ts)
+
+  -- "a walk of unfinished states", which "likewise may begin at a final start"
+  pub unfinished-is : (s : ℕ) (ts : List ℕ) → UnfinishedWalk g s ts ↔ InWords (λ x. Unit) (Unfinished g) (Unfinished g) s ts
+  unfinished-is = in-words (λ x. Unit) (Unfinished g) (Unfinished g)
+
+  -- "a walk of unfinished states ends in a dead end", which is unfinished too, "and a start without transitions is a dead end"
+  pub stranded-is : (s : ℕ) (ts : List ℕ) → StrandedWalk g s ts ↔ InWords (NoneDeparts g) (Unfinished g) (DeadEnd g) s ts
+  stranded-is = in-words (NoneDeparts g) (Unfinished g) (DeadEnd g)
+
+  -- where no start is final, all of it is as it was: the first state is unfinished as the later ones are
+  pub as-it-was : (alone stop : ℕ → Type 0) → ((x : ℕ) → Unfinished g x → alone x ↔ stop x) → (s : ℕ) → Unfinished g s → (ts : List ℕ)
+      → Begun g alone (WalkTo g (Unfinished g) stop) s ts ↔ FromStart g (WalkTo g (Unfinished g) stop) s ts
+  as-it-was alone stop same s u [] = (λ (b, w). (b, same s u .0 w), λ (b, w). (b, same s u .1 w))
+  as-it-was alone stop same s u (t ∷ ts) = (λ (b, (d, w)). (b, (u, d, w)), λ (b, (v, d, w)). (b, (d, w)))
 
   -- "an endless walk of unfinished states": a sequence of transitions whose first k are a walk of unfinished states, for
   -- each k; so it begins as any walk does
   pub endless-is : (s : ℕ) (taken : ℕ → ℕ) → EndlessWalk g s taken ↔ ((k : ℕ) → UnfinishedWalk g s (run taken 0 k))
-  endless-is s taken = (λ (b, e) k. (b, run-walk g s taken e 0 k), λ w. (w 0 .0, endless-of g s taken (λ k. w k .1)))
+  endless-is s taken = (run-begun g s taken, λ w. (w 0 .0, of-runs g s taken w))
 
-  -- "A number or STRANDED shown with k at 0 means the walk of some start alone."
-  pub number-alone : (c : Cost) (k j : ℕ) → Shown g c (number k) [] j → (s : ℕ) × Begins g s × Final g s
-  number-alone c k j (s, r, q, d, z) = (s, r .0, r .1)
+  -- a number is shown "with k of at least 1", and STRANDED with k at 0 means a start without transitions
+  pub number-some : (c : Cost) (k j : ℕ) (ts : List ℕ) → Shown g c (number k) ts j → 1 ≤ length ts
+  number-some c k j ts (s, r, q, d, z) = route-some s ts r
 
-  pub stranded-alone : (c : Cost) (j : ℕ) → Shown g c STRANDED [] j → (s : ℕ) × Begins g s × DeadEnd g s
+  pub stranded-alone : (c : Cost) (j : ℕ) → Shown g c STRANDED [] j → (s : ℕ) × Begins g s × NoneDeparts g s
   stranded-alone c j (s, (b, w), d, z) = (s, b, w)
+
+  -- where a route comes back to its start, the start is final, and it is the last state
+  pub returns-answered : (c : Cost) (k j : ℕ) (ts : List ℕ) → Shown g c (number k) ts j → (s : ℕ) × Route g s ts × (Unfinished g s → Different (visits g s ts))
+  returns-answered c k j ts (s, r, q, d, z) = (s, r, different)
+    where
+      different : Unfinished g s → Different (visits g s ts)
+      different u i i′ l h e =
+          let (a, b) = d i i′ l h e in
+          let here : nth (visits g s ts) i ≡ s = rw a (state-after g s ts 0 zero-le) in
+          let last : nth (visits g s ts) i′ ≡ arrival g s ts = ap (nth (visits g s ts)) (omega (arith, length-visits g s ts)) ∙ state-last g s ts in
+          let f : Final g (arrival g s ts) = after-stopped g (λ x. ⊥) (Unfinished g) (Final g) (Final g) (λ x n. absurd n) (λ x f. f) s ts (r .1) in
+          true≢false (sym (subst (Final g) (sym last ∙ sym e ∙ here) f) ∙ u)
+
+  -- in a loop's walk "from a final start" the place come back to is "j of at least 1"
+  pub loop-place : (ts : List ℕ) (j : ℕ) → LoopShown g ts j → (s : ℕ) × UnfinishedWalk g s ts × (Final g s → 1 ≤ j)
+  loop-place ts j (s, w, l, e, d) = (s, w, place j e)
+    where
+      last : 0 < length ts → Unfinished g (arrival g s ts)
+      last = unfinished-is s ts .0 w .ends
+
+      place : (j : ℕ) → arrival g s ts ≡ arrival g s (take j ts) → Final g s → 1 ≤ j
+      place zero e f = absurd (true≢false (sym f ∙ subst (Unfinished g) e (last (omega arith))))
+      place (suc j) e f = zero-lt-suc j
 
   -- the number shown is the sum over the walk shown, "of its lows for a least figure, and of its highs for a greatest
   -- one" ..
@@ -80,15 +119,16 @@ module _ (g : Graph) where
   -- walk lacks" shows no such walk
   pub shown-count : (p : ℕ → Bool) (k : ℕ) (ts : List ℕ) (j : ℕ) → Shown g (counts g p) (number k) ts j
       → (s : ℕ) × Route g s ts × (number-on g p s ts ≡ k)
-  shown-count p k ts j (s, r, q, d, z) = (s, r, sym (count-is g p (Unfinished g) (Final g) s ts (r .1)) ∙ q)
+  shown-count p k ts j (s, r, q, d, z) =
+      (s, r, sym (count-is g p (λ x. Unit) (λ x. Unit) s ts (after-plain g (λ x. ⊥) (Unfinished g) (Final g) s ts (r .1))) ∙ q)
 
   -- "an unfinished walk from a start can take a transition with an open high": a high of 2,047
   pub open-is : HasOpenWalk g (highs g)
       ↔ ((s : ℕ) × (ts : List ℕ) × (t : ℕ) × UnfinishedWalk g s ts × Departs g (arrival g s ts) t × (high g t ≡ 2047))
   open-is = (
-    λ (s, ts, (b, w)). (s, w .before, w .last, (b, w .unfinished), w .departs, open-high (high g (w .last)) .0 (w .unlimited)),
-    λ (s, ts, t, (b, w), d, e).
-        (s, ts ++ (t ∷ []), (b, record { before = ts; last = t; ends-with = refl; unfinished = w; departs = d; unlimited = open-high (high g t) .1 e })),
+    λ (s, ts, w). (s, w .before, w .last, w .unfinished, w .departs, open-high (high g (w .last)) .0 (w .unlimited)),
+    λ (s, ts, t, w, d, e).
+        (s, ts ++ (t ∷ []), record { before = ts; last = t; ends-with = refl; unfinished = w; departs = d; unlimited = open-high (high g t) .1 e }),
   )
 
   -- "Both counts and the least delay pay no heed to it": where nothing is open, a call goes on forever by an endless walk alone, and a loop is shown

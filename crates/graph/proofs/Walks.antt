@@ -1,18 +1,19 @@
 -- What every walk has: its states by place, its parts, and that it stays within the plan.
 --
 -- All of it is by recursion on the list of transitions, for any condition on the states passed and on the last one; so
--- it holds of routes, of unfinished walks and of walks to a dead end alike. Assumes nothing.
+-- it holds of routes, of unfinished walks and of walks to a dead end alike. The last part is about walks of the plan, whose first state is asked nothing:
+-- a start alone, or a first step and a walk from where it leads. Assumes nothing.
 use Prim.Native.Nat.{ℕ, zero, suc, _≤_, _<_, _/_, _%_, suc-le-suc}
 use mathlib.Core.Path.{_≡_, refl, sym, _∙_, ap}
 use mathlib.Core.Bool.{Bool, true, false, false≢true}
 use mathlib.Core.List.{List, [], _∷_}
-use native.Mathlib.Nat.{not-suc-le-zero, le-of-suc-le-suc, zero-lt-suc}
+use native.Mathlib.Nat.{not-suc-le-zero, le-of-suc-le-suc, zero-lt-suc, lt-suc-self}
 use native.Mathlib.Decide.{decLt}
 use native.Mathlib.Omega.{arith}
 use lib.Dec.{eqb}
 use lib.ListN.{length, take, List·getD-eq-default}
-use Rattle.graph.specs.Graph.{Graph, State, marked, states, marksOf, start, final, to, Departs, Final, Closed}
-use Rattle.graph.specs.Walk.{Begins, WalkTo, WalkFrom, visits, arrival}
+use Rattle.graph.specs.Graph.{Graph, State, marked, states, marksOf, start, final, to, Departs, Final, Unfinished, Closed}
+use Rattle.graph.specs.Walk.{Begins, WalkTo, WalkFrom, AfterStart, visits, arrival, UnfinishedFrom}
 use Rattle.graph.proofs.Repeat.{nth}
 
 -- a number that is no state's has no mark, so a state with a mark is one of the plan's
@@ -118,3 +119,58 @@ module _ (g : Graph) (pass stop : ℕ → Type 0) where
       → stop (arrival g s ts) → WalkTo g pass stop s ts
   walk-of s [] w p q = q
   walk-of s (t ∷ ts) w p q = (p 0 (zero-lt-suc (length ts)), w .1, walk-of (to g t) ts (w .2) (λ i h. p (suc i) (suc-le-suc h)) q)
+
+-- the first state of an unfinished walk is unfinished, and so is every one
+pub first-unfinished : (g : Graph) (s : ℕ) (ts : List ℕ) → UnfinishedFrom g s ts → Unfinished g s
+first-unfinished g s [] w = w
+first-unfinished g s (t ∷ ts) w = w .0
+
+pub all-unfinished : (g : Graph) (s : ℕ) (ts : List ℕ) → UnfinishedFrom g s ts → (i : ℕ) → i ≤ length ts → Unfinished g (nth (visits g s ts) i)
+all-unfinished g s [] w zero h = w
+all-unfinished g s [] w (suc i) h = absurd (not-suc-le-zero h)
+all-unfinished g s (t ∷ ts) w zero h = w .0
+all-unfinished g s (t ∷ ts) w (suc i) h = all-unfinished g (to g t) ts (w .2) i (le-of-suc-le-suc h)
+
+-- ---- walks of the plan
+
+module _ (g : Graph) (alone pass stop : ℕ → Type 0) where
+  -- after its start: nothing asked of the states; each later state but the last is passed
+  pub after-plain : (s : ℕ) (ts : List ℕ) → AfterStart g alone (WalkTo g pass stop) s ts → WalkFrom g s ts
+  after-plain s [] w = tt
+  after-plain s (t ∷ ts) w = (tt, w .0, plain g pass stop (to g t) ts (w .1))
+
+  pub after-passed : (s : ℕ) (ts : List ℕ) → AfterStart g alone (WalkTo g pass stop) s ts → (i : ℕ) → suc i < length ts → pass (nth (visits g s ts) (suc i))
+  after-passed s [] w i h = absurd (not-suc-le-zero h)
+  after-passed s (t ∷ ts) w i h = passed g pass stop (to g t) ts (w .1) i (le-of-suc-le-suc h)
+
+  -- what follows of the last state, be it the start alone or one that was stopped at
+  pub after-stopped : (Q : ℕ → Type 0) → ((x : ℕ) → alone x → Q x) → ((x : ℕ) → stop x → Q x) → (s : ℕ) (ts : List ℕ)
+      → AfterStart g alone (WalkTo g pass stop) s ts → Q (arrival g s ts)
+  after-stopped Q at-start at-stop s [] w = at-start s w
+  after-stopped Q at-start at-stop s (t ∷ ts) w = at-stop (arrival g (to g t) ts) (stopped g pass stop (to g t) ts (w .1))
+
+  module _ (alone′ stop′ : ℕ → Type 0) where
+    -- the last state may be said to be something else: what follows of it, or what it is beside
+    pub after-with : ((x : ℕ) → alone x → alone′ x) → ((x : ℕ) → stop x → stop′ x) → (s : ℕ) (ts : List ℕ)
+        → AfterStart g alone (WalkTo g pass stop) s ts → AfterStart g alone′ (WalkTo g pass stop′) s ts
+    after-with at-start at-stop s [] w = at-start s w
+    after-with at-start at-stop s (t ∷ ts) w = (w .0, with-stop g pass stop stop′ at-stop (to g t) ts (w .1))
+
+    pub after-last : (Q : ℕ → Type 0) → ((x : ℕ) → Q x → alone′ x) → ((x : ℕ) → stop x → Q x → stop′ x) → (s : ℕ) (ts : List ℕ)
+        → AfterStart g alone (WalkTo g pass stop) s ts → Q (arrival g s ts) → AfterStart g alone′ (WalkTo g pass stop′) s ts
+    after-last Q at-start at-stop s [] w q = at-start s q
+    after-last Q at-start at-stop s (t ∷ ts) w q =
+        (w .0, with-last g pass stop stop′ (to g t) ts (w .1) (at-stop (arrival g (to g t) ts) (stopped g pass stop (to g t) ts (w .1)) q))
+
+  -- the first k transitions
+  pub after-front : (stop′ : ℕ → Type 0) (s : ℕ) (ts : List ℕ) (k : ℕ) → AfterStart g alone (WalkTo g pass stop) s ts → k ≤ length ts
+      → ((i : ℕ) → i < k → stop′ (nth (visits g s ts) (suc i))) → AfterStart g (λ x. Unit) (WalkTo g pass stop′) s (take k ts)
+  after-front stop′ s ts zero w h q = tt
+  after-front stop′ s [] (suc k) w h q = absurd (not-suc-le-zero h)
+  after-front stop′ s (t ∷ ts) (suc k) w h q = (w .0, front g pass stop stop′ (to g t) ts k (w .1) (le-of-suc-le-suc h) (q k (lt-suc-self k)))
+
+  -- and place by place
+  pub after-of : (s : ℕ) (ts : List ℕ) → WalkFrom g s ts → (length ts ≡ 0 → alone s) → ((i : ℕ) → suc i < length ts → pass (nth (visits g s ts) (suc i)))
+      → (0 < length ts → stop (arrival g s ts)) → AfterStart g alone (WalkTo g pass stop) s ts
+  after-of s [] w a p q = a refl
+  after-of s (t ∷ ts) w a p q = (w .1, walk-of g pass stop (to g t) ts (w .2) (λ i h. p i (suc-le-suc h)) (q (zero-lt-suc (length ts))))

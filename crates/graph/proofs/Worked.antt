@@ -81,7 +81,7 @@ module _ (c : Cost) (In : ℕ → Type 0) (value : ℕ → ℕ) where
 falling : FallingRank g Reached rank
 unfolding final to
 falling = record {
-  begins = λ s b u. omega (arith, start-0 s b);
+  begins = λ s b. omega (arith, start-0 s b);
   onward = λ s t i d u.
       P1-cases (λ s t. Unfinished g (to g t) → (to g t < 3) × (rank (to g t) < rank s))
       (λ u. (lit< tt, lit< tt)) (λ u. (lit< tt, lit< tt)) (λ u. absurd (true≢false u)) (λ u. absurd (true≢false u))
@@ -96,7 +96,7 @@ greatest-over : GreatestValues g (highs g) Reached greatest
 unfolding to high
 greatest-over = record {
   at-final = λ s f. omega arith;
-  over = λ s t i d. P1-cases (λ s t. highs g .step t + greatest (to g t) ≤ greatest s)
+  over = λ s t i u d. P1-cases (λ s t. highs g .step t + greatest (to g t) ≤ greatest s)
       (omega arith) (omega arith) (omega arith) (omega arith) s t d;
 }
 
@@ -110,17 +110,21 @@ greatest-choices = record { at-final = λ s f. rw (final-3 s f) refl; choice = c
     choice (suc (suc zero)) i u = take (highs g) Reached greatest 2 3 tt refl refl (λ v. absurd (true≢false v))
     choice (suc (suc (suc s))) i u = absurd (omega arith)
 
+-- from the start the one first step is 0→1
+first-step : (P : ℕ → Type 0) → P 0 → (x u : ℕ) → Begins g x → Departs g x u → P u
+first-step P p x u b d = P1-cases (λ s t. s ≡ 0 → P t) (λ e. p) (λ e. absurd (omega arith)) (λ e. absurd (omega arith)) (λ e. absurd (omega arith)) x u d (start-0 x b)
+
 pub P1-greatest-certified : IsGreatest g (highs g) (number 60)
-unfolding start final
+unfolding start from to high
 P1-greatest-certified =
-    greatest-number g (highs g) Reached greatest rank falling limited greatest-over greatest-choices 0 refl
-    (λ x b. rw (start-0 x b) (omega arith)) unfinished
+    greatest-number g (highs g) Reached greatest rank falling limited greatest-over greatest-choices 0 0 refl (record { listed = lit< tt; source = refl })
+    (first-step (λ u. highs g .step u + greatest (to g u) ≤ 60) (omega arith)) out
   where
-    unfinished : (x : ℕ) → x < 3 → Unfinished g x
-    unfinished zero i = refl
-    unfinished (suc zero) i = refl
-    unfinished (suc (suc zero)) i = refl
-    unfinished (suc (suc (suc x))) i = absurd (omega arith)
+    out : (x : ℕ) → x < 3 → (u : ℕ) × Departs g x u
+    out zero i = (0, record { listed = lit< tt; source = refl })
+    out (suc zero) i = (1, record { listed = lit< tt; source = refl })
+    out (suc (suc zero)) i = (3, record { listed = lit< tt; source = refl })
+    out (suc (suc (suc x))) i = absurd (omega arith)
 
 -- ---- the least delay
 
@@ -144,10 +148,10 @@ least-choices = record { at-final = λ s f. rw (final-3 s f) refl; choice = choi
     choice (suc (suc (suc (suc s)))) i u = absurd (omega arith)
 
 pub P1-least-certified : IsLeast g (lows g) (number 7)
-unfolding start
+unfolding start from to low
 P1-least-certified =
-    least-number g (lows g) Valued least rank least-over least-choices 0 refl (lit< tt)
-    (λ x b i. rw (start-0 x b) (omega arith))
+    least-number g (lows g) Valued least rank least-over least-choices 0 0 refl (record { listed = lit< tt; source = refl }) (lit< tt)
+    (λ x u b d i. first-step (λ u. 7 ≤ lows g .step u + least (to g u)) (omega arith) x u b d)
 
 -- ---- no route: P3
 
@@ -160,8 +164,8 @@ P3-none-certified c = least-none (P3 .plan) c (λ s. s ≡ 1) (c .close) (record
     at-final (suc zero) f = (refl, le-refl (c .close 1))
     at-final (suc (suc s)) f = absurd (false≢true f)
 
-    none : (s : ℕ) → Begins (P3 .plan) s → s ≡ 1 → ⊥
-    none s b e = false≢true (rw e at b)
+    none : (s t : ℕ) → Begins (P3 .plan) s → Departs (P3 .plan) s t → to (P3 .plan) t ≡ 1 → ⊥
+    none s t b d e = not-suc-le-zero (d .listed)
 
 -- ---- an endless walk: P4, its stack the start alone, and the transition back to it
 
@@ -169,10 +173,10 @@ pub P4-endless-certified : (c : Cost) → IsGreatest (P4 .plan) c ENDLESS
 unfolding start final from to
 P4-endless-certified c =
     greatest-endless (P4 .plan) c (0 ∷ []) 0
-    (inl (endless-by-places (P4 .plan) (λ i. 0) (0 ∷ []) refl at 0 (lit< tt) refl (λ i j l h e. omega arith)))
+    (inl (endless-by-places (P4 .plan) (λ i. 0) (0 ∷ []) refl at (λ i h. refl) 0 (lit< tt) refl (λ i j l h e. omega arith)))
   where
-    at : (i : ℕ) → i < 1 → StepAt (P4 .plan) (Unfinished (P4 .plan)) (Unfinished (P4 .plan)) (λ i. 0) (0 ∷ []) i
-    at zero h = record { passes = refl; departs = record { listed = lit< tt; source = refl }; arrives = refl }
+    at : (i : ℕ) → i < 1 → StepAt (P4 .plan) (λ x. Unit) (λ x. Unit) (λ i. 0) (0 ∷ []) i
+    at zero h = record { passes = tt; departs = record { listed = lit< tt; source = refl }; arrives = refl }
     at (suc i) h = absurd (omega arith)
 
 -- ---- a dead end reached: 0→1, an answer, and 0→2
@@ -186,15 +190,11 @@ FoundThere s = (s ≡ 0) ⊎ (s ≡ 2)
 
 found : Tree stuck FoundThere (λ s. s)
 unfolding start final from to
-found = record { unfinished = unfinished; origin = origin }
+found = record { origin = origin }
   where
-    unfinished : (s : ℕ) → FoundThere s → Unfinished stuck s
-    unfinished s (inl z) = rw z refl
-    unfinished s (inr z) = rw z refl
-
     origin : (s : ℕ) → FoundThere s → Begins stuck s ⊎ FoundBy stuck FoundThere (λ s. s) s
     origin s (inl z) = inl (rw z refl)
-    origin s (inr z) = inr (record { via = 1; listed = lit< tt; arrives = sym z; inside = inl refl; earlier = omega arith })
+    origin s (inr z) = inr (record { via = 1; listed = lit< tt; arrives = sym z; inside = inl refl; earlier = omega arith; unfinished = rw z refl })
 
 -- the rank falls from 0 to 2, and nothing departs from 2
 abbrev rank-there : ℕ → ℕ
@@ -204,11 +204,11 @@ falling-there : FallingRank stuck FoundThere rank-there
 unfolding start final from to
 falling-there = record { begins = begins; onward = onward }
   where
-    begins : (s : ℕ) → Begins stuck s → Unfinished stuck s → FoundThere s
-    begins zero b u = inl refl
-    begins (suc zero) b u = absurd (false≢true b)
-    begins (suc (suc zero)) b u = inr refl
-    begins (suc (suc (suc s))) b u = absurd (false≢true b)
+    begins : (s : ℕ) → Begins stuck s → FoundThere s
+    begins zero b = inl refl
+    begins (suc zero) b = absurd (false≢true b)
+    begins (suc (suc zero)) b = inr refl
+    begins (suc (suc (suc s))) b = absurd (false≢true b)
 
     onward : (s t : ℕ) → FoundThere s → Departs stuck s t → Unfinished stuck (to stuck t) → FoundThere (to stuck t) × (rank-there (to stuck t) < rank-there s)
     onward s zero i d u = absurd (true≢false u)
@@ -234,16 +234,11 @@ ringing = open-reached .plan
 -- the states found, in this order: 0, a start, and 1, by transition 0
 found-ringing : Tree ringing (λ s. s < 2) (λ s. s)
 unfolding start final from to
-found-ringing = record { unfinished = unfinished; origin = origin }
+found-ringing = record { origin = origin }
   where
-    unfinished : (s : ℕ) → s < 2 → Unfinished ringing s
-    unfinished zero i = refl
-    unfinished (suc zero) i = refl
-    unfinished (suc (suc s)) i = absurd (omega arith)
-
     origin : (s : ℕ) → s < 2 → Begins ringing s ⊎ FoundBy ringing (λ s. s < 2) (λ s. s) s
     origin zero i = inl refl
-    origin (suc zero) i = inr (record { via = 0; listed = lit< tt; arrives = refl; inside = lit< tt; earlier = lit< tt })
+    origin (suc zero) i = inr (record { via = 0; listed = lit< tt; arrives = refl; inside = lit< tt; earlier = lit< tt; unfinished = refl })
     origin (suc (suc s)) i = absurd (omega arith)
 
 pub open-certified : IsGreatest ringing (highs ringing) ENDLESS

@@ -1,8 +1,8 @@
 -- The figures by computation, for any plan: list the walks of so many transitions and look among them.
 --
 -- This says what a figure IS in a form that can be computed, and not how to find one fast: the lists grow with the
--- power of the transitions. A route that visits no state twice has fewer transitions than the plan has states, and n
--- transitions in a row without an answer visit some state twice. So n is enough to look at. proofs/Least.antt and
+-- power of the transitions. After its first step, a route that visits no state twice has fewer transitions than the plan has states, and n
+-- transitions in a row without an answer visit some state twice. So a first step and n more are enough to look at. proofs/Least.antt and
 -- proofs/Greatest.antt show that what is computed here is what Figure.antt says. Assumes nothing.
 use Prim.Native.Nat.{ℕ, zero, suc, min, max}
 use mathlib.Core.Bool.{Bool, true, false, not, cond, _&&_, _||_}
@@ -49,27 +49,30 @@ unfoldable pub deadEnd : Graph → ℕ → Bool
 unfolding leaving
 deadEnd g s = not (final g s) && not (leaving g s)
 
+-- a transition out of s, and one of the lists from where it leads
+unfoldable pub onward : Graph → (ℕ → List (List ℕ)) → ℕ → List (List ℕ)
+onward g rest s = gather (λ t. given (eqb (from g t) s) (map (λ ts. t ∷ ts) (rest (to g t)))) (count g)
+
 -- the walks of k transitions from s, through unfinished states to one where `stop` says yes
 unfoldable pub walks : Graph → (ℕ → Bool) → ℕ → ℕ → List (List ℕ)
+unfolding onward
 walks g stop zero s = given (stop s) ([] ∷ [])
-walks g stop (suc k) s =
-    let through : ℕ → List (List ℕ) = λ t. given (eqb (from g t) s) (map (λ ts. t ∷ ts) (walks g stop k (to g t))) in
-    given (not (final g s)) (gather through (count g))
+walks g stop (suc k) s = given (not (final g s)) (onward g (λ x. walks g stop k x) s)
 
--- those that begin at a start, each with its start
+-- those with a first step from a start, final or not, before them, each with its start
 unfoldable pub begun : Graph → (ℕ → Bool) → ℕ → List (ℕ × List ℕ)
-unfolding walks
-begun g stop k = gather (λ s. let from-s = map (λ ts. (s, ts)) (walks g stop k s) in given (start g s) from-s) (states g)
+unfolding walks onward
+begun g stop k = gather (λ s. given (start g s) (map (λ ts. (s, ts)) (onward g (walks g stop k) s))) (states g)
 
--- those of fewer than n transitions
-unfoldable pub within : Graph → (ℕ → Bool) → List (ℕ × List ℕ)
+-- a start alone, where `alone` says yes; and those with a first step and fewer than n transitions after it
+unfoldable pub within : Graph → (ℕ → Bool) → (ℕ → Bool) → List (ℕ × List ℕ)
 unfolding begun
-within g stop = gather (begun g stop) (states g)
+within g alone stop = gather (λ s. given (start g s && alone s) ((s, []) ∷ [])) (states g) ++ gather (begun g stop) (states g)
 
--- what the routes of fewer than n transitions cost
+-- what the routes of a first step and fewer than n transitions cost
 unfoldable pub costs : Graph → Cost → List ℕ
 unfolding within
-costs g c = map (λ r. total g c (r .0) (r .1)) (within g (final g))
+costs g c = map (λ r. total g c (r .0) (r .1)) (within g (λ s. false) (final g))
 
 -- the smallest or largest of a list, for `pick` the smaller or larger of two; NONE of no number
 abbrev pub fold : (ℕ → ℕ → ℕ) → ℕ → List ℕ → ℕ
@@ -80,10 +83,14 @@ abbrev pub extreme : (ℕ → ℕ → ℕ) → List ℕ → Figure
 extreme pick [] = NONE
 extreme pick (x ∷ xs) = number (fold pick x xs)
 
--- does an open transition leave s, which is unfinished
-unfoldable pub ringing : Graph → Cost → ℕ → Bool
+-- does an open transition leave s; and is s unfinished too
+unfoldable pub opens : Graph → Cost → ℕ → Bool
 unfolding any
-ringing g c s = not (final g s) && any (λ t. eqb (from g t) s && c .unlimited t) (count g)
+opens g c s = any (λ t. eqb (from g t) s && c .unlimited t) (count g)
+
+unfoldable pub ringing : Graph → Cost → ℕ → Bool
+unfolding opens
+ringing g c s = not (final g s) && opens g c s
 
 -- is a state marked start; is there an endless walk, one that takes an open transition, one to a dead end
 unfoldable pub anyStart : Graph → Bool
@@ -96,11 +103,11 @@ anyEndless g = nonempty (begun g (λ s. not (final g s)) (states g))
 
 unfoldable pub anyOpen : Graph → Cost → Bool
 unfolding within ringing
-anyOpen g c = nonempty (within g (ringing g c))
+anyOpen g c = nonempty (within g (opens g c) (ringing g c))
 
 unfoldable pub anyStranded : Graph → Bool
 unfolding within deadEnd
-anyStranded g = nonempty (within g (deadEnd g))
+anyStranded g = nonempty (within g (λ s. not (leaving g s)) (deadEnd g))
 
 -- "the smallest .. over all routes; NONE if there is no route"
 unfoldable pub least : Graph → Cost → Figure

@@ -9,7 +9,7 @@ use lib.ListN.{length, take}
 use Rattle.graph.specs.declared.Which.{Which}
 use Rattle.graph.specs.declared.Which.the-variants.{LeastDelay, GreatestDelay, LeastCount, GreatestCount}
 use Rattle.graph.specs.Graph.{Graph, start, counted}
-use Rattle.graph.specs.Walk.{visits, arrival, UnfinishedWalk, Different}
+use Rattle.graph.specs.Walk.{visits, arrival, UnfinishedWalk, Different, DifferentButEnds}
 use Rattle.graph.specs.Route.{Route, StrandedWalk, OpenWalk, GoesOnForever, EndsUnanswered, Cost, total, lows, highs}
 use Rattle.graph.specs.Route.{counts}
 
@@ -90,13 +90,13 @@ IsFigure GreatestDelay g = IsGreatest g (costFor GreatestDelay g)
 IsFigure LeastCount g = IsLeast g (costFor LeastCount g)
 IsFigure GreatestCount g = IsGreatest g (costFor GreatestCount g)
 
--- the most that its number can be, of a plan within the limits: 511 transitions of 2,047 seconds, of 2,046 for a greatest delay since a high of 2,047 is no
--- number, and 512 counted states (proofs/Bound.antt)
+-- the most that its number can be, of a plan within the limits: 512 transitions of 2,047 seconds, of 2,046 for a greatest delay since a high of 2,047 is no
+-- number, and 513 counted states, since one may count twice (proofs/Bound.antt)
 abbrev pub most : Which → ℕ
-most LeastDelay = 1046017
-most GreatestDelay = 1045506
-most LeastCount = 512
-most GreatestCount = 512
+most LeastDelay = 1048064
+most GreatestDelay = 1047552
+most LeastCount = 513
+most GreatestCount = 513
 
 -- ---- what is shown
 
@@ -113,8 +113,9 @@ OpenShown g c ts j = (s : ℕ) × OpenWalk g c s ts × (j ≡ length ts) × Diff
 -- the walk of transition numbers ts, k of them, with the place j, is as 01 asks for the figure. "Only ENDLESS has a j":
 -- beside any other kind it is 0. "Which of several such walks is shown is left free."
 abbrev pub Shown : Graph → Cost → Figure → List ℕ → ℕ → Type 0
--- "For a number: a route that attains the figure and visits no state twice."
-Shown g c (number k) ts j = (s : ℕ) × Route g s ts × (total g c s ts ≡ k) × Different (visits g s ts) × (j ≡ 0)
+-- "For a number: a route that attains the figure and visits no state twice", but "A shown route may end where it began, and such a state counts twice if
+-- counted." (document 02, E5)
+Shown g c (number k) ts j = (s : ℕ) × Route g s ts × (total g c s ts ≡ k) × DifferentButEnds (visits g s ts) × (j ≡ 0)
 -- "For STRANDED: an unfinished walk to a dead end, no state twice."
 Shown g c STRANDED ts j = (s : ℕ) × StrandedWalk g s ts × Different (visits g s ts) × (j ≡ 0)
 -- for ENDLESS, a loop or an open transition

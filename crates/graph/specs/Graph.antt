@@ -122,10 +122,14 @@ Final g s = final g s ≡ true
 abbrev pub Unfinished : Graph → ℕ → Type 0
 Unfinished g s = final g s ≡ false
 
+-- no transition leaves s
+abbrev pub NoneDeparts : Graph → ℕ → Type 0
+NoneDeparts g s = (t : ℕ) → Departs g s t → ⊥
+
 -- "A dead end is an unfinished state that no transition leaves."
 pub record DeadEnd (g : Graph) (s : ℕ) : Type 0 where
   pub unfinished : Unfinished g s
-  pub none-departs : (t : ℕ) → Departs g s t → ⊥
+  pub none-departs : NoneDeparts g s
 
 -- what the theorems ask of a plan, and its limits give: every transition leads to a state of the plan ("a state number
 -- not below n" is refused)

@@ -34,9 +34,9 @@ P1-transitions = join 0 1 5 20 ∷ join 1 2 3 15 ∷ join 1 3 2 30 ∷ join 2 3 
 abbrev pub P1 : Row
 P1 = row (4 ∷ 1 ∷ 1 ∷ 2 ∷ []) P1-transitions (number 7) (number 60) (number 1) (number 2)
 
--- "one state, marks 7: 0, 0, 1, 1"
+-- "one state, marks 7", and "P2 gets P3's figures" (document 02, E5)
 abbrev pub P2 : Row
-P2 = row (7 ∷ []) [] (number 0) (number 0) (number 1) (number 1)
+P2 = row (7 ∷ []) [] NONE STRANDED NONE STRANDED
 
 -- "two states, no transitions: NONE, STRANDED, NONE, STRANDED"
 abbrev pub P3 : Row
@@ -98,7 +98,7 @@ open-reached = row (4 ∷ 1 ∷ 2 ∷ []) (join 0 1 1 1 ∷ join 1 2 1 2047 ∷ 
 abbrev pub open-unreached : Row
 open-unreached = row (4 ∷ 2 ∷ 0 ∷ []) (join 0 1 2 3 ∷ join 2 1 1 2047 ∷ []) (number 2) (number 3) (number 0) (number 0)
 
--- one out of a final state
+-- one out of a final state that the walk arrived at
 abbrev pub open-answered : Row
 open-answered = row (4 ∷ 2 ∷ 0 ∷ []) (join 0 1 1 2 ∷ join 1 2 5 2047 ∷ []) (number 1) (number 2) (number 0) (number 0)
 
@@ -120,3 +120,32 @@ all-but-open = row (4 ∷ 2 ∷ []) (join 0 1 0 2046 ∷ []) (number 0) (number 
 
 abbrev pub opened : List Row
 opened = open-reached ∷ open-unreached ∷ open-answered ∷ open-at-once ∷ open-and-stranded ∷ open-from-small ∷ all-but-open ∷ []
+
+-- ---- "Its first state may be final" (document 02, E5): six rows of our own, where state 0 is start and final
+
+-- a transition to itself: a route of one transition, which ends where it began, and its state counts twice
+abbrev pub answered-returns : Row
+answered-returns = row (7 ∷ []) (join 0 0 3 4 ∷ []) (number 3) (number 4) (number 2) (number 2)
+
+-- an unfinished loop
+abbrev pub answered-loop : Row
+answered-loop = row (6 ∷ 0 ∷ []) (join 0 1 1 1 ∷ join 1 1 1 1 ∷ []) NONE ENDLESS NONE ENDLESS
+
+-- a dead end
+abbrev pub answered-stranded : Row
+answered-stranded = row (6 ∷ 0 ∷ []) (join 0 1 1 1 ∷ []) NONE STRANDED NONE STRANDED
+
+-- another final state
+abbrev pub answered-again : Row
+answered-again = row (7 ∷ 3 ∷ []) (join 0 1 2 3 ∷ []) (number 2) (number 3) (number 2) (number 2)
+
+-- no transition, beside a good start: 1→2 is the one route, and the start alone is a dead end
+abbrev pub answered-alone : Row
+answered-alone = row (6 ∷ 4 ∷ 2 ∷ []) (join 1 2 1 2 ∷ []) (number 1) STRANDED (number 0) STRANDED
+
+-- an open transition
+abbrev pub answered-open : Row
+answered-open = row (6 ∷ 2 ∷ []) (join 0 1 1 2047 ∷ []) (number 1) ENDLESS (number 0) (number 0)
+
+abbrev pub answered : List Row
+answered = answered-returns ∷ answered-loop ∷ answered-stranded ∷ answered-again ∷ answered-alone ∷ answered-open ∷ []

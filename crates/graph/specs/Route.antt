@@ -10,16 +10,17 @@ use mathlib.Core.Logic.{_⊎_}
 use lib.Dec.{eqb}
 use Rattle.graph.specs.declared.Duration.{Duration}
 use Rattle.graph.specs.declared.Duration.the-variants.{Seconds, Open}
-use Rattle.graph.specs.Graph.{Graph, from, to, low, high, Departs, Final, Unfinished, DeadEnd}
-use Rattle.graph.specs.Walk.{WalkTo, FromStart, visits, arrival, UnfinishedFrom, EndlessWalk}
+use Rattle.graph.specs.Graph.{Graph, from, to, low, high, Departs, Final, Unfinished, NoneDeparts, DeadEnd}
+use Rattle.graph.specs.Walk.{WalkTo, Begun, visits, arrival, UnfinishedWalk, EndlessWalk}
 
 -- "A route is a finite walk whose last state is final and no earlier one is."; first from any state.
--- "A start that is final is a route of no transitions": the walk of no transitions stops where it begins.
 abbrev pub RouteFrom : Graph → ℕ → List ℕ → Type 0
 RouteFrom g = WalkTo g (Unfinished g) (Final g)
 
+-- "The trade's rule becomes that a route has at least one transition. Its first state may be final, and no state between its first and last may be."
+-- (document 02, E5): a start alone is none
 abbrev pub Route : Graph → ℕ → List ℕ → Type 0
-Route g = FromStart g (RouteFrom g)
+Route g = Begun g (λ s. ⊥) (RouteFrom g)
 
 -- "A start leads to an answer when a route begins at it."
 abbrev pub LeadsToAnswer : Graph → ℕ → Type 0
@@ -34,8 +35,9 @@ HasEndlessWalk g = (s : ℕ) × (taken : ℕ → ℕ) × EndlessWalk g s taken
 abbrev pub StrandedFrom : Graph → ℕ → List ℕ → Type 0
 StrandedFrom g = WalkTo g (Unfinished g) (DeadEnd g)
 
+-- ".. and a start without transitions is a dead end" (E5), final or not
 abbrev pub StrandedWalk : Graph → ℕ → List ℕ → Type 0
-StrandedWalk g = FromStart g (StrandedFrom g)
+StrandedWalk g = Begun g (NoneDeparts g) (StrandedFrom g)
 
 -- ".. and one can end unanswered when a walk of unfinished states ends in a dead end."
 abbrev pub EndsUnanswered : Graph → Type 0
@@ -108,19 +110,15 @@ number-on g p s ts = tally p (visits g s ts)
 
 -- ---- a call that goes on forever
 
--- "an unfinished walk .. can take a transition with an open high" (E2): a walk of unfinished states, and one open transition more, which may lead
--- anywhere; first from any state
-pub record OpenFrom (g : Graph) (c : Cost) (s : ℕ) (ts : List ℕ) : Type 0 where
+-- "an unfinished walk from a start can take a transition with an open high" (E2): a walk of unfinished states, which begins as any does, and one open
+-- transition more, which may lead anywhere
+pub record OpenWalk (g : Graph) (c : Cost) (s : ℕ) (ts : List ℕ) : Type 0 where
   pub before : List ℕ
   pub last : ℕ
   pub ends-with : ts ≡ before ++ (last ∷ [])
-  pub unfinished : UnfinishedFrom g s before
+  pub unfinished : UnfinishedWalk g s before
   pub departs : Departs g (arrival g s before) last
   pub unlimited : c .unlimited last ≡ true
-
--- "from a start"
-abbrev pub OpenWalk : Graph → Cost → ℕ → List ℕ → Type 0
-OpenWalk g c = FromStart g (OpenFrom g c)
 
 abbrev pub HasOpenWalk : Graph → Cost → Type 0
 HasOpenWalk g c = (s : ℕ) × (ts : List ℕ) × OpenWalk g c s ts

@@ -2,7 +2,7 @@
 --
 -- A walk is a state, where it begins, and a list of transition numbers, or a sequence of them without end: the states on
 -- it follow. What a walk must meet is said first of a walk from any state; how the walks of a plan begin is said by
--- `FromStart`, for finite and endless ones alike. Assumes nothing.
+-- `FromStart` and `FirstStep`, for finite and endless ones alike. Assumes nothing.
 use Prim.Native.Nat.{ℕ, zero, suc, _<_}
 use mathlib.Core.Path.{_≡_}
 use mathlib.Core.Bool.{true}
@@ -30,9 +30,22 @@ arrival g s (t ∷ ts) = arrival g (to g t) ts
 abbrev pub Begins : Graph → ℕ → Type 0
 Begins g s = start g s ≡ true
 
--- HOW A WALK BEGINS (E5 changes this, and what is shown): "A walk is a start state followed by" its transitions, and K is asked of it
+-- HOW A WALK BEGINS: "A walk is a start state followed by" its transitions, and K is asked of it ..
 abbrev pub FromStart : {A : Type 0} → Graph → (ℕ → A → Type 0) → ℕ → A → Type 0
 FromStart g K s ts = Begins g s × K s ts
+
+-- .. "Its first state may be final" (document 02, E5): no more is asked of the first state than that a transition departs from it, and K is asked of the
+-- rest, from where that leads
+abbrev pub FirstStep : {A : Type 0} → Graph → (ℕ → A → Type 0) → ℕ → ℕ → A → Type 0
+FirstStep g K s t rest = Departs g s t × K (to g t) rest
+
+-- a finite walk of the plan; `alone` is asked of a start that is all of it
+abbrev pub AfterStart : Graph → (ℕ → Type 0) → (ℕ → List ℕ → Type 0) → ℕ → List ℕ → Type 0
+AfterStart g alone K s [] = alone s
+AfterStart g alone K s (t ∷ ts) = FirstStep g K s t ts
+
+abbrev pub Begun : Graph → (ℕ → Type 0) → (ℕ → List ℕ → Type 0) → ℕ → List ℕ → Type 0
+Begun g alone K = FromStart g (AfterStart g alone K)
 
 -- "A walk is a start state followed by transitions of the plan, each departing where the one before arrived": nothing
 -- more is asked of its states. First from any state.
@@ -42,16 +55,20 @@ WalkFrom g = WalkTo g (λ s. Unit {0}) (λ s. Unit {0})
 abbrev pub Walk : Graph → ℕ → List ℕ → Type 0
 Walk g = FromStart g (WalkFrom g)
 
--- "a walk of unfinished states"; first from any state
+-- "a walk of unfinished states"; first from any state. Of the plan, it "likewise may begin at a final start" (E5)
 abbrev pub UnfinishedFrom : Graph → ℕ → List ℕ → Type 0
 UnfinishedFrom g = WalkTo g (Unfinished g) (Unfinished g)
 
 abbrev pub UnfinishedWalk : Graph → ℕ → List ℕ → Type 0
-UnfinishedWalk g = FromStart g (UnfinishedFrom g)
+UnfinishedWalk g = Begun g (λ s. Unit {0}) (UnfinishedFrom g)
 
 -- "visits no state twice": no two places of the list hold the same
 abbrev pub Different : List ℕ → Type 0
 Different xs = (i j : ℕ) → i < j → j < length xs → getD xs i 0 ≡ getD xs j 0 → ⊥
+
+-- "may end where it began" (E5): no two places hold the same, unless they are the first and the last
+abbrev pub DifferentButEnds : List ℕ → Type 0
+DifferentButEnds xs = (i j : ℕ) → i < j → j < length xs → getD xs i 0 ≡ getD xs j 0 → (i ≡ 0) × (suc j ≡ length xs)
 
 -- the state after the first i transitions of a sequence, walked from s
 abbrev pub reached : Graph → ℕ → (ℕ → ℕ) → ℕ → ℕ
@@ -65,4 +82,4 @@ pub record EndlessFrom (g : Graph) (s : ℕ) (taken : ℕ → ℕ) : Type 0 wher
   pub unfinished : (i : ℕ) → Unfinished g (reached g s taken i)
 
 abbrev pub EndlessWalk : Graph → ℕ → (ℕ → ℕ) → Type 0
-EndlessWalk g = FromStart g (EndlessFrom g)
+EndlessWalk g = FromStart g (λ s taken. FirstStep g (EndlessFrom g) s (taken 0) (λ i. taken (suc i)))

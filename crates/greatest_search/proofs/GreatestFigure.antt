@@ -2,26 +2,26 @@
 --
 -- 1. A loop: the states on the stack are the first states of a walk, whose last transition leads back to one of them (`loop-shown`).
 -- 2. A rank that falls, from all starts (values' `falling`): no walk goes on forever. Up the tree the rank rises (`rising`), so a state that was entered
---    has a walk from a start, down the tree (`walked-down`), which shows a dead end (`dead-end-shown`).
+--    has a walk from a start, down the tree, to states that are unfinished (`walked-down`), which shows a dead end, the start alone too (`dead-end-shown`).
 -- Assumes nothing.
 use mathlib.Core.Bool.{false}
 use mathlib.Core.List.{List}
 use mathlib.Core.Logic.{_⊎_, inl, inr, ⊎-elim}
-use mathlib.Core.Path.{_≡_, refl, sym, ap, _∙_}
-use Prim.Native.Nat.{ℕ, zero, suc, _≤_, _<_}
+use mathlib.Core.Path.{_≡_, refl, sym, ap, _∙_, subst}
+use Prim.Native.Nat.{ℕ, zero, suc, _+_, _-_, _≤_, _<_}
 use native.Mathlib.Nat.{le-refl}
 use native.Mathlib.Omega.{arith}
 use lib.ListN.{length, take, drop}
 use lib.Seq.{length-take-le, getD-take}
-use Rattle.graph.specs.Graph.{Graph, to, Unfinished, DeadEnd}
-use Rattle.graph.specs.Walk.{Begins, visits, arrival, UnfinishedFrom, UnfinishedWalk, Different}
+use Rattle.graph.specs.Graph.{Graph, Unfinished}
+use Rattle.graph.specs.Walk.{Begins, AfterStart, visits, arrival, UnfinishedFrom, UnfinishedWalk, Different}
 use Rattle.graph.specs.Route.{Cost}
 use Rattle.graph.specs.Figure.{NONE, STRANDED, ENDLESS, IsGreatest, LoopShown, Shown}
 use Rattle.graph.proofs.Build.{StepAt}
-use Rattle.graph.proofs.Certificate.{greatest-endless, endless-by-places, greatest-stranded}
+use Rattle.graph.proofs.Certificate.{ends-nowhere, greatest-endless, endless-by-places, greatest-stranded}
 use Rattle.graph.proofs.Repeat.{nth, Apart}
-use Rattle.graph.proofs.Walks.{with-last}
-use Rattle.search.specs.Arrays.{Arrays, at, StartIn, Leaves, Bounded, StandsIn}
+use Rattle.graph.proofs.Walks.{after-of}
+use Rattle.search.specs.Arrays.{Arrays, at, StartIn, UnfinishedIn, Leaves, Bounded, StandsIn}
 use Rattle.search.specs.Chain.{none}
 use Rattle.turns.specs.Search.{Table, Loop, Rooted}
 use Rattle.hunt.specs.Hunted.{DeadEndAt}
@@ -32,8 +32,9 @@ use Rattle.tree.specs.Tree.{Rising, up, Climbable, Climbs, Climbed}
 use Rattle.reach.proofs.Hunting.{onward-lower}
 use Rattle.values.proofs.BestFigure.{falling}
 use Rattle.tree.proofs.Climbing.{climbed-along, climbed-steps}
-use Rattle.search.proofs.Held.{held-final, held-start, begins-in, departs, leaves, dead-end, held-walk}
-use Rattle.search.proofs.Held.{held-arrival, held-different}
+use Rattle.search.proofs.Held.{held-final, held-start, begins-in, departs, leaves, held-walk}
+use Rattle.search.proofs.Held.{held-at, held-arrival, held-different}
+use Rattle.arrays.proofs.Lists.{below-or-not}
 
 -- a walk of unfinished states from a start to s that visits no state twice
 pub record WalkDown (g : Graph) (s : ℕ) (ts : List ℕ) : Type 0 where
@@ -61,7 +62,7 @@ module _ (A : Arrays) (bounded : Bounded A) (a : Table) where
 
     module _ (g : Graph) (held : StandsIn A g) where
       pub loop-shown : d ≤ length walk → LoopShown g (take d walk) j
-      loop-shown room = endless-by-places g (along (A .to) (at (a .stack) 0) walk) (take d walk) begins steps j (rw long (l .below)) same apart
+      loop-shown room = endless-by-places g (along (A .to) (at (a .stack) 0) walk) (take d walk) begins steps unfinished j (rw long (l .below)) same apart
         where
           long : length (take d walk) ≡ d
           long = length-take-le d walk room
@@ -69,16 +70,20 @@ module _ (A : Arrays) (bounded : Bounded A) (a : Table) where
           begins : Begins g (at (a .stack) 0)
           begins = let (h, r) = l .stacked 0 (omega (arith, l .below)) in held-start held (at (a .stack) 0) h ∙ l .root
 
-          steps : (i : ℕ) → i < length (take d walk) → StepAt g (Unfinished g) (Unfinished g) (along (A .to) (at (a .stack) 0) walk) (take d walk) i
+          steps : (i : ℕ) → i < length (take d walk) → StepAt g (λ x. Unit) (λ x. Unit) (along (A .to) (at (a .stack) 0) walk) (take d walk) i
           steps i q =
               let b : i < d = rw long at q in
               let e : nth (take d walk) i ≡ at walk i = getD-take d walk i 0 b in
               let p : Leaves A (at (a .stack) i) (at walk i) = rw (written i b) (l .leaves i b) in
-              record {
-                passes = rw (on-stack i b) (held-final held (at (a .stack) i) (l .stacked i b .0) ∙ l .unfinished i b);
-                departs = rw (e, on-stack i b) (departs held p);
-                arrives = rw e (held .arrives (at walk i) (p .listed));
-              }
+              record { passes = tt; departs = rw (e, on-stack i b) (departs held p); arrives = rw e (held .arrives (at walk i) (p .listed)) }
+
+          -- each state after the first is unfinished, the last too, which is on the stack
+          unfinished : (i : ℕ) → i < length (take d walk) → Unfinished g (along (A .to) (at (a .stack) 0) walk (suc i))
+          unfinished i q = go (below-or-not (suc i) d)
+            where
+              go : (suc i < d) ⊎ (d ≤ suc i) → Unfinished g (along (A .to) (at (a .stack) 0) walk (suc i))
+              go (inl h) = rw (on-stack (suc i) h) (held-final held (at (a .stack) (suc i)) (l .stacked (suc i) h .0) ∙ l .unfinished i h)
+              go (inr h) = rw (last (suc i) (omega (arith, long))) (held-final held (at (a .stack) j) (l .stacked j (l .below) .0) ∙ l .back-unfinished)
 
           same : along (A .to) (at (a .stack) 0) walk (length (take d walk)) ≡ along (A .to) (at (a .stack) 0) walk j
           same = last (length (take d walk)) long ∙ sym (on-stack j (l .below))
@@ -102,46 +107,68 @@ module _ (A : Arrays) (bounded : Bounded A) (a : Table) where
             → (at (a .via) s ≡ none)
             ⊎ ((at (a .via) s < A .m) × (at (A .from) (at (a .via) s) < A .n) × (at (a .rank) s < at (a .rank) (at (A .from) (at (a .via) s))))
         go (inl (e, b)) = inl e
-        go (inr (l, e, q)) =
+        go (inr (l, e, q, u)) =
             let y = at (A .from) (at (a .via) s) in
             let b = bounded .leaves (at (a .via) s) l in
-            let f = onward-lower r y (at (a .via) s) b q (record { listed = l; source = refl }) (rw e (r .unfinished s h p)) in
+            let f = onward-lower r y (at (a .via) s) b q (record { listed = l; source = refl }) (rw e u) in
             inr (l, b, rw e at (f .1))
 
     module _ (g : Graph) (held : StandsIn A g) (s k : ℕ) (before after : List ℕ) (room : k ≤ length after) (h : s < A .n) (p : 0 < at (a .rank) s)
         (climbs : Climbs (A .n) (A .m) (A .from) (a .rank) (a .via) s k) (climbed : Climbed (A .from) (a .via) s k before after) where
-      -- the walk down the tree to a state that was entered: from a start, through unfinished states, none twice
+      abbrev top : ℕ
+      top = up (A .from) (a .via) s k
+
+      -- a state that a transition led to is where that leads, and unfinished
+      led-to : (x : ℕ) → x < A .n → 0 < at (a .rank) x → at (a .via) x < A .m → (at (A .to) (at (a .via) x) ≡ x) × UnfinishedIn (A .marks) x
+      led-to x b q l = ⊎-elim (λ w. absurd (omega (arith, bounded .count, w .0))) (λ w. (w .1, w .3)) (r .origin x b q)
+
+      arrives : (x : ℕ) → x < A .n → 0 < at (a .rank) x → at (a .via) x < A .m → at (A .to) (at (a .via) x) ≡ x
+      arrives x b q l = led-to x b q l .0
+
+      steps : Steps A (up (A .from) (a .via) s k) after k
+      steps = climbed-steps A (a .rank) (a .via) s k before after climbs climbed arrives
+
+      place : (i u : ℕ) → i + u ≡ k → along (A .to) (up (A .from) (a .via) s k) after i ≡ up (A .from) (a .via) s u
+      place i u e = climbed-along A (a .rank) (a .via) s k before after climbs climbed arrives i u e
+
+      -- each state after the first is one that a transition led to
+      later-unfinished : (i : ℕ) → i < k → Unfinished g (along (A .to) (up (A .from) (a .via) s k) after (suc i))
+      later-unfinished i l =
+          let u = k - suc i in
+          let (b, q, z) = climbs .below u (omega arith) in
+          rw (place (suc i) u (omega arith)) (held-final held (up (A .from) (a .via) s u) b ∙ led-to (up (A .from) (a .via) s u) b q (climbs .listed u (omega arith) .0) .1)
+
+      -- the walk down the tree to a state that was entered: from a start, final or not, through unfinished states, none twice
       pub walked-down : WalkDown g s (take k after)
-      walked-down = record { first = top; walk = (begins, walk); arrives = held-arrival held bounded top after k room steps ∙ end; different = held-different held bounded top after k room steps }
+      walked-down = record {
+        first = top;
+        walk = (begins, walk);
+        arrives = held-arrival held bounded top after k room steps ∙ place k 0 (omega arith);
+        different = held-different held bounded top after k room steps;
+      }
         where
-          top : ℕ
-          top = up (A .from) (a .via) s k
+          long : length (take k after) ≡ k
+          long = length-take-le k after room
 
-          arrives : (x : ℕ) → x < A .n → 0 < at (a .rank) x → at (a .via) x < A .m → at (A .to) (at (a .via) x) ≡ x
-          arrives x b q l = ⊎-elim (λ w. absurd (omega (arith, bounded .count, w .0))) (λ w. w .1) (r .origin x b q)
-
-          steps : Steps A (up (A .from) (a .via) s k) after k
-          steps = climbed-steps A (a .rank) (a .via) s k before after climbs climbed arrives (r .unfinished)
-
-          end : along (A .to) (up (A .from) (a .via) s k) after k ≡ s
-          end = climbed-along A (a .rank) (a .via) s k before after climbs climbed arrives (r .unfinished) k 0 (omega arith)
-
-          walk : UnfinishedFrom g (up (A .from) (a .via) s k) (take k after)
-          walk =
-              held-walk held bounded (up (A .from) (a .via) s k) after k room steps (Unfinished g)
-              (rw end (held-final held s h ∙ r .unfinished s h p))
-
-          begins : Begins g (up (A .from) (a .via) s k)
+          begins : Begins g top
           begins =
               let (b, q, z) = climbs .below k (le-refl k) in
-              held-start held (up (A .from) (a .via) s k) b
-              ∙ ⊎-elim (λ w. w .1) (λ w. absurd (omega (arith, bounded .count, climbs .root, w .0))) (r .origin (up (A .from) (a .via) s k) b q)
+              held-start held top b ∙ ⊎-elim (λ w. w .1) (λ w. absurd (omega (arith, bounded .count, climbs .root, w .0))) (r .origin top b q)
+
+          end : 0 < k → Unfinished g (along (A .to) top after k)
+          end l = let e : suc (k - 1) ≡ k = omega arith in subst (λ (j : ℕ). Unfinished g (along (A .to) top after j)) e (later-unfinished (k - 1) (omega arith))
+
+          walk : AfterStart g (λ x. Unit) (UnfinishedFrom g) top (take k after)
+          walk =
+              after-of g (λ x. Unit) (Unfinished g) (Unfinished g) top (take k after)
+              (held-walk held bounded top after k room steps (λ x. Unit) (λ x. Unit) (λ i l. tt) tt) (λ e. tt)
+              (λ i l. rw (held-at held bounded top after k room steps (suc i) (omega (arith, long))) (later-unfinished i (omega (arith, long))))
+              (λ l. rw (held-arrival held bounded top after k room steps) (end (omega (arith, long))))
 
       pub dead-end-shown : (c : Cost) → ((t : ℕ) → Leaves A s t → ⊥) → Shown g c STRANDED (take k after) 0
       dead-end-shown c none =
           let w = walked-down in
-          let end : DeadEnd g (arrival g (w .first) (take k after)) = rw (w .arrives) (dead-end held s h (r .unfinished s h p) none) in
-          (w .first, (w .walk .0, with-last g (Unfinished g) (Unfinished g) (DeadEnd g) (w .first) (take k after) (w .walk .1) end), w .different, refl)
+          (w .first, ends-nowhere g (w .first) (take k after) (w .walk) (rw (w .arrives) (λ t d. none t (leaves held d))), w .different, refl)
 
 -- ---- as they are quoted
 

@@ -1,6 +1,6 @@
 -- The hunt for a dead end. A state is looked at (`Looked`) when it has a transition itself, if it was entered as a start, and when each unfinished
--- state that its transitions lead to has one. A state that was entered is a start, or a transition leads to it from a state that was entered: so
--- when all were looked at, none is a dead end (`hunted-none`). Assumes nothing.
+-- state that its transitions lead to has one. A state that was entered is a start, final or not, or it is unfinished and a transition leads to it from a state that
+-- was entered: so when all were looked at, none is a dead end (`hunted-none`). Assumes nothing.
 use mathlib.Core.List.{List}
 use mathlib.Core.Logic.{inl, inr}
 use mathlib.Core.Path.{_≡_, refl}
@@ -35,11 +35,11 @@ module _ {A : Arrays} {head link rank via : List ℕ} (e : Entered A head link r
   first-of s h l = let q = first-at s h .listed l in (at head s, record { listed = q .1; source = q .2 })
 
   pub hunted-none : ((x : ℕ) → x < A .n → 0 < at rank x → Looked A head via x) → NoDeadEnd A rank
-  hunted-none looked s h r = let (u, o) = e .rooted s h r in go u o
+  hunted-none looked s h r = go (e .rooted s h r)
     where
-      go : UnfinishedIn (A .marks) s → Rooted A rank via s → (t : ℕ) × Leaves A s t
-      go u (inl (q, b)) = first-of s h (looked s h r .itself q)
-      go u (inr (l, q, p)) =
+      go : Rooted A rank via s → (t : ℕ) × Leaves A s t
+      go (inl (q, b)) = first-of s h (looked s h r .itself q)
+      go (inr (l, q, p, u)) =
           let y = at (A .from) (at via s) in
           let there = looked y (e .linked .bounded .leaves (at via s) l) p .behind (at via s) l refl (rw q u) in
           first-of s h (rw q at there)

@@ -15,10 +15,10 @@ module _ (A : Arrays) where
   abbrev pub NoDeadEnd : List ℕ → Type 0
   NoDeadEnd rank = (s : ℕ) → s < A .n → 0 < at rank s → (t : ℕ) × Leaves A s t
 
-  -- what the hunt goes by: each state with a rank is unfinished and was entered as a start, or by a transition from another one; and where it leads on, there is a rank
+  -- what the hunt goes by: each state with a rank was entered as a start, final or not, or, unfinished, by a transition from another one; and where it leads on, there is a rank
   pub record Entered (head link rank via : List ℕ) : Type 0 where
     pub linked : Linked A head link
-    pub rooted : (s : ℕ) → s < A .n → 0 < at rank s → UnfinishedIn (A .marks) s × Rooted A rank via s
+    pub rooted : (s : ℕ) → s < A .n → 0 < at rank s → Rooted A rank via s
     pub onward : (s t : ℕ) → s < A .n → 0 < at rank s → Leaves A s t → UnfinishedIn (A .marks) (at (A .to) t) → 0 < at rank (at (A .to) t)
 
   -- what the hunt answers: a dead end, or 512

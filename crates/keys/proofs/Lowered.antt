@@ -2,7 +2,7 @@
 -- accounts for the new key, and every other key is still accounted for by the transition that accounted for it (`keys-lowered`). So an offer to the
 -- state behind a transition keeps the keys (`keys-offered`), and so does a transition that is relaxed (`pass-turn`). Over a pass either some key fell,
 -- and with it the sum of the keys, or the keys are those that it began with, and no transition passed can lower one (`Passing`). The keys of a search
--- begin as the closes of the final states (`Seeding`). The nearest start is found by comparing (`Nearing`). Assumes nothing.
+-- begin as the closes of the final states (`Seeding`). Assumes nothing.
 use mathlib.Core.Bool.{Bool, true, false, true≢false}
 use mathlib.Core.List.{List}
 use mathlib.Core.Logic.{_⊎_, inl, inr, _≢_}
@@ -11,9 +11,9 @@ use Prim.Native.Nat.{ℕ, suc, _+_, _≤_, _<_}
 use native.Mathlib.Nat.{le-refl}
 use native.Mathlib.Omega.{arith}
 use lib.ListN.{length, set, replicate, length-set}
-use Rattle.search.specs.Arrays.{Arrays, arrays, at, StartIn, FinalIn, UnfinishedIn, Leaves, Bounded, Below}
+use Rattle.search.specs.Arrays.{Arrays, arrays, at, FinalIn, UnfinishedIn, Leaves, Bounded, Below}
 use Rattle.search.specs.Sizes.{sumTo}
-use Rattle.keys.specs.Keys.{Keys, Settled, Passing, Offered, Relaxed, Nearest}
+use Rattle.keys.specs.Keys.{Keys, Settled, Passing, Offered, Relaxed}
 use Rattle.search.specs.Sizes.{far, heaviest}
 use Rattle.search.proofs.Places.{at-set, zeros, sum-falls}
 use Rattle.arrays.proofs.Lists.{same-or-not}
@@ -174,51 +174,3 @@ module _ {marks close : List ℕ} where
       known : (s : ℕ) → UnfinishedIn marks s → at key s < far → Seeded marks close key s → ⊥
       known s o b (inl q) = never-both (q .0) o
       known s o b (inr q) = omega (arith, q .1)
-
--- the nearest start of those below i, and its key
-pub record Nearing (n : ℕ) (marks key : List ℕ) (i best least : ℕ) : Type 0 where
-  pub which : ((best ≡ n) × (least ≡ far)) ⊎ ((best < n) × StartIn marks best × (at key best ≡ least) × (least < far))
-  pub least-so-far : (s : ℕ) → s < i → StartIn marks s → least ≤ at key s
-
-module _ {n : ℕ} {marks key : List ℕ} where
-  pub nearing-none : Nearing n marks key 0 n far
-  nearing-none = record { which = inl (refl, refl); least-so-far = λ s l. absurd (omega arith) }
-
-  nearing-turn : (i best least best′ least′ : ℕ) → Nearing n marks key i best least → least′ ≤ least → (StartIn marks i → least′ ≤ at key i)
-      → ((best′ ≡ n) × (least′ ≡ far)) ⊎ ((best′ < n) × StartIn marks best′ × (at key best′ ≡ least′) × (least′ < far)) → Nearing n marks key (suc i) best′ least′
-  nearing-turn i best least best′ least′ p l h q = record { which = q; least-so-far = λ s b. go s b (same-or-not s i) }
-    where
-      go : (s : ℕ) → s < suc i → (s ≡ i) ⊎ (s ≢ i) → StartIn marks s → least′ ≤ at key s
-      go s b (inl e) o = rw e (h (rw e at o))
-      go s b (inr ne) o = omega (arith, p .least-so-far s (omega (arith, ne)) o)
-
-  -- a nearer start; a start that is not nearer; a state that is no start
-  pub nearing-nearer : {i best least : ℕ} → i < n → StartIn marks i → at key i < least → least ≤ far → Nearing n marks key i best least → Nearing n marks key (suc i) i (at key i)
-  nearing-nearer {i} {best} {least} b o l w p = nearing-turn i best least i (at key i) p (omega arith) (λ s. le-refl _) (inr (b, o, refl, omega arith))
-
-  pub nearing-kept : {i best least : ℕ} → (StartIn marks i → least ≤ at key i) → Nearing n marks key i best least → Nearing n marks key (suc i) best least
-  nearing-kept {i} {best} {least} h p = nearing-turn i best least best least p (le-refl _) h (p .which)
-
-  pub nearing-most : {i best least : ℕ} → Nearing n marks key i best least → least ≤ far
-  nearing-most {i} {best} {least} p = go (p .which)
-    where
-      go : ((best ≡ n) × (least ≡ far)) ⊎ ((best < n) × StartIn marks best × (at key best ≡ least) × (least < far)) → least ≤ far
-      go (inl q) = omega arith
-      go (inr q) = omega arith
-
-  pub nearest : {best least : ℕ} → Nearing n marks key n best least → Nearest n marks key best
-  nearest {best} {least} p = go (p .which)
-    where
-      go : ((best ≡ n) × (least ≡ far)) ⊎ ((best < n) × StartIn marks best × (at key best ≡ least) × (least < far)) → Nearest n marks key best
-      go (inl q) = record {
-        most = omega arith;
-        found = λ h. absurd (omega arith);
-        least = λ h. absurd (omega arith);
-        none = λ h s b o. omega (arith, p .least-so-far s b o);
-      }
-      go (inr q) = record {
-        most = omega arith;
-        found = λ h. (q .1, omega arith);
-        least = λ h s b o. omega (arith, p .least-so-far s b o);
-        none = λ h. absurd (omega arith);
-      }

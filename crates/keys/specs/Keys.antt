@@ -6,9 +6,12 @@ use mathlib.Core.Logic.{_⊎_}
 use mathlib.Core.Path.{_≡_}
 use Prim.Native.Nat.{ℕ, _+_, _≤_, _<_}
 use lib.ListN.{length, set}
-use Rattle.search.specs.Arrays.{Arrays, at, StartIn, FinalIn, UnfinishedIn, Leaves, Bounded}
+use Rattle.graph.specs.Graph.{startMark}
+use Rattle.search.specs.Arrays.{Arrays, at, FinalIn, UnfinishedIn, Leaves, Bounded}
 use Rattle.search.specs.Chain.{Chains}
 use Rattle.search.specs.Sizes.{far, heaviest, sumTo}
+use Rattle.best_step.specs.declared.Step.{Step}
+use Rattle.best_step.specs.Steps.{BestStep}
 
 -- the weights and closes of a search: none of the m transitions weighs nothing
 pub record Weighed (m : ℕ) (weight close : List ℕ) : Type 0 where
@@ -41,13 +44,6 @@ abbrev pub Settled : Arrays → List ℕ → ℕ → ℕ → List ℕ → Type 0
 Settled A weight i bound key = (t : ℕ) → t < i → UnfinishedIn (A .marks) (at (A .from) t)
     → (at key (at (A .from) t) ≤ at weight t + at key (at (A .to) t)) ⊎ (bound ≤ at weight t + at key (at (A .to) t))
 
--- none of all to less than the key of the state r; none at all where r is no state
-pub record SettledBy (A : Arrays) (weight : List ℕ) (r : ℕ) (key : List ℕ) : Type 0 where
-  pub bound : ℕ
-  pub settled : Settled A weight (A .m) bound key
-  pub nearest : r < A .n → bound ≡ at key r
-  pub none : A .n ≤ r → bound ≡ far
-
 -- a pass over the first i transitions: it lowered a key, as r says, and with it the sum of the keys; or they are as they were, and settled
 pub record Passing (A : Arrays) (weight close : List ℕ) (bound i : ℕ) (before : List ℕ) (r : Bool) (after : List ℕ) : Type 0 where
   pub keys : Keys A weight close after
@@ -67,15 +63,8 @@ Relaxed marks from to weight bound t key r key′ =
     ⊎ ((r ≡ false) × (key′ ≡ key) × (UnfinishedIn marks (at from t)
     → (at key (at from t) ≤ at weight t + at key (at to t)) ⊎ (bound ≤ at weight t + at key (at to t))))
 
--- r is a start with the least key; n where no start has a key
-pub record Nearest (n : ℕ) (marks key : List ℕ) (r : ℕ) : Type 0 where
-  pub most : r ≤ n
-  pub found : r < n → StartIn marks r × (at key r < far)
-  pub least : r < n → (s : ℕ) → s < n → StartIn marks s → at key r ≤ at key s
-  pub none : n ≤ r → (s : ℕ) → s < n → StartIn marks s → far ≤ at key s
-
--- keys that a least figure can be read off: settled by the nearest start r
-pub record Ready (A : Arrays) (weight close : List ℕ) (r : ℕ) (key : List ℕ) : Type 0 where
+-- keys that a least figure can be read off: the step is the best first step, and none can be lowered to less than what it costs
+pub record Ready (A : Arrays) (weight close : List ℕ) (step : Step) (key : List ℕ) : Type 0 where
   pub keyed : Keyed A weight close key
-  pub near : Nearest (A .n) (A .marks) key r
-  pub by : SettledBy A weight r key
+  pub first : BestStep true (A .m) (A .from) (A .to) weight key (λ x. startMark (at (A .marks) x)) step
+  pub settled : Settled A weight (A .m) (step .cost) key

@@ -1,15 +1,15 @@
 // Keys of the states of a graph in lent arrays: a key is a bound from above on what a route from the state costs. Whatever keys there are, every one that could be
-// lowered to less than the best start's is lowered; where a search has spread them nearest first, one pass over the transitions finds that there is none.
+// lowered to less than what the best first step costs is lowered; where a search has spread them nearest first, one pass over the transitions finds that there is none.
 ghost use mathlib.Core.List.{List};
 ghost use Prim.Native.Nat.{ℕ, _≤_, _<_};
 ghost use lib.ListN.{length};
 ghost use Rattle.search.specs.Arrays.{arrays, at};
+ghost use Rattle.search.specs.Chain.{Chains};
 ghost use Rattle.search.specs.Sizes.{far, heaviest};
-ghost use Rattle.keys.specs.Keys.{Keyed, Passing, Ready, Relaxed, Nearest};
+ghost use Rattle.keys.specs.Keys.{Keyed, Passing, Ready, Relaxed};
 use arrays::limits::wide;
-use search::FAR;
+use best_step::Step;
 use search::is_final;
-use search::is_start;
 
 // Lowers the key of the state that t leaves, where the way by t is cheaper, and cheaper than the bound. Returns whether it did.
 fn relax(
@@ -66,45 +66,26 @@ fn pass(
     lowered
 }
 
-// A start with the least key; n where no start has a key.
-fn nearest_start(n: usize, marks: &[u8; 512], key: &[u32; 512]) -> usize
-    requires { ⌜ n ≤ 512 ⌝ }
-    ensures { λ r. ⌜ Nearest n (now (marks .entry)) (now (key .entry)) r ⌝ }
-{
-    let mut best = n;
-    let mut least = FAR;
-    let mut s = 0;
-    while s < n {
-        if is_start(marks[s]) {
-            if key[s] < least {
-                best = s;
-                least = key[s];
-            }
-        }
-        s += 1;
-    }
-    best
-}
-
-// Lowers keys until none can be lowered to less than the best start's. Returns that start; n where no start has a key.
+// Lowers keys until none can be lowered to less than what the best first step costs. Returns that step; its cost is FAR where no step leads to a key.
 pub fn settle(
     n: usize,
     m: usize,
     marks: &[u8; 512],
     from: &[u16; 2048],
     to: &[u16; 2048],
+    head: &[u16; 512],
+    link: &[u16; 2048],
     weight: &[u32; 2048],
     key: &mut [u32; 512],
-) -> usize
-    requires { ⌜ ((close : List ℕ) × Keyed (arrays n m (now marks) (now from) (now to)) (now weight) close (now key)) ⌝ }
+) -> Step
+    requires { ⌜ ((close : List ℕ) × Keyed (arrays n m (now marks) (now from) (now to)) (now weight) close (now key)) × Chains (now from) m (now head) (now link) ⌝ }
     ensures { λ r. ⌜ ((close : List ℕ) → Keyed (arrays n m (now (marks .entry)) (now (from .entry)) (now (to .entry))) (now (weight .entry)) close (now (key .entry))
         → Ready (arrays n m (now (marks .entry)) (now (from .entry)) (now (to .entry))) (now (weight .entry)) close r (now (key .exit))) ⌝ }
 {
     loop {
-        let best = nearest_start(n, marks, key);
-        let bound = if best < n { key[best] } else { FAR };
-        if !pass(m, bound, marks, from, to, weight, key) {
-            return best;
+        let first = best_step::first(true, n, marks, to, head, link, weight, key);
+        if !pass(m, first.cost, marks, from, to, weight, key) {
+            return first;
         }
     }
 }

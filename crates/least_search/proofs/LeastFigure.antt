@@ -1,21 +1,23 @@
 -- From settled keys to the least figure.
 --
--- 1. Where the best start has the key B: a route from s costs at least the key of s, or at least B (`route-bound` of graph's certificates), so a route
---    from a start costs at least B. Within the states whose key is at most B some transition accounts for the key exactly, and each that does leads
---    to a lower key: so a route can be read off (`leading`), and costs B.
--- 2. Where no start has a key: from each state with a key a route can be followed that visits no state twice and costs the key, so the key is far
+-- 1. Where the best first step costs B: a route from s costs at least the key of s, or at least B (`route-bound` of graph's certificates), so a route
+--    that begins with a step from a start costs at least B. Within the states whose key is at most B some transition accounts for the key exactly, and each that does leads
+--    to a lower key: so a route can be read off behind the step (`leading`), and costs B with it. An unfinished start is none of the states behind: its key would be below
+--    B, and so would what some step out of it costs (`higher`).
+-- 2. Where no first step leads to a key: from each state with a key a route can be followed that visits no state twice and costs the key, so the key is far
 --    below `far` (`key-bound`); so a state with a transition to one with a key has a key, and no start leads to an answer (`no-route`).
 -- Assumes nothing.
+use mathlib.Core.Bool.{true}
 use mathlib.Core.List.{List, [], _∷_}
 use mathlib.Core.Logic.{_⊎_, inl, inr, ⊎-elim}
 use mathlib.Core.Path.{_≡_, refl, sym, ap, _∙_}
 use Prim.Native.Nat.{ℕ, _+_, _*_, _≤_, _<_}
-use native.Mathlib.Nat.{le-refl, mul-le-mul-right}
+use native.Mathlib.Nat.{mul-le-mul-right}
 use native.Mathlib.Omega.{arith}
 use borrow.Author.Tests.{le-leb, leb-true}
 use lib.Dec.{leb}
 use lib.ListN.{length, take}
-use Rattle.graph.specs.Graph.{Graph, states, to, Departs, Final, Unfinished}
+use Rattle.graph.specs.Graph.{Graph, states, to, Departs, Final, Unfinished, startMark}
 use Rattle.graph.specs.Walk.{Begins, visits, arrival}
 use Rattle.graph.specs.Route.{Route, RouteFrom, total, delay}
 use Rattle.graph.specs.Figure.{number, NONE, IsLeast}
@@ -25,12 +27,15 @@ use Rattle.graph.proofs.Repeat.{different-length}
 use Rattle.graph.proofs.Walks.{length-visits, visits-below, stopped}
 use Rattle.search.specs.Arrays.{Arrays, at, StartIn, UnfinishedIn, Leaves, Bounded, StandsIn}
 use Rattle.arrays.specs.Tables.{costOf}
-use Rattle.keys.specs.Keys.{Weighed, Keys, Keyed, Settled, SettledBy, Nearest, Ready}
+use Rattle.keys.specs.Keys.{Weighed, Keys, Keyed, Settled, Ready}
+use Rattle.best_step.specs.declared.Step.{Step}
+use Rattle.best_step.specs.Steps.{BestStep}
 use Rattle.search.specs.Sizes.{far, heaviest}
-use Rattle.search.specs.Chain.{Chains}
+use Rattle.search.specs.Chain.{none, Chains}
 use Rattle.search.specs.Quoted.{Quoted}
-use Rattle.search.specs.Route.{Accounts, Leading, Traced, Readable}
-use Rattle.search.proofs.Held.{held-final, held-start, begins-in, final-in, departs, leaves, held-closed, leads, traced-route, traced-costs, traced-quoted}
+use Rattle.search.specs.Route.{Accounts, Leading, TracedBy, Readable}
+use Rattle.search.proofs.Held.{held-final, held-start, begins-in, final-in, departs, leaves, held-closed, leads, begun-route, begun-costs, begun-quoted}
+use Rattle.arrays.proofs.Lists.{below-or-not}
 
 module _ {A : Arrays} {weight close key : List ℕ} (keyed : Keyed A weight close key) where
   bounded : Bounded A
@@ -57,26 +62,57 @@ module _ {A : Arrays} {weight close key : List ℕ} (keyed : Keyed A weight clos
 
   -- ---- 1
 
-  module _ {r : ℕ} (h : r < A .n) (near : Nearest (A .n) (A .marks) key r) (by : SettledBy A weight r key) where
-    settled : Settled A weight (A .m) (at key r) key
-    settled = rw (by .nearest h) at (by .settled)
+  module _ {step : Step} (first : BestStep true (A .m) (A .from) (A .to) weight key (λ x. startMark (at (A .marks) x)) step) (settled : Settled A weight (A .m) (step .cost) key)
+      (near : step .cost < far) where
+    abbrev B : ℕ
+    B = step .cost
 
-    pub leading : Leading A weight close key (λ s. leb (at key s) (at key r)) (at key)
+    abbrev t : ℕ
+    t = step .transition
+
+    found : (t < A .m) × StartIn (A .marks) (at (A .from) t) × (B ≡ at weight t + at key (at (A .to) t))
+    found = go (below-or-not t none)
+      where
+        go : (t < none) ⊎ (none ≤ t) → (t < A .m) × StartIn (A .marks) (at (A .from) t) × (B ≡ at weight t + at key (at (A .to) t))
+        go (inl l) = first .found l
+        go (inr l) = absurd (omega (arith, first .missing l .0))
+
+    leading : Leading A weight close key (λ s. leb (at key s) B) (at key)
     leading = record {
       at-final = keys .at-final;
-      accounted = λ s l i u. exact (at key r) settled s l u (omega (arith, leb-true (at key s) (at key r) i, near .found h .1)) (leb-true (at key s) (at key r) i);
-      onward = λ s l i u t p q v. (le-leb (at key (at (A .to) t)) (at key r) (omega (arith, leb-true (at key s) (at key r) i, falls s t p q)), falls s t p q);
+      accounted = λ s l i u. exact B settled s l u (omega (arith, leb-true (at key s) B i)) (leb-true (at key s) B i);
+      onward = λ s l i u t p q v. (le-leb (at key (at (A .to) t)) B (omega (arith, leb-true (at key s) B i, falls s t p q)), falls s t p q);
     }
 
+    pub leads-on : {head link : List ℕ} → Chains (A .from) (A .m) head link → Readable A head link weight close key (at (A .to) t)
+    leads-on chains = record {
+      linked = record { bounded = bounded; chains = chains };
+      below = bounded .arrives t (found .0);
+      weights = λ t l. w .most t;
+      values = keys .most;
+      inside = λ s. leb (at key s) B;
+      rank = at key;
+      leading = leading;
+      within = λ u. le-leb (at key (at (A .to) t)) B (omega (arith, found .2));
+    }
+
+    -- an unfinished start with a key up to that of the state behind would be a better beginning
+    higher : UnfinishedIn (A .marks) (at (A .from) t) → UnfinishedIn (A .marks) (at (A .to) t) → at key (at (A .from) t) ≤ at key (at (A .to) t) → ⊥
+    higher u v l =
+        let s = at (A .from) t in
+        let below = w .some t (found .0) in
+        let (x, p, q) = keys .accounted s (bounded .leaves t (found .0)) u (omega (arith, found .2)) in
+        omega (arith, first .over x (p .listed) (rw (p .source) (found .1)), found .2)
+
     module _ (g : Graph) (held : StandsIn A g) where
-      bound : (s : ℕ) (ts : List ℕ) → RouteFrom g s ts → (at key s ≤ total g (costOf weight close) s ts) ⊎ (at key r ≤ total g (costOf weight close) s ts)
-      bound = route-bound g (costOf weight close) (λ s x. (at key s ≤ x) ⊎ (at key r ≤ x)) at-final over
+      bound : (s : ℕ) (ts : List ℕ) → RouteFrom g s ts → (at key s ≤ total g (costOf weight close) s ts) ⊎ (B ≤ total g (costOf weight close) s ts)
+      bound = route-bound g (costOf weight close) (λ s x. (at key s ≤ x) ⊎ (B ≤ x)) at-final over
         where
-          at-final : (s : ℕ) → Final g s → (at key s ≤ at close s) ⊎ (at key r ≤ at close s)
+          at-final : (s : ℕ) → Final g s → (at key s ≤ at close s) ⊎ (B ≤ at close s)
           at-final s f = let (l, d) = final-in held s f in inl (omega (arith, keys .at-final s l d))
 
-          over : (s t x : ℕ) → Unfinished g s → Departs g s t → (at key (to g t) ≤ x) ⊎ (at key r ≤ x)
-              → (at key s ≤ at weight t + x) ⊎ (at key r ≤ at weight t + x)
+          over : (s t x : ℕ) → Unfinished g s → Departs g s t → (at key (to g t) ≤ x) ⊎ (B ≤ x)
+              → (at key s ≤ at weight t + x) ⊎ (B ≤ at weight t + x)
           over s t x u d b =
               let p = leaves held d in
               let (l, e) = leads held bounded t (p .listed) in
@@ -86,26 +122,34 @@ module _ {A : Arrays} {weight close key : List ℕ} (keyed : Keyed A weight clos
               source-below : {y : ℕ} → Leaves A s y → s < A .n
               source-below {y} p = rw (p .source) at (bounded .leaves y (p .listed))
 
-              go : Leaves A s t → (at key (at (A .to) t) ≤ x) ⊎ (at key r ≤ x)
-                  → (at key (at (A .from) t) ≤ at weight t + at key (at (A .to) t)) ⊎ (at key r ≤ at weight t + at key (at (A .to) t))
-                  → (at key s ≤ at weight t + x) ⊎ (at key r ≤ at weight t + x)
+              go : Leaves A s t → (at key (at (A .to) t) ≤ x) ⊎ (B ≤ x)
+                  → (at key (at (A .from) t) ≤ at weight t + at key (at (A .to) t)) ⊎ (B ≤ at weight t + at key (at (A .to) t))
+                  → (at key s ≤ at weight t + x) ⊎ (B ≤ at weight t + x)
               go p (inl a) (inl b) = inl (omega (arith, ap (at key) (p .source)))
               go p (inl a) (inr b) = inr (omega arith)
               go p (inr a) b = inr (omega arith)
 
-      pub least-shown : (k : ℕ) (before after : List ℕ) → k ≤ length after → Traced A weight close key r k before after
-          → Quoted (IsLeast g (costOf weight close)) g (costOf weight close) (number (at key r)) k 0 before after
-      least-shown k before after room a =
-          traced-quoted held bounded r k before after room a (IsLeast g (costOf weight close))
-          (record { attained = (r, take k after, (b, traced-route held bounded r k before after room a), traced-costs held bounded r k before after room a); bound = smallest }) b
+      pub least-shown : (k : ℕ) (before after : List ℕ) → A .n ≤ length after → TracedBy A weight close key (at key) t k before after
+          → Quoted (IsLeast g (costOf weight close)) g (costOf weight close) (number B) k 0 before after
+      least-shown k before after room a = rw (found .2) (begun-quoted held bounded b l room a higher (IsLeast g (costOf weight close)) (rw (found .2) at least))
         where
-          b : Begins g r
-          b = held-start held r h ∙ near .found h .0
+          l : Leaves A (at (A .from) t) t
+          l = record { listed = found .0; source = refl }
 
-          smallest : (s : ℕ) (ts : List ℕ) → Route g s ts → at key r ≤ total g (costOf weight close) s ts
-          smallest s ts (d, q) =
-              let (l, e) = begins-in held s d in
-              ⊎-elim (λ x. omega (arith, near .least h s l e)) (λ x. x) (bound s ts q)
+          b : Begins g (at (A .from) t)
+          b = held-start held (at (A .from) t) (bounded .leaves t (found .0)) ∙ found .1
+
+          smallest : (s : ℕ) (ts : List ℕ) → Route g s ts → B ≤ total g (costOf weight close) s ts
+          smallest s [] (d, q) = absurd q
+          smallest s (u ∷ ts) (d, (e, q)) =
+              let (h, y) = begins-in held s d in
+              let p = leaves held e in
+              let z = leads held bounded u (p .listed) .1 in
+              let o = first .over u (p .listed) (rw (p .source) y) in
+              ⊎-elim (λ x. omega (arith, ap (at key) z)) (λ x. omega arith) (bound (to g u) ts q)
+
+          least : IsLeast g (costOf weight close) (number B)
+          least = record { attained = (at (A .from) t, take k after, begun-route held bounded b l room a, begun-costs held bounded b l room a ∙ sym (found .2)); bound = smallest }
 
   -- ---- 2
 
@@ -161,34 +205,33 @@ module _ {A : Arrays} {weight close key : List ℕ} (keyed : Keyed A weight clos
             let k : at key (at (A .to) t) ≤ 512 * heaviest = rw e at (key-bound (to g t) b) in
             (h, ⊎-elim (λ a. omega (arith, w .most t, ap (at key) (p .source))) (λ a. absurd (omega (arith, w .most t))) (settled t (p .listed) v))
 
-    pub no-route : ((s : ℕ) → s < A .n → StartIn (A .marks) s → far ≤ at key s) → IsLeast g (costOf weight close) NONE
-    no-route none s ts (b, r) =
+    pub no-route : ((t : ℕ) → t < A .m → StartIn (A .marks) (at (A .from) t) → far ≤ at weight t + at key (at (A .to) t)) → IsLeast g (costOf weight close) NONE
+    no-route none s [] (b, r) = r
+    no-route none s (t ∷ ts) (b, (d, r)) =
         let (l, e) = begins-in held s b in
-        omega (arith, none s l e, answers-keyed s ts r .1)
+        let p = leaves held d in
+        let z = leads held bounded t (p .listed) .1 in
+        omega (arith, none t (p .listed) (rw (p .source) e), key-bound (to g t) (answers-keyed (to g t) ts r), w .most t, ap (at key) z)
 
--- ---- settled by the nearest start
+-- ---- settled by the best first step
 
-module _ {A : Arrays} {weight close key : List ℕ} {r : ℕ} (ready : Ready A weight close r key) where
-  pub readable : {head link : List ℕ} → Chains (A .from) (A .m) head link → r < A .n → Readable A head link weight close key r
-  readable chains h = record {
-    linked = record { bounded = ready .keyed .bounded; chains = chains };
-    below = h;
-    weights = λ t l. ready .keyed .weighed .most t;
-    values = ready .keyed .keys .most;
-    inside = λ s. leb (at key s) (at key r);
-    rank = at key;
-    leading = leading (ready .keyed) h (ready .near) (ready .by);
-    within = λ u. le-leb (at key r) (at key r) (le-refl (at key r));
-  }
+module _ {A : Arrays} {weight close key : List ℕ} {step : Step} (ready : Ready A weight close step key) where
+  pub taken : step .cost < far → step .transition < A .m
+  taken near = found (ready .keyed) (ready .first) (ready .settled) near .0
+
+  pub readable : {head link : List ℕ} → Chains (A .from) (A .m) head link → step .cost < far → Readable A head link weight close key (at (A .to) (step .transition))
+  readable chains near = leads-on (ready .keyed) (ready .first) (ready .settled) near chains
 
   module _ {g : Graph} (held : StandsIn A g) where
-    pub least-quoted : r < A .n → {k : ℕ} {before after : List ℕ} → length after ≡ length before → A .n ≤ length before → Traced A weight close key r k before after
-        → Quoted (IsLeast g (costOf weight close)) g (costOf weight close) (number (at key r)) k 0 before after
-    least-quoted h {k} {before} {after} long room x = least-shown (ready .keyed) h (ready .near) (ready .by) g held k before after (omega (arith, x .fits)) x
+    pub least-quoted : {head link : List ℕ} (chains : Chains (A .from) (A .m) head link) (near : step .cost < far) → {k : ℕ} {before after : List ℕ} → length after ≡ length before → A .n ≤ length before
+        → TracedBy A weight close key (readable chains near .rank) (step .transition) k before after
+        → Quoted (IsLeast g (costOf weight close)) g (costOf weight close) (number (step .cost)) k 0 before after
+    unfolding readable leads-on
+    least-quoted chains near {k} {before} {after} long room x = least-shown (ready .keyed) (ready .first) (ready .settled) near g held k before after (omega arith) x
 
-    pub none-quoted : A .n ≤ r → (places : List ℕ) → Quoted (IsLeast g (costOf weight close)) g (costOf weight close) NONE 0 0 places places
+    pub none-quoted : far ≤ step .cost → (places : List ℕ) → Quoted (IsLeast g (costOf weight close)) g (costOf weight close) NONE 0 0 places places
     none-quoted l places = record {
-      right = no-route (ready .keyed) (rw (ready .by .none l) at (ready .by .settled)) g held (ready .near .none l);
+      right = no-route (ready .keyed) (λ t h u. ⊎-elim inl (λ b. inr (omega arith)) (ready .settled t h u)) g held (λ t h b. omega (arith, ready .first .over t h b));
       shown = (refl, refl);
       fits = omega arith;
       later = refl;

@@ -14,6 +14,7 @@ use reach::Reach;
 use reach::Searched;
 use rules::Figure;
 use rules::Quote;
+use search::FAR;
 use search::chain;
 use search::route;
 
@@ -48,18 +49,17 @@ fn by_keys<'a>(
         &into.link,
         &mut key,
     );
-    let best = keys::settle(n, m, marks, from, to, weight, &mut key);
-    if n <= best {
+    let first = keys::settle(n, m, marks, from, to, head, link, weight, &mut key);
+    if FAR <= first.cost {
         return Quote {
             figure: Figure::None,
             k: 0,
             j: 0,
         };
     }
-    let k = route::trace(best, marks, to, head, link, weight, &key, walk);
-    let cost = key[best];
+    let k = route::trace(first.transition, marks, to, head, link, weight, &key, walk);
     Quote {
-        figure: Figure::Number(cost),
+        figure: Figure::Number(first.cost),
         k,
         j: 0,
     }

@@ -87,7 +87,7 @@ module _ {A : Arrays} (b : Bounded A) {a : Table} {done : ℕ} (r : Ranked A a d
       long-walk = length-append (take k between) (t ∷ []) ∙ ap (λ (x : ℕ). x + 1) (length-take-le k between (omega arith)) ∙ omega arith
 
       shown : Shown g c ENDLESS (take (suc k) (set between k t)) (suc k)
-      shown = rw (walk, sym long-walk) (inr (ring-shown g c (down .first) (take k between) (down .walk .0) (down .walk .1) (down .different) t leaves-s o))
+      shown = rw (walk, sym long-walk) (inr (ring-shown g c (down .first) (take k between) (down .walk) (down .different) t leaves-s o))
 
 -- ---- 3
 
@@ -109,7 +109,7 @@ module _ {A : Arrays} (b : Bounded A) (a : Table) {g : Graph} (held : StandsIn A
       (λ s t (h, p) d. let l = leaves held d in opens t (l .listed) ∙ none t (l .listed) (rw (l .source) p))
 
   pub open-beside-endless : (found : Reach) → Reached A a found → (Ended found → NoneOpen (A .m) (A .from) high (a .rank) (A .m)) → HasOpenWalk g c → HasEndlessWalk g
-  open-beside-endless NoStart reached none (s, ts, (begins, w)) = let (h, e) = begins-in held s begins in absurd (reached s h e)
+  open-beside-endless NoStart reached none (s, ts, w) = let (h, e) = begins-in held s (w .unfinished .0) in absurd (reached s h e)
   open-beside-endless (Looped d j) reached none w = loop-endless reached
   open-beside-endless (DeadEnd s) reached none w = absurd (none-taken (reached .0 .0) (reached .0 .1) (none tt) w)
   open-beside-endless (Ends done) reached none w = absurd (none-taken done (reached .0) (none tt) w)

@@ -6,7 +6,7 @@ use mathlib.Core.Logic.{_⊎_, inl, inr, _≢_}
 use mathlib.Core.Path.{_≡_, refl, sym, _∙_}
 use Prim.Native.Nat.{ℕ, suc, _+_, _≤_, _<_}
 use native.Mathlib.Omega.{arith}
-use Rattle.search.specs.Arrays.{Arrays, at, StartIn, FinalIn, UnfinishedIn, Leaves, Bounded}
+use Rattle.search.specs.Arrays.{Arrays, at, StartIn, FinalIn, Leaves, Bounded}
 use Rattle.search.specs.Chain.{none}
 use Rattle.reach.specs.declared.Reach.{Reach}
 use Rattle.reach.specs.declared.Reach.the-variants.{NoStart, Looped, DeadEnd, Ends}
@@ -25,7 +25,6 @@ module _ (A : Arrays) where
     root = λ h. absurd (omega arith);
     path = λ i h. absurd (omega arith);
     behind = λ i h. absurd (omega arith);
-    unfinished = λ s h r. absurd (omega (arith, f s));
     next = λ s h r. absurd (omega (arith, f s));
     passed = λ s h r. absurd (omega (arith, f s));
     ended = λ s h r. absurd (omega (arith, f s));
@@ -55,11 +54,10 @@ module _ (A : Arrays) where
         go (inl f) = inl f
         go (inr f) = inr (f .0, f .2)
 
-    pub ranked : ((s : ℕ) → s < A .n → StartIn (A .marks) s → UnfinishedIn (A .marks) s → 0 < at (a .rank) s) → Ranked A a done
+    pub ranked : ((s : ℕ) → s < A .n → StartIn (A .marks) s → 0 < at (a .rank) s) → Ranked A a done
     ranked starts = record {
       count = q .count;
       starts = starts;
-      unfinished = q .unfinished;
       onward = ranked-onward;
       listed = q .behind;
       placed = ranked-placed;
@@ -71,7 +69,7 @@ pub record Exploring (A : Arrays) (a : Table) (any : Bool) (left i : ℕ) : Type
   pub sized : Sized a
   pub search : Searching A a 0 left
   pub below : i ≤ A .n
-  pub starts : (s : ℕ) → s < i → StartIn (A .marks) s → UnfinishedIn (A .marks) s → 0 < at (a .rank) s
+  pub starts : (s : ℕ) → s < i → StartIn (A .marks) s → 0 < at (a .rank) s
   pub some : any ≡ true → (s : ℕ) × (s < A .n) × StartIn (A .marks) s
   pub no-start : any ≡ false → (s : ℕ) → s < i → StartIn (A .marks) s → ⊥
 
@@ -89,7 +87,7 @@ module _ {A : Arrays} where
   -- one state more: a start that is there from now on, or no start
   pub exploring-more : {a a′ : Table} {any any′ : Bool} {left left′ i : ℕ} → Exploring A a any left i → i < A .n
       → Searching A a′ 0 left′ → Sized a′ → Grown a a′
-      → (StartIn (A .marks) i → UnfinishedIn (A .marks) i → 0 < at (a′ .rank) i)
+      → (StartIn (A .marks) i → 0 < at (a′ .rank) i)
       → ((any′ ≡ true) × StartIn (A .marks) i) ⊎ ((any′ ≡ any) × (StartIn (A .marks) i → ⊥))
       → Exploring A a′ any′ left′ (i + 1)
   exploring-more {a} {a′} {any} {any′} {left} {left′} {i} x l q z g new which = record {
@@ -101,9 +99,9 @@ module _ {A : Arrays} where
     no-start = λ e s h. no-start which e s h (same-or-not s i);
   }
     where
-      starts : (s : ℕ) → s < i + 1 → (s ≡ i) ⊎ (s ≢ i) → StartIn (A .marks) s → UnfinishedIn (A .marks) s → 0 < at (a′ .rank) s
-      starts s h (inl e) b u = rw e (new (rw e at b) (rw e at u))
-      starts s h (inr e) b u = g s (x .starts s (omega (arith, e)) b u)
+      starts : (s : ℕ) → s < i + 1 → (s ≡ i) ⊎ (s ≢ i) → StartIn (A .marks) s → 0 < at (a′ .rank) s
+      starts s h (inl e) b = rw e (new (rw e at b))
+      starts s h (inr e) b = g s (x .starts s (omega (arith, e)) b)
 
       some : ((any′ ≡ true) × StartIn (A .marks) i) ⊎ ((any′ ≡ any) × (StartIn (A .marks) i → ⊥)) → any′ ≡ true → (s : ℕ) × (s < A .n) × StartIn (A .marks) s
       some (inl w) e = (i, l, w .1)

@@ -21,7 +21,7 @@ module _ {A : Arrays} {a : Table} {done : ℕ} (r : Ranked A a done) where
 
   -- so the hunt can go by what the search left behind
   pub ranked-entered : {head link : List ℕ} → Linked A head link → Entered A head link (a .rank) (a .via)
-  ranked-entered w = record { linked = w; rooted = λ s h q. (r .unfinished s h q, r .origin s h q); onward = λ s t h q l u. onward-lower s t h q l u .0 }
+  ranked-entered w = record { linked = w; rooted = r .origin; onward = λ s t h q l u. onward-lower s t h q l u .0 }
 
   -- and what it found is what the starts reach: a dead end, or none
   pub reached-dead : {x : ℕ} → Hunted A (a .rank) x → x < 512 → Reached A a (DeadEnd x)

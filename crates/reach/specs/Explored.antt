@@ -5,7 +5,7 @@ use Prim.Native.Nat.{ℕ, suc, _≤_, _<_}
 use Rattle.reach.specs.declared.Searched.{Searched}
 use Rattle.reach.specs.declared.Reach.{Reach}
 use Rattle.reach.specs.declared.Reach.the-variants.{NoStart, Looped, DeadEnd, Ends}
-use Rattle.search.specs.Arrays.{Arrays, at, StartIn, FinalIn, UnfinishedIn, Leaves}
+use Rattle.search.specs.Arrays.{Arrays, at, StartIn, FinalIn, Leaves}
 use Rattle.turns.specs.Search.{Table, Sized, Grown, table, Origin, Searching, Loop}
 use Rattle.hunt.specs.Hunted.{DeadEndAt, NoDeadEnd}
 
@@ -14,11 +14,10 @@ abbrev pub tableOf : Searched → Table
 tableOf s = table (s .rank) (s .cursor) (s .stack) (s .order) (s .via)
 
 module _ (A : Arrays) where
-  -- the search is over: every start that is unfinished was entered, and all that was entered was left; the rank falls along the transitions
+  -- the search is over: every start was entered, and all that was entered was left; the rank falls along the transitions
   pub record Ranked (a : Table) (done : ℕ) : Type 0 where
     pub count : done ≤ A .n
-    pub starts : (s : ℕ) → s < A .n → StartIn (A .marks) s → UnfinishedIn (A .marks) s → 0 < at (a .rank) s
-    pub unfinished : (s : ℕ) → s < A .n → 0 < at (a .rank) s → UnfinishedIn (A .marks) s
+    pub starts : (s : ℕ) → s < A .n → StartIn (A .marks) s → 0 < at (a .rank) s
     pub onward : (s : ℕ) → s < A .n → 0 < at (a .rank) s → (t : ℕ) → Leaves A s t
         → FinalIn (A .marks) (at (A .to) t) ⊎ ((0 < at (a .rank) (at (A .to) t)) × (at (a .rank) (at (A .to) t) < at (a .rank) s))
     pub listed : (i : ℕ) → i < done → (at (a .order) i < A .n) × (at (a .rank) (at (a .order) i) ≡ suc i)

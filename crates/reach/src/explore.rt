@@ -1,16 +1,15 @@
-// The depth-first search through the unfinished states that starts reach. A step to a state on the stack is a walk that goes on forever; where
-// there is none, the order of leaving is a rank that falls along every transition.
+// The depth-first search through the starts, final or not, and the unfinished states that they reach. A step to an unfinished state on the stack is a walk that goes on
+// forever; where there is none, the order of leaving is a rank that falls along every transition to an unfinished state.
 ghost use mathlib.Core.List.{List};
 ghost use mathlib.Core.Path.{_≡_};
 ghost use Prim.Native.Nat.{ℕ, _<_};
-ghost use Rattle.search.specs.Arrays.{arrays, at, StartIn, UnfinishedIn};
+ghost use Rattle.search.specs.Arrays.{arrays, at, StartIn};
 ghost use Rattle.search.specs.Chain.{Linked};
 ghost use Rattle.turns.specs.Search.{table, Sized, Underway};
 ghost use Rattle.reach.specs.Explored.{tableOf, Explored, Descended, Reached};
 use crate::Reach;
 use crate::Searched;
 use search::NONE;
-use search::is_final;
 use search::is_start;
 use turns::Course;
 
@@ -29,7 +28,7 @@ fn descend(
     order: &mut [u16; 512],
     via: &mut [u16; 512],
 ) -> Reach
-    requires { ⌜ StartIn (now marks) s × UnfinishedIn (now marks) s × (at (now rank) s ≡ 0) ⌝ }
+    requires { ⌜ StartIn (now marks) s × (at (now rank) s ≡ 0) ⌝ }
     requires { ⌜ ((n m : ℕ) × (from : List ℕ) × (s < n)
         × Underway (arrays n m (now marks) from (now to)) (now head) (now link) (table (now rank) (now cursor) (now stack) (now order) (now via)) 0 done) ⌝ }
     ensures { λ r. ⌜ ((n m : ℕ) (from : List ℕ) → s < n
@@ -90,29 +89,26 @@ fn explore(
     let mut left = 0;
     let mut s = 0;
     while s < n {
-        let start = is_start(marks[s]);
-        let unfinished = !is_final(marks[s]);
-        if start {
+        let mark = marks[s];
+        if is_start(mark) {
             any = true;
-            if unfinished {
-                if rank[s] == 0 {
-                    let found = descend(
-                        s,
-                        left,
-                        marks,
-                        to,
-                        head,
-                        link,
-                        rank,
-                        cursor,
-                        stack,
-                        order,
-                        via,
-                    );
-                    match found {
-                        Reach::Ends(count) => left = count,
-                        _ => return found,
-                    }
+            if rank[s] == 0 {
+                let found = descend(
+                    s,
+                    left,
+                    marks,
+                    to,
+                    head,
+                    link,
+                    rank,
+                    cursor,
+                    stack,
+                    order,
+                    via,
+                );
+                match found {
+                    Reach::Ends(count) => left = count,
+                    _ => return found,
                 }
             }
         }

@@ -2,9 +2,9 @@
 --
 -- A run is written out: so many `turns`, then `ends`. Each test is computed. First plans of document 01, most with
 -- durations of 1: what misleads people there does not mislead the procedures. Then plans that the comparison leaves
--- out: other durations, a dead end, no start, no transition at all. There a procedure's value is not the figure: "Where
--- they .. assume more than a plan offers (dead ends, no start), this paper rules." Last, why figure 5 is not read by
--- how far in its lines stand. Assumes nothing.
+-- out: other durations, a dead end, no start, no transition at all, and a state that is both start and final. There a
+-- procedure's value is not the figure: "Where they .. assume more than a plan offers (dead ends, no start), this paper
+-- rules." Last, why figure 5 is not read by how far in its lines stand. Assumes nothing.
 use Prim.Native.Nat.{ℕ, zero, suc, _<_}
 use mathlib.Core.Path.{_≡_, refl, sym, _∙_, ap}
 use mathlib.Core.Bool.{true, false, not, cond, _&&_, true≢false, false≢true}
@@ -13,13 +13,17 @@ use mathlib.Core.Logic.{inl, inr}
 use native.Mathlib.Nat.{not-suc-le-zero, le-of-suc-le-suc}
 use native.Mathlib.Omega.{arith}
 use lib.Dec.{lit<}
-use Rattle.graph.specs.declared.Which.the-variants.{LeastDelay, GreatestDelay}
-use Rattle.graph.specs.Graph.{Graph, Transition, marksOf, start, final, counted, transition, from, to, Departs, DeadEnd}
+use Rattle.graph.specs.declared.Which.{Which}
+use Rattle.graph.specs.declared.Which.the-variants.{LeastDelay, GreatestDelay, LeastCount, GreatestCount}
+use Rattle.graph.specs.Graph.{Graph, Transition, marksOf, start, final, counted, transition, from, to, low, high, Departs, Closed}
+use Rattle.graph.specs.Walk.{Begins}
 use Rattle.graph.specs.Route.{GoesOnForever}
-use Rattle.graph.specs.Compute.{any, nonempty}
-use Rattle.graph.specs.Figure.{number, NONE, STRANDED, IsLeast, IsGreatest, costFor}
+use Rattle.graph.specs.Compute.{any, nonempty, closed, figureFor}
+use Rattle.graph.specs.Figure.{number, NONE, STRANDED, IsLeast, IsGreatest, IsFigure, costFor}
 use Rattle.graph.specs.Known.{plan, join, P1, P2, P3, P5, reached-dead-end}
 use Rattle.graph.proofs.Walks.{start-below}
+use Rattle.graph.proofs.Listed.{of-closed}
+use Rattle.graph.proofs.Figures.{figure-is}
 use Rattle.graph.proofs.Known.{known-hold}
 use Rattle.report.specs.Procedure.{Loop, ends, turns, Procedure, Returns}
 use Rattle.report.specs.Sets.{States, empty, same, N, T, T⁻¹}
@@ -63,7 +67,7 @@ pub P8-counts : Counts P8-steps (finite 0) (finite 0)
 unfolding any N marksOf start final counted from to transition those Nₐ Tₐ updated
 P8-counts = record { fewest = (_, turns refl (ends refl), refl); most = (_, turns refl (ends refl), refl) }
 
--- "first and last included": the last state alone is counted here, and in P2 the one that is both
+-- "first and last included": the last state alone is counted here
 pub last-counted : Counts (plan (4 ∷ 3 ∷ []) (step 0 1 ∷ [])) (finite 1) (finite 1)
 unfolding any N marksOf start final counted from to transition those Nₐ Tₐ updated
 last-counted = record { fewest = (_, turns refl (ends refl), refl); most = (_, turns refl (ends refl), refl) }
@@ -74,15 +78,6 @@ P1-counts = record {
   fewest = (_, turns refl (turns refl (turns refl (ends refl))), refl);
   most = (_, turns refl (turns refl (turns refl (ends refl))), refl);
 }
-
--- P2: a start that is final is a route of no transitions, and its one state is counted once
-pub P2-bounds : Bounds (P2 .plan) (finite 0) (finite 0)
-unfolding any empty same N T T⁻¹ marksOf start final from to transition
-P2-bounds = record { shortest = (_, ends refl, refl); longest = (_, ends refl, refl) }
-
-pub P2-counts : Counts (P2 .plan) (finite 1) (finite 1)
-unfolding any N marksOf start final counted from to transition those Nₐ Tₐ updated
-P2-counts = record { fewest = (_, ends refl, refl); most = (_, ends refl, refl) }
 
 -- P4: a loop before the answer
 pub P4-bounds : Bounds (plan (4 ∷ 2 ∷ []) (step 0 0 ∷ step 0 1 ∷ [])) (finite 1) ∞
@@ -162,15 +157,64 @@ pub no-final : Returns (upper alone) ∞ × IsGreatest alone (costFor GreatestDe
 unfolding any empty same N T T⁻¹ marksOf start final from to transition
 no-final = (
   (_, ends refl, refl),
-  ((λ none. none 0 refl), finite-there, (0, [], (refl, end))),
+  ((λ none. none 0 refl), finite-there, (0, [], (refl, λ t d. not-suc-le-zero (d .listed)))),
 )
   where
     finite-there : GoesOnForever alone (costFor GreatestDelay alone) → ⊥
-    finite-there (inl (s, taken, (b, e))) = not-suc-le-zero (e .departs 0 .listed)
-    finite-there (inr (s, ts, (b, w))) = not-suc-le-zero (w .departs .listed)
+    finite-there (inl (s, taken, (b, (d, e)))) = not-suc-le-zero (d .listed)
+    finite-there (inr (s, ts, w)) = not-suc-le-zero (w .departs .listed)
 
-    end : DeadEnd alone 0
-    end = record { unfinished = refl; none-departs = λ t d. not-suc-le-zero (d .listed) }
+-- ---- where all four part from document 02's E5: a state that is both start and final
+
+-- They take it for a route of no transitions, and "a route has at least one transition". Here it is counted, and leads to itself in 1 second: the one route is that
+-- transition, and counts the state twice. Each of the four returns 1 less than the figure.
+abbrev pub answered-steps : Graph
+answered-steps = plan (7 ∷ []) (step 0 0 ∷ [])
+
+-- It is none of the plans that the procedures are compared on, by this premise alone: it meets all others.
+pub answered-out : TotalPlan answered-steps → ⊥
+unfolding marksOf start final
+answered-out q = true≢false (q .apart 0 refl)
+
+pub answered-else : Closed answered-steps × Begins answered-steps 0 × ((s : ℕ) → s < 1 → (t : ℕ) × Departs answered-steps s t)
+    × ((t : ℕ) → t < 1 → (low answered-steps t ≡ 1) × (high answered-steps t ≡ 1))
+unfolding closed marksOf start from to low high transition
+answered-else = (
+  of-closed answered-steps refl,
+  refl,
+  (λ s l. (0, record { listed = lit< tt; source = omega arith })),
+  (λ t l. let z : t ≡ 0 = omega arith in rw z (refl, refl)),
+)
+
+answered-figure : (which : Which) → IsFigure which answered-steps (figureFor which answered-steps)
+unfolding closed marksOf to transition
+answered-figure which = figure-is which answered-steps (of-closed answered-steps refl)
+
+pub answered-lower : Returns (lower answered-steps) (finite 0) × IsLeast answered-steps (costFor LeastDelay answered-steps) (number 1)
+unfolding figureFor any empty same N T T⁻¹ marksOf start final counted from to low high transition
+answered-lower = ((_, ends refl, refl), answered-figure LeastDelay)
+
+pub answered-upper : Returns (upper answered-steps) (finite 0) × IsGreatest answered-steps (costFor GreatestDelay answered-steps) (number 1)
+unfolding figureFor any empty same N T T⁻¹ marksOf start final counted from to low high transition
+answered-upper = ((_, ends refl, refl), answered-figure GreatestDelay)
+
+pub answered-mincount : Returns (mincount answered-steps (counted answered-steps)) (finite 1) × IsLeast answered-steps (costFor LeastCount answered-steps) (number 2)
+unfolding figureFor any N marksOf start final counted from to low high transition those Nₐ Tₐ updated
+answered-mincount = ((_, ends refl, refl), answered-figure LeastCount)
+
+pub answered-maxcount : Returns (maxcount answered-steps (counted answered-steps)) (finite 1) × IsGreatest answered-steps (costFor GreatestCount answered-steps) (number 2)
+unfolding figureFor any N marksOf start final counted from to low high transition those Nₐ Tₐ updated
+answered-maxcount = ((_, ends refl, refl), answered-figure GreatestCount)
+
+-- P2 has no transition. "P2 gets P3's figures", NONE and STRANDED, and the four return numbers.
+pub P2-bounds : Bounds (P2 .plan) (finite 0) (finite 0) × IsFigure LeastDelay (P2 .plan) NONE × IsFigure GreatestDelay (P2 .plan) STRANDED
+unfolding any empty same N T T⁻¹ marksOf start final from to transition
+P2-bounds =
+    (record { shortest = (_, ends refl, refl); longest = (_, ends refl, refl) }, known-hold 1 (lit< tt) LeastDelay, known-hold 1 (lit< tt) GreatestDelay)
+
+pub P2-counts : Counts (P2 .plan) (finite 1) (finite 1) × IsFigure LeastCount (P2 .plan) NONE × IsFigure GreatestCount (P2 .plan) STRANDED
+unfolding any N marksOf start final counted from to transition those Nₐ Tₐ updated
+P2-counts = (record { fewest = (_, ends refl, refl); most = (_, ends refl, refl) }, known-hold 1 (lit< tt) LeastCount, known-hold 1 (lit< tt) GreatestCount)
 
 -- ---- figure 5 as its lines stand in
 

@@ -36,6 +36,7 @@ use Rattle.report.specs.Counts.{maxcount}
 use Rattle.report.specs.Agreement.{TotalPlan}
 use Rattle.report.proofs.Loop.{returns-holds, returns-some}
 use Rattle.report.proofs.Sets.{N-of, in-N}
+use Rattle.report.proofs.Apart.{route-apart}
 use Rattle.report.proofs.Upper.{Through, shorter, Longest, upper-says, largest-greatest}
 use Rattle.report.proofs.Pairs.{of-at, in-at, of-first, in-first, of-Tₐ, in-Tₐ, Follows}
 use Rattle.report.proofs.Current.{Sided, Covers, When, covers-new, covers-old, remains}
@@ -77,12 +78,14 @@ module _ (g : Graph) (c : States) where
           → Covers before (v .current) (counted-on s₀ ts₀) ⊎ ((u : ℕ × ℕ) × (u ∈ v .R) × (ts : List ℕ) × Met s₀ ts₀ u ts)
       attained : When (Attained g (counts g c)) (v .current)
 
-    at-first : Counted (counting z g c .begin)
-    at-first = record {
-      sound = λ u m ts w. let (l, b, k) = of-first g c m in (u .0, ts, record { begun = (b, w); onward = w; split = omega arith });
+    at-first : TotalPlan g → Counted (counting z g c .begin)
+    at-first q = record {
+      sound = λ u m ts w.
+          let (l, b, k) = of-first g c m in
+          (u .0, ts, record { begun = route-apart g q (u .0) b ts .1 (b, w); onward = w; split = omega arith });
       complete = λ s ts r.
           let m = in-first g c s (start-below g s (r .0)) (r .0) in
-          inr ((s, one (c s)), m, ts, record { begun = r; onward = r .1; split = omega arith });
+          inr ((s, one (c s)), m, ts, record { begun = r; onward = route-apart g q s (r .0) ts .0 r .1; split = omega arith });
       attained = tt;
     }
 
@@ -230,7 +233,7 @@ module _ (g : Graph) (c : States) where
             → (k : ℕ) × Returns (counting z g c) (finite k) × Extreme before g (counts g c) k
         returns s ts r =
             let (b, run) = some-run in
-            let (k, e, x) = extreme b (returns-holds (counting z g c) Counted Answered keep end at-first b run) s ts r in
+            let (k, e, x) = extreme b (returns-holds (counting z g c) Counted Answered keep end (at-first q) b run) s ts r in
             (k, rw e at run, x)
 
 -- ---- the two figures

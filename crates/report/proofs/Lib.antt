@@ -5,6 +5,8 @@ pub mod Basic
 pub mod Loop
 pub mod Sets
 pub mod Pairs
+-- The walks of the plan, where no state is both start and final.
+pub mod Apart
 -- lower and upper return, and what they return.
 pub mod Chain
 pub mod Lower

@@ -5,9 +5,10 @@
 -- * a route from a state of R is the end of a route from a start that has at most i transitions more (`sound`).
 -- A turn is taken only where R has no final state. So every route goes on from its state of R by a transition, to a
 -- state of R'; and each state of R is unfinished, so a walk may go on through it to a new state of R'. At the end, if R
--- has a final state, then that is a route of no transitions from there: some route has at most i, and none has fewer.
--- So i is the least. If R has none, then R' is R: a route never leaves R, but its last state is final. So there is no
--- route. Assumes nothing.
+-- has a final state, then a route ends there: some route has at most i transitions, and none has fewer. So i is the
+-- least. If R has none, then R' is R: a route never leaves R, but its last state is final. So there is no route.
+--
+-- At first R is the starts. No start is final, so a route goes on from one as from any state (`route-apart`). Assumes nothing.
 use Prim.Native.Nat.{ℕ, _+_, _≤_, _<_}
 use mathlib.Core.Path.{_≡_, refl, sym, _∙_}
 use mathlib.Core.Bool.{true, false, not, _||_, true≢false, and-eq-true-iff}
@@ -29,6 +30,7 @@ use Rattle.report.specs.Bounds.{Bound, Vars, lower}
 use Rattle.report.specs.Agreement.{ReportPlan, leastFigure}
 use Rattle.report.proofs.Loop.{returns-holds, goes-on, ended}
 use Rattle.report.proofs.Sets.{of-empty, of-not-empty, of-same, T-of, in-T}
+use Rattle.report.proofs.Apart.{route-apart}
 
 module _ (g : Graph) where
   record Reached (v : Vars) : Type 0 where
@@ -53,8 +55,8 @@ module _ (g : Graph) (q : ReportPlan g) where
 
   at-first : Reached g (lower g .begin)
   at-first = record {
-    sound = λ s b ts w. (s, ts, (b, w), omega arith);
-    complete = λ s ts r. (s, ts, start-below g s (r .0), r .0, r .1, omega arith);
+    sound = λ s b ts w. (s, ts, route-apart g (q .total) s b ts .1 (b, w), omega arith);
+    complete = λ s ts r. (s, ts, start-below g s (r .0), r .0, route-apart g (q .total) s (r .0) ts .0 r .1, omega arith);
     next = λ s. refl;
   }
 
@@ -89,7 +91,7 @@ module _ (g : Graph) (q : ReportPlan g) where
   -- the end, with a final state in R
   module _ (v : Vars) (b : Reached g v) (meets : empty g (v .R ∩ final g) ≡ false) where
     cost : (s : ℕ) (ts : List ℕ) → Route g s ts → total g (costFor LeastDelay g) s ts ≡ length ts
-    cost s ts r = total-length g (lows g) (Unfinished g) (Final g) (q .lows-one) (λ s. refl) s ts (r .1)
+    cost s ts r = total-length g (lows g) (Unfinished g) (Final g) (q .lows-one) (λ s. refl) s ts (route-apart g (q .total) s (r .0) ts .0 r .1)
 
     no-shorter : (s : ℕ) (ts : List ℕ) → Route g s ts → v .i ≤ length ts
     no-shorter s ts r = let (s′, ts′, l, m, w, h) = b .complete s ts r in omega arith

@@ -1,7 +1,7 @@
 -- The premises of `ReportPlan` and `TotalPlan` can be met, and tested.
 --
 -- Whether a plan is one that demand 2 names is a computed test: every transition leads to a state and lasts 1, some
--- state is a start, and no state is a dead end (`report-plan`). A plan of Basic passes it, so what lower and upper
+-- state is a start, none is both start and final, and no state is a dead end (`report-plan`). A plan of Basic passes it, so what lower and upper
 -- return there are its delays. The test without durations is for the counts (`total-plan`): P1 passes that, so what
 -- mincount and maxcount return there are its counts. Assumes nothing.
 use Prim.Native.Nat.{ℕ, _<_}
@@ -12,11 +12,14 @@ use borrow.Author.Tests.{eqb-true, not-true, not-false}
 use Rattle.graph.specs.declared.Which.the-variants.{LeastDelay, GreatestDelay, LeastCount, GreatestCount}
 use Rattle.graph.specs.Graph.{Graph, states, count, marksOf, start, final, transition, from, to, low, high, Departs}
 use Rattle.graph.specs.Graph.{Unfinished}
+use Rattle.graph.specs.Walk.{Begins}
 use Rattle.graph.specs.Figure.{number, IsLeast, IsGreatest, costFor}
 use Rattle.graph.specs.Compute.{any, closed, leaving, deadEnd}
 use Rattle.graph.specs.Known.{P1}
 use Rattle.graph.proofs.Tests.{any-of, none-of}
+use Rattle.graph.proofs.Walks.{start-below}
 use Rattle.graph.proofs.Listed.{of-closed, of-leaving}
+use Rattle.report.specs.Sets.{_∩_}
 use Rattle.report.specs.Bounds.{finite}
 use Rattle.report.specs.Agreement.{TotalPlan, ReportPlan}
 use Rattle.report.proofs.Basic.{P1-bounds, P1-counts, on-from-answer, final-passed}
@@ -28,7 +31,7 @@ longer g t = not (eqb (low g t) 1 && eqb (high g t) 1)
 
 unfoldable pub total-plan : Graph → Bool
 unfolding any closed deadEnd
-total-plan g = closed g && (any (start g) (states g) && not (any (deadEnd g) (states g)))
+total-plan g = closed g && (any (start g) (states g) && (not (any (deadEnd g) (states g)) && not (any (start g ∩ final g) (states g))))
 
 unfoldable pub report-plan : Graph → Bool
 unfolding total-plan longer
@@ -44,16 +47,23 @@ not-dead-end : (g : Graph) (s : ℕ) → deadEnd g s ≡ false → Unfinished g 
 unfolding deadEnd
 not-dead-end g s h u = let some : not (leaving g s) ≡ false = rw u at h in of-leaving g s (not-false (leaving g s) some)
 
+not-both : (g : Graph) (s : ℕ) → (start g ∩ final g) s ≡ false → Begins g s → Unfinished g s
+not-both g s h b = rw b at h
+
 pub of-total-plan : (g : Graph) → total-plan g ≡ true → TotalPlan g
 unfolding total-plan
 of-total-plan g h =
-    let (a, h′) = and-eq-true-iff (closed g) (any (start g) (states g) && not (any (deadEnd g) (states g))) .0 h in
-    let (b, c) = and-eq-true-iff (any (start g) (states g)) (not (any (deadEnd g) (states g))) .0 h′ in
+    let dead = any (deadEnd g) (states g) in
+    let both = any (start g ∩ final g) (states g) in
+    let (a, h′) = and-eq-true-iff (closed g) (any (start g) (states g) && (not dead && not both)) .0 h in
+    let (b, h″) = and-eq-true-iff (any (start g) (states g)) (not dead && not both) .0 h′ in
+    let (c, d) = and-eq-true-iff (not dead) (not both) .0 h″ in
     let (s, l, y) = any-of (start g) (states g) b in
     record {
       closed = of-closed g a;
       started = (s, y);
-      leaves = λ s l u. not-dead-end g s (none-of (deadEnd g) (states g) (not-true (any (deadEnd g) (states g)) c) s l) u;
+      leaves = λ s l u. not-dead-end g s (none-of (deadEnd g) (states g) (not-true dead c) s l) u;
+      apart = λ s b. not-both g s (none-of (start g ∩ final g) (states g) (not-true both d) s (start-below g s b)) b;
     }
 
 pub of-report-plan : (g : Graph) → report-plan g ≡ true → ReportPlan g

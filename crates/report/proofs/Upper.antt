@@ -9,7 +9,8 @@
 -- no walk is endless. And the walk from the start in R, through i unfinished states, ends in a final one, or else the
 -- transition out of it would make it longer: a route of i transitions (`Longest`). No walk ends in a dead end, so what
 -- is largest over all routes is the greatest figure, for any cost without open transitions (`largest-greatest`); and where
--- each transition lasts 1, none is open and i is the greatest delay. Assumes nothing.
+-- each transition lasts 1, none is open and i is the greatest delay. No start is final, so the states that a walk from one
+-- goes through have the start among them (Apart.antt). Assumes nothing.
 use Prim.Native.Nat.{ℕ, zero, suc, _≤_, _<_}
 use mathlib.Core.Path.{_≡_, refl, sym, _∙_, ap}
 use mathlib.Core.Bool.{true, false, not, _&&_, true≢false, and-eq-true-iff}
@@ -36,6 +37,7 @@ use Rattle.report.specs.Bounds.{Bound, finite, ∞, Vars, upper}
 use Rattle.report.specs.Agreement.{TotalPlan, ReportPlan, greatestFigure}
 use Rattle.report.proofs.Loop.{returns-holds, goes-on, ended}
 use Rattle.report.proofs.Sets.{of-empty, of-not-empty, of-same, same-comm, T⁻¹-of, in-T⁻¹}
+use Rattle.report.proofs.Apart.{route-apart, stranded-apart, endless-apart}
 
 -- from s a walk of k transitions goes, each out of an unfinished state
 abbrev pub Through : Graph → ℕ → ℕ → Type 0
@@ -121,7 +123,7 @@ module _ (g : Graph) (q : TotalPlan g) where
 
     endless : HasEndlessWalk g
     unfolding out onward walk
-    endless = (first, taken, (b .begun .1, record { departs = departs; unfinished = unfinished }))
+    endless = (first, taken, endless-apart g q first (b .begun .1) taken .1 (b .begun .1, record { departs = departs; unfinished = unfinished }))
       where
         first : ℕ
         first = walk 0 .0
@@ -161,7 +163,7 @@ module _ (g : Graph) (q : TotalPlan g) where
         let (s, b′, m) = b .begun in
         let l = start-below g s b′ in
         let (ts, r, h) = ends-final (v .i) s l (b .now s l .0 m) (no-further s b′) in
-        record { ends = no-further; attained = (s, ts, (b′, r), h) }
+        record { ends = no-further; attained = (s, ts, route-apart g q s b′ ts .1 (b′, r), h) }
 
   end : (v : Vars) → Behind g v → upper g .stop v ≡ true → Says g (upper g .answer v)
   end v b h = go (decided (same g (v .R) (v .R′))) (ended (not (same g (v .R′) (v .R))) (not (empty g (v .R′ ∩ start g))) h)
@@ -190,20 +192,20 @@ module _ (g : Graph) (q : TotalPlan g) where
       → IsGreatest g c (number k)
   largest-greatest i x c none k h = (
     started,
-    (λ u. let (s, taken, (b, e)) = no-heed g c none u in x .ends s b (endless-through g s taken e (suc i) 0)),
-    (λ (s, ts, w). stranded s ts (start-below g s (w .0)) (w .1)),
+    (λ u. let (s, taken, e) = no-heed g c none u in x .ends s (e .0) (endless-through g s taken (endless-apart g q s (e .0) taken .0 e .1) (suc i) 0)),
+    (λ (s, ts, w). stranded s ts (start-below g s (w .0)) (stranded-apart g q s (w .0) ts .0 w .1)),
     h,
   )
 
 module _ (g : Graph) (q : ReportPlan g) where
   cost : (s : ℕ) (ts : List ℕ) → Route g s ts → total g (costFor GreatestDelay g) s ts ≡ length ts
-  cost s ts r = total-length g (highs g) (Unfinished g) (Final g) (λ t l. rw (q .highs-one t l)) (λ s. refl) s ts (r .1)
+  cost s ts r = total-length g (highs g) (Unfinished g) (Final g) (λ t l. rw (q .highs-one t l)) (λ s. refl) s ts (route-apart g (q .total) s (r .0) ts .0 r .1)
 
   no-longer : (i : ℕ) → Longest g i → (s : ℕ) (ts : List ℕ) → Route g s ts → length ts ≤ i
   no-longer i x s ts r = go (decLe (suc i) (length ts))
     where
       go : Dec (i < length ts) → length ts ≤ i
-      go (yes h) = absurd (x .ends s (r .0) (route-through g (suc i) s ts (r .1) h))
+      go (yes h) = absurd (x .ends s (r .0) (route-through g (suc i) s ts (route-apart g (q .total) s (r .0) ts .0 r .1) h))
       go (no h) = omega arith
 
   greatest : (b : Bound) → Says g b → IsGreatest g (costFor GreatestDelay g) (greatestFigure b)

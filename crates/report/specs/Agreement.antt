@@ -22,6 +22,8 @@ pub record TotalPlan (g : Graph) : Type 0 where
   -- "every unfinished state has a transition out": the report's "the transition relation is total" (section 4, last
   -- paragraph)
   pub leaves : (s : ℕ) → s < states g → Unfinished g s → (t : ℕ) × Departs g s t
+  -- "The report's procedures are matched from then on for plans where no state is both start and final." (document 02, E5)
+  pub apart : (s : ℕ) → Begins g s → Unfinished g s
 
 -- The plans that demand 2 names.
 pub record ReportPlan (g : Graph) : Type 0 where

@@ -1,4 +1,4 @@
--- No figure of a plan within the limits is too large for the record: a delay is at most 1,046,017 seconds and a count at most 512, where 20 bits hold
+-- No figure of a plan within the limits is too large for the record: a delay is at most 1,048,064 seconds and a count at most 513, where 20 bits hold
 -- 1,048,575. So the record is refused by 0 or 11 alone. And what a quotation says of its figure: it is the computed one, so it has that bound too.
 -- Assumes nothing.
 use mathlib.Core.Bool.{Bool, true, false}

@@ -1,24 +1,25 @@
 -- A route read off values, transition by transition. What is kept (`Tracing`): the transitions written so far are a walk through unfinished states
 -- that differ, with a rank no lower than that of the state reached; and what they weigh, with the value of the state reached, is the value of the
 -- first state. A transition that accounts for the value of the state reached makes the walk one longer (`traced-turn`): where it leads is a final
--- state, which none before is, or one of a lower rank than all before. k + 1 states that differ are at most n (`traced-fits`). At a final state the
--- value is the close, and the walk is the route (`traced-all`). Assumes nothing.
+-- state, which none before is, or one of a lower rank than all before. The k + 1 states so far and the new one differ, so they are at most n (`traced-room`). At a
+-- final state the value is the close, and the walk is the route (`traced-all`). A route that begins with a transition is that and the route from where it leads
+-- (`begun-all`). Assumes nothing.
 use mathlib.Core.Bool.{Bool, true, false, true≢false}
-use mathlib.Core.List.{List}
+use mathlib.Core.List.{List, [], _∷_, _++_, append-nil}
 use mathlib.Core.Logic.{_⊎_, inl, inr, _≢_}
 use mathlib.Core.Path.{_≡_, refl, sym, ap, _∙_}
-use Prim.Native.Nat.{ℕ, zero, suc, _+_, _≤_, _<_}
-use native.Mathlib.Nat.{le-refl}
+use Prim.Native.Nat.{ℕ, zero, suc, _+_, _-_, _≤_, _<_}
+use native.Mathlib.Nat.{le-refl, not-suc-le-zero}
 use native.Mathlib.Numerals.{add-one}
 use native.Mathlib.Omega.{arith}
-use lib.ListN.{length, set, take, drop}
-use lib.Seq.{getD-set-same, getD-set-other, take-suc-set, drop-set-lt, drop-drop}
+use lib.ListN.{length, set, take, drop, drop-of-length-le}
+use lib.Seq.{getD-set-same, getD-set-other, take-suc-set, take-all, drop-set-lt, drop-drop}
 use Rattle.graph.specs.Route.{delay}
 use Rattle.graph.proofs.Build.{delay-snoc}
 use Rattle.graph.proofs.Repeat.{pigeonhole}
 use Rattle.graph.specs.Graph.{finalMark}
 use Rattle.search.specs.Arrays.{Arrays, at, FinalIn, UnfinishedIn, Leaves}
-use Rattle.search.specs.Route.{Accounts, along, Steps, Readable, Traced}
+use Rattle.search.specs.Route.{Accounts, along, Steps, Readable, Traced, TracedBy}
 use Rattle.arrays.proofs.Lists.{same-or-not}
 
 -- a store at place k leaves the first k + 1 states, and the next one is where the stored transition leads
@@ -41,11 +42,29 @@ module _ (A : Arrays) where
   pub steps-fit : (s k : ℕ) (ts : List ℕ) → Steps A s ts k → k < A .n
   steps-fit s k ts w = pigeonhole (A .n) (along (A .to) s ts) (suc k) (λ i j l h e. w .apart i j l (omega arith) e) (λ i h. w .below i (omega arith))
 
+  -- and where it can lead on to a state that is new, fewer than n - 1
+  pub steps-room : (s k v : ℕ) (ts : List ℕ) → Steps A s ts k → v < A .n → ((i : ℕ) → i ≤ k → along (A .to) s ts i ≡ v → ⊥) → suc k < A .n
+  steps-room s k v ts w b new = pigeonhole (A .n) visited (suc (suc k)) apart below
+    where
+      -- the new state, and then those of the walk
+      visited : ℕ → ℕ
+      visited zero = v
+      visited (suc i) = along (A .to) s ts i
+
+      apart : (i j : ℕ) → i < j → j < suc (suc k) → visited i ≡ visited j → ⊥
+      apart i zero l h e = omega arith
+      apart zero (suc j) l h e = new j (omega arith) (sym e)
+      apart (suc i) (suc j) l h e = w .apart i j (omega arith) (omega arith) e
+
+      below : (i : ℕ) → i < suc (suc k) → visited i < A .n
+      below zero h = b
+      below (suc i) h = w .below i (omega arith)
+
   -- one transition more, to a state that is new
-  pub steps-more : (s k t : ℕ) (walk : List ℕ) → k < length walk → Steps A s walk k → UnfinishedIn (A .marks) (along (A .to) s walk k)
+  pub steps-more : (s k t : ℕ) (walk : List ℕ) → k < length walk → Steps A s walk k
       → Leaves A (along (A .to) s walk k) t → at (A .to) t < A .n → ((i : ℕ) → i ≤ k → along (A .to) s walk i ≡ at (A .to) t → ⊥)
       → Steps A s (set walk k t) (suc k)
-  steps-more s k t walk h w u l b new = record { below = below; unfinished = unfinished; leaves = leaves; apart = apart }
+  steps-more s k t walk h w l b new = record { below = below; leaves = leaves; apart = apart }
     where
       here : at (set walk k t) k ≡ t
       here = getD-set-same walk k t 0 h
@@ -56,13 +75,6 @@ module _ (A : Arrays) where
           go : (i ≡ suc k) ⊎ (i ≢ suc k) → along (A .to) s (set walk k t) i < A .n
           go (inl e) = rw (e, along-next (A .to) s k t walk h) b
           go (inr d) = rw (along-before (A .to) s k t walk i (omega (arith, d))) (w .below i (omega (arith, d)))
-
-      unfinished : (i : ℕ) → i < suc k → UnfinishedIn (A .marks) (along (A .to) s (set walk k t) i)
-      unfinished i q = rw (along-before (A .to) s k t walk i (omega arith)) (go (same-or-not i k))
-        where
-          go : (i ≡ k) ⊎ (i ≢ k) → UnfinishedIn (A .marks) (along (A .to) s walk i)
-          go (inl e) = rw e u
-          go (inr d) = w .unfinished i (omega (arith, d))
 
       leaves : (i : ℕ) → i < suc k → Leaves A (along (A .to) s (set walk k t) i) (at (set walk k t) i)
       leaves i q = rw (along-before (A .to) s k t walk i (omega arith)) (go (same-or-not i k))
@@ -87,7 +99,9 @@ module _ {A : Arrays} {head link weight close value : List ℕ} {s : ℕ} (r : R
     pub last : along (A .to) s walk k ≡ x
     pub within : UnfinishedIn (A .marks) x → r .inside x ≡ true
     pub falls : UnfinishedIn (A .marks) x → (i : ℕ) → i ≤ k → r .rank x ≤ r .rank (along (A .to) s walk i)
+    pub under : (i : ℕ) → i < k → r .rank (along (A .to) s walk i) ≤ r .rank s
     pub steps : Steps A s walk k
+    pub unfinished : (i : ℕ) → i < k → UnfinishedIn (A .marks) (along (A .to) s walk i)
     pub costs : delay (at weight) (take k walk) + at value x ≡ at value s
     pub later : drop k walk ≡ drop k before
 
@@ -96,12 +110,9 @@ module _ {A : Arrays} {head link weight close value : List ℕ} {s : ℕ} (r : R
     last = refl;
     within = r .within;
     falls = falls;
-    steps = record {
-      below = below;
-      unfinished = λ i q. absurd (omega arith);
-      leaves = λ i q. absurd (omega arith);
-      apart = λ i j l q e. omega arith;
-    };
+    under = λ i q. absurd (omega arith);
+    steps = record { below = below; leaves = λ i q. absurd (omega arith); apart = λ i j l q e. omega arith };
+    unfinished = λ i q. absurd (omega arith);
     costs = omega arith;
     later = refl;
   }
@@ -121,43 +132,93 @@ module _ {A : Arrays} {head link weight close value : List ℕ} {s : ℕ} (r : R
     pub traced-below : x < A .n
     traced-below = rw (a .last) at (a .steps .below k (le-refl k))
 
-    pub traced-all : FinalIn (A .marks) x → Traced A weight close value s k before walk
+    pub traced-all : FinalIn (A .marks) x → Traced A weight close value (r .rank) s k before walk
     traced-all f = record {
       steps = a .steps;
+      unfinished = a .unfinished;
+      under = a .under;
       ends = rw (a .last) f;
       costs = rw (a .last, ← r .leading .at-final x traced-below f) (a .costs);
       fits = traced-fits;
       later = a .later;
     }
 
-    module _ (t : ℕ) (room : k < length walk) (u : UnfinishedIn (A .marks) x) (l : Leaves A x t) (q : Accounts (A .to) weight value x t) where
+    module _ (t : ℕ) (u : UnfinishedIn (A .marks) x) (l : Leaves A x t) (q : Accounts (A .to) weight value x t) where
       onward : UnfinishedIn (A .marks) (at (A .to) t) → (r .inside (at (A .to) t) ≡ true) × (r .rank (at (A .to) t) < r .rank x)
       onward = r .leading .onward x traced-below (a .within u) u t l q
+
+      so-far : (i : ℕ) → i ≤ k → UnfinishedIn (A .marks) (along (A .to) s walk i)
+      so-far i h = go (same-or-not i k)
+        where
+          go : (i ≡ k) ⊎ (i ≢ k) → UnfinishedIn (A .marks) (along (A .to) s walk i)
+          go (inl p) = rw (p, a .last) u
+          go (inr d) = a .unfinished i (omega (arith, d))
 
       new : (i : ℕ) → i ≤ k → along (A .to) s walk i ≡ at (A .to) t → ⊥
       new i h e = go (finalMark (at (A .marks) (at (A .to) t))) refl
         where
-          all-unfinished : (i ≡ k) ⊎ (i ≢ k) → UnfinishedIn (A .marks) (along (A .to) s walk i)
-          all-unfinished (inl p) = rw (p, a .last) u
-          all-unfinished (inr d) = a .steps .unfinished i (omega (arith, d))
-
           go : (f : Bool) → finalMark (at (A .marks) (at (A .to) t)) ≡ f → ⊥
-          go true p = true≢false (sym p ∙ ap (λ (y : ℕ). finalMark (at (A .marks) y)) (sym e) ∙ all-unfinished (same-or-not i k))
+          go true p = true≢false (sym p ∙ ap (λ (y : ℕ). finalMark (at (A .marks) y)) (sym e) ∙ so-far i h)
           go false p = omega (arith, onward p .1, a .falls u i h, ap (r .rank) e)
 
-      pub traced-turn : Tracing (at (A .to) t) (suc k) before (set walk k t)
-      traced-turn = record {
+      pub traced-room : suc k < A .n
+      traced-room = steps-room A s k (at (A .to) t) walk (a .steps) (r .linked .bounded .arrives t (l .listed)) new
+
+      pub traced-turn : k < length walk → Tracing (at (A .to) t) (suc k) before (set walk k t)
+      traced-turn room = record {
         last = along-next (A .to) s k t walk room;
         within = λ v. onward v .0;
         falls = falls;
-        steps = steps-more A s k t walk room (a .steps) (rw (a .last) u) (rw (a .last) l) (r .linked .bounded .arrives t (l .listed)) new;
+        under = under;
+        steps = steps-more A s k t walk room (a .steps) (rw (a .last) l) (r .linked .bounded .arrives t (l .listed)) new;
+        unfinished = λ i h. rw (along-before (A .to) s k t walk i (omega arith)) (so-far i (omega arith));
         costs = rw (take-suc-set walk k t room, delay-snoc (at weight) (take k walk) t) (omega (arith, a .costs, q));
         later = later-more k t before walk (a .later);
       }
         where
+          under : (i : ℕ) → i < suc k → r .rank (along (A .to) s (set walk k t) i) ≤ r .rank s
+          under i h = rw (along-before (A .to) s k t walk i (omega arith)) (go (same-or-not i k))
+            where
+              go : (i ≡ k) ⊎ (i ≢ k) → r .rank (along (A .to) s walk i) ≤ r .rank s
+              go (inl p) = rw (p, a .last) (a .falls u 0 (omega arith))
+              go (inr d) = a .under i (omega (arith, d))
+
           falls : UnfinishedIn (A .marks) (at (A .to) t) → (i : ℕ) → i ≤ suc k → r .rank (at (A .to) t) ≤ r .rank (along (A .to) s (set walk k t) i)
           falls v i h = go (same-or-not i (suc k))
             where
               go : (i ≡ suc k) ⊎ (i ≢ suc k) → r .rank (at (A .to) t) ≤ r .rank (along (A .to) s (set walk k t) i)
               go (inl p) = rw (p, along-next (A .to) s k t walk room) (le-refl (r .rank (at (A .to) t)))
               go (inr d) = rw (along-before (A .to) s k t walk i (omega (arith, d))) (omega (arith, onward v .1, a .falls u i (omega (arith, d))))
+
+-- ---- a first transition, and the route behind it
+
+-- the places behind the first, where t stands
+pub part-behind : (t : ℕ) (walk : List ℕ) → 1 ≤ length walk → take (length (set walk 0 t) - 1) (drop 1 (set walk 0 t)) ≡ drop 1 walk
+part-behind t [] h = absurd (not-suc-le-zero h)
+part-behind t (w ∷ ws) h = take-all (suc (length ws) - 1) ws (omega arith)
+
+-- what is put there
+pub put-behind : (t : ℕ) (walk rest : List ℕ) → 1 ≤ length walk
+    → take 1 (set walk 0 t) ++ (rest ++ drop (length (set walk 0 t) - 1) (drop 1 (set walk 0 t))) ≡ t ∷ rest
+put-behind t [] rest h = absurd (not-suc-le-zero h)
+put-behind t (w ∷ ws) rest h = ap (λ (l : List ℕ). t ∷ l) (ap (λ (l : List ℕ). rest ++ l) (drop-of-length-le ws {i = suc (length ws) - 1} (omega arith)) ∙ append-nil rest)
+
+-- the state that it leads to, by another name
+abbrev pub readable-at : {A : Arrays} {head link weight close value : List ℕ} {s s′ : ℕ} → s ≡ s′ → Readable A head link weight close value s′ → Readable A head link weight close value s
+readable-at e r = record {
+  linked = r .linked;
+  below = rw e (r .below);
+  weights = r .weights;
+  values = r .values;
+  inside = r .inside;
+  rank = r .rank;
+  leading = r .leading;
+  within = rw e (r .within);
+}
+
+pub begun-all : {A : Arrays} {weight close value : List ℕ} {rank : ℕ → ℕ} {t k s : ℕ} {before rest : List ℕ} → 1 ≤ length before → s ≡ at (A .to) t
+    → Traced A weight close value rank s k (take (length (set before 0 t) - 1) (drop 1 (set before 0 t))) rest
+    → TracedBy A weight close value rank t (k + 1) before
+    (take 1 (set before 0 t) ++ (rest ++ drop (length (set before 0 t) - 1) (drop 1 (set before 0 t))))
+begun-all {k = k} {before = before} {rest = rest} h e x =
+    record { rest = rest; more = k; number-of = add-one k; written = put-behind _ before rest h; traced = rw (part-behind _ before h, e) at x }

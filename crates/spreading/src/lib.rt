@@ -1,6 +1,8 @@
-// Keys spread from the final states back, nearest first, until a start is nearest.
+// Keys spread from the final states back, nearest first, until no nearer first step is left to find.
+ghost use mathlib.Core.Bool.{cond};
 ghost use mathlib.Core.List.{List};
-ghost use Prim.Native.Nat.{ℕ, _+_, _≤_, _<_};
+ghost use mathlib.Core.Path.{_≡_};
+ghost use Prim.Native.Nat.{ℕ, _+_, _≤_, _<_, min};
 ghost use lib.ListN.{length};
 ghost use Rattle.search.specs.Arrays.{arrays, at, Bounded, Below};
 ghost use Rattle.search.specs.Chain.{Chains};
@@ -11,6 +13,12 @@ use search::FAR;
 use search::NONE;
 use search::is_final;
 use search::is_start;
+
+// How many states are pending, and what the nearest first step found so far costs, FAR before one is: a start and a transition out of it to a state that was taken.
+struct Pending {
+    size: usize,
+    nearest: u32,
+}
 
 // Offers a key to a state: an unfinished state takes it where it is lower, and is pending then. Returns how many states are pending.
 fn offer(
@@ -46,6 +54,18 @@ fn offer(
     size + 1
 }
 
+// What the nearest first step costs, after one that costs x out of a start, or out of another state.
+fn nearer(start: bool, x: u32, nearest: u32) -> u32
+    ensures { λ r. ⌜ r ≡ cond start (min x nearest) nearest ⌝ }
+{
+    if start {
+        if x < nearest {
+            return x;
+        }
+    }
+    nearest
+}
+
 // Gives each final state its close for a key, and makes it pending; no other state has a key. Returns how many states are pending.
 fn seed(
     n: usize,
@@ -77,7 +97,7 @@ fn seed(
     size
 }
 
-// Offers the state behind each transition into s what the way through s costs. Returns how many states are pending.
+// Offers the state behind each transition into s what the way through s costs. A start takes no key from it where it is final, and is a first step all the same.
 // Lent one by one: a struct of the arrays would be copied for every state.
 fn relax_into<'a>(
     s: usize,
@@ -89,25 +109,29 @@ fn relax_into<'a>(
     key: &mut [u32; 512],
     heap: &mut [u16; 512],
     place: &mut [u16; 512],
-    size: usize,
-) -> usize
-    requires { ⌜ (size ≤ 512) × Below 512 (now place) × ((n m : ℕ) × (to close : List ℕ) × (s < n)
+    pending: Pending,
+) -> Pending
+    requires { ⌜ (pending .size ≤ 512) × Below 512 (now place) × ((n m : ℕ) × (to close : List ℕ) × (s < n)
         × Spreading (arrays n m (now marks) (now from) to) (now weight) close (now head) (now link) (now key) × Below n (now heap)) ⌝ }
-    ensures { λ r. ⌜ (r ≤ 512) × Below 512 (now (place .exit)) × ((n m : ℕ) (to close : List ℕ) → s < n
+    ensures { λ r. ⌜ (r .size ≤ 512) × Below 512 (now (place .exit)) × ((n m : ℕ) (to close : List ℕ) → s < n
         → Spreading (arrays n m (now (marks .entry)) (now (from .entry)) to) (now (weight .entry)) close (now (head .entry)) (now (link .entry)) (now (key .entry)) → Below n (now (heap .entry))
         → Keys (arrays n m (now (marks .entry)) (now (from .entry)) to) (now (weight .entry)) close (now (key .exit)) × Below n (now (heap .exit))) ⌝ }
 {
-    let mut pending = size;
+    let mut size = pending.size;
+    let mut nearest = pending.nearest;
     let mut t = wide(head[s]);
     while t < NONE {
         let x = weight[t] + key[s];
-        pending = offer(wide(from[t]), x, marks, key, heap, place, pending);
+        let behind = wide(from[t]);
+        size = offer(behind, x, marks, key, heap, place, size);
+        nearest = nearer(is_start(marks[behind]), x, nearest);
         t = wide(link[t]);
     }
-    pending
+    Pending { size, nearest }
 }
 
-// Spreads keys from the final states back, nearest first, until a start is nearest. Each state is taken once. Whatever the keys were before is lost.
+// Spreads keys from the final states back, nearest first, until a first step is as near as the nearest state. Each state is taken once. Whatever the keys were before is
+// lost.
 pub fn spread<'a, 'b>(
     n: usize,
     marks: &[u8; 512],
@@ -126,19 +150,20 @@ pub fn spread<'a, 'b>(
     let mut heap = [0u16; 512];
     let mut place = [0u16; 512];
     let mut size = seed(n, marks, close, key, &mut heap, &mut place);
+    let mut nearest = FAR;
     let mut taken = 0;
     while taken < n {
         if size == 0 {
             break;
         }
         let s = wide(heap[0]);
+        if nearest <= key[s] {
+            break;
+        }
         size -= 1;
         let last = heap[size];
         heap::sink(&mut heap, &mut place, key, size, last);
-        if is_start(marks[s]) {
-            break;
-        }
-        size = relax_into(
+        let pending = relax_into(
             s,
             marks,
             from,
@@ -148,8 +173,10 @@ pub fn spread<'a, 'b>(
             key,
             &mut heap,
             &mut place,
-            size,
+            Pending { size, nearest },
         );
+        size = pending.size;
+        nearest = pending.nearest;
         taken += 1;
     }
 }

@@ -9,7 +9,7 @@ use native.Mathlib.Nat.{le-refl}
 use native.Mathlib.Omega.{arith}
 use lib.ListN.{length, set}
 use lib.Seq.{getD-set-same, getD-set-other}
-use Rattle.search.specs.Arrays.{Arrays, at, UnfinishedIn, Leaves}
+use Rattle.search.specs.Arrays.{Arrays, at, Leaves}
 use Rattle.search.specs.Chain.{none}
 use Rattle.search.specs.Route.{along, Steps}
 use Rattle.tree.specs.Tree.{up, Climbable, Climbs, Climbed}
@@ -97,8 +97,7 @@ module _ (A : Arrays) (rank via : List ℕ) (s k : ℕ) (before after : List ℕ
   first = up (A .from) via s k
 
   -- each state with a rank is where its transition leads
-  module _ (arrives : (x : ℕ) → x < A .n → 0 < at rank x → at via x < A .m → at (A .to) (at via x) ≡ x)
-      (unfinished : (x : ℕ) → x < A .n → 0 < at rank x → UnfinishedIn (A .marks) x) where
+  module _ (arrives : (x : ℕ) → x < A .n → 0 < at rank x → at via x < A .m → at (A .to) (at via x) ≡ x) where
     pub climbed-along : (i u : ℕ) → i + u ≡ k → along (A .to) first after i ≡ up (A .from) via s u
     climbed-along zero u e = let p : u ≡ k = omega arith in rw p refl
     climbed-along (suc i) u e =
@@ -120,16 +119,13 @@ module _ (A : Arrays) (rank via : List ℕ) (s k : ℕ) (before after : List ℕ
         let b : at rank (up (A .from) via s i) < at rank (up (A .from) via s j) = subst (λ (x : ℕ). at rank (up (A .from) via s i) < at rank (up (A .from) via s x)) p a in omega (arith, ap (at rank) e)
 
     pub climbed-steps : Steps A first after k
-    climbed-steps = record { below = below; unfinished = unfinish; leaves = leaves; apart = apart }
+    climbed-steps = record { below = below; leaves = leaves; apart = apart }
       where
         here : (i : ℕ) → i ≤ k → along (A .to) first after i ≡ up (A .from) via s (k - i)
         here i h = climbed-along i (k - i) (omega arith)
 
         below : (i : ℕ) → i ≤ k → along (A .to) first after i < A .n
         below i h = rw (here i h) (c .below (k - i) (omega arith) .0)
-
-        unfinish : (i : ℕ) → i < k → UnfinishedIn (A .marks) (along (A .to) first after i)
-        unfinish i h = let (l, r, q) = c .below (k - i) (omega arith) in rw (here i (omega arith)) (unfinished (up (A .from) via s (k - i)) l r)
 
         leaves : (i : ℕ) → i < k → Leaves A (along (A .to) first after i) (at after i)
         leaves i h =

@@ -1,5 +1,5 @@
--- A state of rank 0 that is unfinished is entered (`entered`). Its cursor is its first transition, so it has passed none; the states that others have passed
--- are not it, since their ranks are not 0. Assumes nothing.
+-- A state of rank 0 is entered (`entered`): a start, final or not, on the empty stack, or an unfinished state that the top of the stack leads to. Its cursor is its
+-- first transition, so it has passed none; the states that others have passed are not it, since their ranks are not 0. Assumes nothing.
 use mathlib.Core.List.{List}
 use mathlib.Core.Logic.{_⊎_, inl, inr, _≢_}
 use mathlib.Core.Path.{_≡_, sym, _∙_}
@@ -100,31 +100,25 @@ module _ {A : Arrays} {head link : List ℕ} {a : Table} {d done : ℕ} (w : Und
         go (inl e) = rw (e .1) (f (sym (e .0)))
         go (inr e) = rw (e .1) (w .search .root (omega (arith, e .0)))
 
-    -- the step from the top of the stack to v
+    -- the step from the top of the stack to v, which is unfinished
     abbrev StepTo : Type 0
     StepTo = (i : ℕ) → suc i ≡ d → Leaves A (at (a .stack) i) (at (a .cursor) (at (a .stack) i)) × (at (A .to) (at (a .cursor) (at (a .stack) i)) ≡ v)
+        × UnfinishedIn (A .marks) v
 
     enter-path : StepTo → (i : ℕ) → suc i < d + 1 → Leaves A (at (entering .stack) i) (at (entering .cursor) (at (entering .stack) i))
-        × (at (A .to) (at (entering .cursor) (at (entering .stack) i)) ≡ at (entering .stack) (suc i))
+        × (at (A .to) (at (entering .cursor) (at (entering .stack) i)) ≡ at (entering .stack) (suc i)) × UnfinishedIn (A .marks) (at (entering .stack) (suc i))
     enter-path step i h = rw (below-kept i l, cursor-kept (at (a .stack) i) (omega (arith, stack-rank w i l))) (go (enter-stack (suc i)))
       where
         l : i < d
         l = omega arith
 
         go : Stored (a .stack) d v (suc i) → Leaves A (at (a .stack) i) (at (a .cursor) (at (a .stack) i))
-            × (at (A .to) (at (a .cursor) (at (a .stack) i)) ≡ at (entering .stack) (suc i))
+            × (at (A .to) (at (a .cursor) (at (a .stack) i)) ≡ at (entering .stack) (suc i)) × UnfinishedIn (A .marks) (at (entering .stack) (suc i))
         go (inl e) = rw (e .1) (step i (e .0))
         go (inr e) = rw (e .1) (w .search .path i (omega (arith, e .0)))
 
     enter-behind : (i : ℕ) → i < done → (at (a .order) i < A .n) × (at (entering .rank) (at (a .order) i) ≡ suc i)
     enter-behind i h = let b = w .search .behind i h in (b .0, enter-kept (at (a .order) i) (omega (arith, b .1)) ∙ b .1)
-
-    enter-unfinished : UnfinishedIn (A .marks) v → (x : ℕ) → x < A .n → 0 < at (entering .rank) x → UnfinishedIn (A .marks) x
-    enter-unfinished u x h r = go (enter-cases x r)
-      where
-        go : (x ≡ v) ⊎ (0 < at (a .rank) x) → UnfinishedIn (A .marks) x
-        go (inl e) = rw e u
-        go (inr e) = w .search .unfinished x h e
 
     enter-next : (x : ℕ) → x < A .n → 0 < at (entering .rank) x → Next A x (at (entering .cursor) x)
     enter-next x h r = go (enter-cases x r)
@@ -155,27 +149,27 @@ module _ {A : Arrays} {head link : List ℕ} {a : Table} {d done : ℕ} (w : Und
         go (inl e) = let w : at (entering .rank) x ≡ 513 + d = rw e v-rank in absurd (omega arith)
         go (inr e) = cursor-kept x e ∙ w .search .ended x h e (rw (enter-kept x e) at l)
 
-    -- how v is entered
+    -- how v is entered: as a start, or, unfinished, by a transition
     abbrev From : Type 0
-    From = ((by ≡ none) × StartIn (A .marks) v) ⊎ ((by < A .m) × (at (A .to) by ≡ v) × (0 < at (a .rank) (at (A .from) by)))
+    From = ((by ≡ none) × StartIn (A .marks) v) ⊎ ((by < A .m) × (at (A .to) by ≡ v) × (0 < at (a .rank) (at (A .from) by)) × UnfinishedIn (A .marks) v)
 
     enter-origin : From → (x : ℕ) → x < A .n → 0 < at (entering .rank) x → Origin A entering x
     enter-origin f x h r = go (enter-cases x r)
       where
         this : From → Origin A entering v
         this (inl o) = inl (v-via ∙ o .0, o .1)
-        this (inr o) = inr (rw v-via (o .0), rw v-via (o .1), rw v-via (enter-grown _ (o .2)))
+        this (inr o) = inr (rw v-via (o .0), rw v-via (o .1), rw v-via (enter-grown _ (o .2)), o .3)
 
         kept : x ≢ v → Origin A a x → Origin A entering x
         kept ne (inl o) = inl (getD-set-other (a .via) v x by 0 ne ∙ o .0, o .1)
-        kept ne (inr o) = rw (getD-set-other (a .via) v x by 0 ne) (inr (o .0, o .1, enter-grown _ (o .2)))
+        kept ne (inr o) = rw (getD-set-other (a .via) v x by 0 ne) (inr (o .0, o .1, enter-grown _ (o .2), o .3))
 
         go : (x ≡ v) ⊎ (0 < at (a .rank) x) → Origin A entering x
         go (inl e) = rw e (this f)
         go (inr e) = kept (other x e) (w .search .origin x h e)
 
-    pub entered : UnfinishedIn (A .marks) v → (d ≡ 0 → StartIn (A .marks) v) → StepTo → From → Searching A entering (d + 1) done
-    entered u start step f = record {
+    pub entered : (d ≡ 0 → StartIn (A .marks) v) → StepTo → From → Searching A entering (d + 1) done
+    entered start step f = record {
       depth = omega (arith, enter-depth);
       count = w .search .count;
       placed = enter-placed;
@@ -183,7 +177,6 @@ module _ {A : Arrays} {head link : List ℕ} {a : Table} {d done : ℕ} (w : Und
       root = λ h. enter-root start;
       path = enter-path step;
       behind = enter-behind;
-      unfinished = enter-unfinished u;
       next = enter-next;
       passed = enter-passed;
       ended = enter-ended;

@@ -113,7 +113,7 @@ module _ {A : Arrays} {head link : List ℕ} {a : Table} {d done high s : ℕ} (
     where
       go : Origin A a x → Origin A left x
       go (inl o) = inl o
-      go (inr o) = inr (o .0, o .1, leave-grown _ (o .2))
+      go (inr o) = inr (o .0, o .1, leave-grown _ (o .2), o .3)
 
   pub leave : at (a .cursor) s ≡ none → Searching A left high (done + 1)
   leave over = record {
@@ -124,7 +124,6 @@ module _ {A : Arrays} {head link : List ℕ} {a : Table} {d done high s : ℕ} (
     root = λ h. o .under .search .root (omega arith);
     path = λ i h. o .under .search .path i (omega arith);
     behind = leave-behind;
-    unfinished = λ x h r. o .under .search .unfinished x h (leave-entered x r);
     next = λ x h r. o .under .search .next x h (leave-entered x r);
     passed = leave-passed over;
     ended = leave-ended over;

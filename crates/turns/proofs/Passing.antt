@@ -1,5 +1,5 @@
 -- A transition of the top is passed when it leads to a final state or to one that was left (`pass`): whatever leaves the state below the next cursor was below
--- the old one, or is this transition. One that leads to a state on the stack closes a loop (`loop`): that state's rank is 513 and its place. Assumes nothing.
+-- the old one, or is this transition. One that leads to an unfinished state on the stack closes a loop (`loop`): that state's rank is 513 and its place. Assumes nothing.
 use mathlib.Core.List.{List}
 use mathlib.Core.Logic.{_⊎_, inl, inr, _≢_}
 use mathlib.Core.Path.{_≡_, sym, _∙_}
@@ -7,13 +7,13 @@ use Prim.Native.Nat.{ℕ, suc, _+_, _≤_, _<_}
 use native.Mathlib.Omega.{arith}
 use lib.ListN.{length-set}
 use lib.Seq.{getD-set-same, getD-set-other}
-use Rattle.search.specs.Arrays.{Arrays, at, Leaves}
+use Rattle.search.specs.Arrays.{Arrays, at, UnfinishedIn, Leaves}
 use Rattle.search.specs.Chain.{First}
 use Rattle.turns.specs.Search.{Table, Sized, Placed, Searching, Loop, toDo, workIn}
 use Rattle.search.proofs.Places.{at-set, sum-falls}
 use Rattle.arrays.proofs.Lists.{same-or-not}
 use Rattle.search.proofs.Chained.{first-passed, chain-rises}
-use Rattle.turns.proofs.Stack.{Passable, Behind, Next, next-of, Stored, to-do-open, cursorAt, AtStep, stack-below, stack-rank}
+use Rattle.turns.proofs.Stack.{Passable, Behind, Next, next-of, Stored, to-do-open, cursorAt, AtStep, stack-rank}
 use Rattle.turns.proofs.Leaving.{top-below, top-rank}
 
 module _ {A : Arrays} {head link : List ℕ} {a : Table} {d done high s t : ℕ} (g : AtStep A head link a d done high s t) where
@@ -36,7 +36,7 @@ module _ {A : Arrays} {head link : List ℕ} {a : Table} {d done high s t : ℕ}
   pass-kept x ne = getD-set-other (a .cursor) s x (at link t) 0 (λ p. ne (rw p (top-rank (g .on))))
 
   pass-path : (i : ℕ) → suc i < d → Leaves A (at (a .stack) i) (at (passing .cursor) (at (a .stack) i))
-      × (at (A .to) (at (passing .cursor) (at (a .stack) i)) ≡ at (a .stack) (suc i))
+      × (at (A .to) (at (passing .cursor) (at (a .stack) i)) ≡ at (a .stack) (suc i)) × UnfinishedIn (A .marks) (at (a .stack) (suc i))
   pass-path i h = let r = stack-rank (g .on .under) i (omega arith) in rw (pass-kept (at (a .stack) i) (λ w. omega arith)) (g .on .under .search .path i h)
 
   pass-next : (x : ℕ) → x < A .n → 0 < at (a .rank) x → Next A x (at (passing .cursor) x)
@@ -72,7 +72,6 @@ module _ {A : Arrays} {head link : List ℕ} {a : Table} {d done high s t : ℕ}
     root = g .on .under .search .root;
     path = pass-path;
     behind = g .on .under .search .behind;
-    unfinished = g .on .under .search .unfinished;
     next = pass-next;
     passed = pass-passed may;
     ended = λ x h r l. pass-kept x (λ w. omega arith) ∙ g .on .under .search .ended x h r l;
@@ -102,8 +101,8 @@ module _ {A : Arrays} {head link : List ℕ} {a : Table} {d done high s t : ℕ}
       stays : (x : ℕ) → x < 512 → x ≢ s → toDo (at (a .rank) x) (at (passing .cursor) x) ≤ toDo (at (a .rank) x) (at (a .cursor) x)
       stays x h ne = rw (getD-set-other (a .cursor) s x (at link t) 0 ne) (omega arith)
 
-  pub loop : (j : ℕ) → at (a .rank) (at (A .to) t) ≡ 513 + j → Loop A a d j
-  loop j r = go (g .on .under .search .placed (at (A .to) t) (g .on .under .linked .bounded .arrives t (top-leaves .listed)))
+  pub loop : (j : ℕ) → at (a .rank) (at (A .to) t) ≡ 513 + j → UnfinishedIn (A .marks) (at (A .to) t) → Loop A a d j
+  loop j r u = go (g .on .under .search .placed (at (A .to) t) (g .on .under .linked .bounded .arrives t (top-leaves .listed)))
     where
       make : j < d → at (a .stack) j ≡ at (A .to) t → Loop A a d j
       make l v = record {
@@ -111,10 +110,11 @@ module _ {A : Arrays} {head link : List ℕ} {a : Table} {d done high s t : ℕ}
         depth = g .on .under .search .depth;
         root = g .on .under .search .root (omega arith);
         stacked = g .on .under .search .stacked;
-        unfinished = λ i h. g .on .under .search .unfinished _ (stack-below (g .on .under) i h) (omega (arith, stack-rank (g .on .under) i h));
+        unfinished = λ i h. (g .on .under .search .path i h) .2;
         leaves = λ i h. leaves i h (same-or-not i high);
         path = λ i h. (g .on .under .search .path i h) .1;
         back = λ i h. back i h;
+        back-unfinished = rw v u;
       }
         where
           leaves : (i : ℕ) → i < d → (i ≡ high) ⊎ (i ≢ high) → Leaves A (at (a .stack) i) (at (a .cursor) (at (a .stack) i))

@@ -1,5 +1,5 @@
 -- The turns of the search: the top of the stack is left, passes a transition, or goes on to the state that it leads to (`turn-leave`, `turn-pass`, `turn-enter`); and a
--- start is entered on the empty stack (`enter-start`). Each turn has less to do: the work at one state falls, and is as it was at every other. Assumes nothing.
+-- start, final or not, is entered on the empty stack (`enter-start`). Each turn has less to do: the work at one state falls, and is as it was at every other. Assumes nothing.
 use mathlib.Core.List.{List}
 use mathlib.Core.Logic.{inl, inr, _≢_}
 use mathlib.Core.Path.{_≡_, refl}
@@ -37,7 +37,7 @@ module _ {A : Arrays} {head link : List ℕ} {a : Table} {d done high s t : ℕ}
   pub turn-enter : at (a .rank) (at (A .to) t) ≡ 0 → UnfinishedIn (A .marks) (at (A .to) t)
       → Turned A a d (On (d + 1) done) (onStack a head d (at (A .to) t) t)
   turn-enter new u = (
-    entered w v t b new u (λ e. absurd (omega arith)) step (inr (l .listed, refl, from-top)),
+    entered w v t b new (λ e. absurd (omega arith)) step (inr (l .listed, refl, from-top, u)),
     enter-sized w v t b new,
     enter-grown w v t b new,
     enter-work w v t b new,
@@ -55,13 +55,14 @@ module _ {A : Arrays} {head link : List ℕ} {a : Table} {d done high s t : ℕ}
       l : Leaves A s t
       l = top-leaves g
 
-      step : (i : ℕ) → suc i ≡ d → Leaves A (at (a .stack) i) (at (a .cursor) (at (a .stack) i)) × (at (A .to) (at (a .cursor) (at (a .stack) i)) ≡ at (A .to) t)
-      step i h = let e : i ≡ high = omega arith in rw (e, g .on .top, g .cursor) (l, refl)
+      step : (i : ℕ) → suc i ≡ d → Leaves A (at (a .stack) i) (at (a .cursor) (at (a .stack) i)) × (at (A .to) (at (a .cursor) (at (a .stack) i)) ≡ v)
+          × UnfinishedIn (A .marks) v
+      step i h = let e : i ≡ high = omega arith in rw (e, g .on .top, g .cursor) (l, refl, u)
 
       from-top : 0 < at (a .rank) (at (A .from) t)
       from-top = rw (l .source) (omega (arith, top-rank (g .on)))
 
 -- the search from a start, on an empty stack
 pub enter-start : {A : Arrays} {head link : List ℕ} {a : Table} {done : ℕ} → Underway A head link a 0 done
-    → (s : ℕ) → s < A .n → at (a .rank) s ≡ 0 → StartIn (A .marks) s → UnfinishedIn (A .marks) s → Searching A (onStack a head 0 s none) 1 done
-enter-start w s b new start u = entered w s none b new u (λ e. start) (λ i h. absurd (omega arith)) (inl (refl, start))
+    → (s : ℕ) → s < A .n → at (a .rank) s ≡ 0 → StartIn (A .marks) s → Searching A (onStack a head 0 s none) 1 done
+enter-start w s b new start = entered w s none b new (λ e. start) (λ i h. absurd (omega arith)) (inl (refl, start))

@@ -1,4 +1,5 @@
--- What the depth-first search keeps, and what a turn makes of it. The search goes through the unfinished states that starts reach.
+-- What the depth-first search keeps, and what a turn makes of it. The search goes through the starts, final ones too, and the unfinished states that they reach: a final
+-- start is entered as the first state of a walk alone (document 02, E5: "Its first state may be final").
 --
 -- The rank of a state: 0 before the search enters it; 513 and its place on the stack while it is there; 1 and its place in the order of leaving
 -- once it is left. The cursor of a state is its first transition that is not passed yet; it stays while the search is behind that transition, so
@@ -45,9 +46,10 @@ Placed a d done s =
     ⊎ ((i : ℕ) × (i < d) × (at (a .rank) s ≡ 513 + i) × (at (a .stack) i ≡ s))
 
 module _ (A : Arrays) where
-  -- how a state was entered: as a start, or by a transition from a state that was entered
+  -- how a state was entered: as a start, final or not, or, unfinished, by a transition from a state that was entered
   abbrev pub Rooted : List ℕ → List ℕ → ℕ → Type 0
-  Rooted rank via s = ((at via s ≡ none) × StartIn (A .marks) s) ⊎ ((at via s < A .m) × (at (A .to) (at via s) ≡ s) × (0 < at rank (at (A .from) (at via s))))
+  Rooted rank via s = ((at via s ≡ none) × StartIn (A .marks) s)
+      ⊎ ((at via s < A .m) × (at (A .to) (at via s) ≡ s) × (0 < at rank (at (A .from) (at via s))) × UnfinishedIn (A .marks) s)
 
   abbrev pub Origin : Table → ℕ → Type 0
   Origin a s = Rooted (a .rank) (a .via) s
@@ -57,15 +59,14 @@ module _ (A : Arrays) where
     pub depth : d ≤ A .n
     pub count : done ≤ A .n
     pub placed : (s : ℕ) → s < A .n → Placed a d done s
-    -- the stack is a walk from a start, by the cursors
+    -- the stack is a walk from a start, by the cursors; all but its first state are unfinished
     pub stacked : (i : ℕ) → i < d → (at (a .stack) i < A .n) × (at (a .rank) (at (a .stack) i) ≡ 513 + i)
     pub root : 0 < d → StartIn (A .marks) (at (a .stack) 0)
     pub path : (i : ℕ) → suc i < d → Leaves A (at (a .stack) i) (at (a .cursor) (at (a .stack) i))
-        × (at (A .to) (at (a .cursor) (at (a .stack) i)) ≡ at (a .stack) (suc i))
+        × (at (A .to) (at (a .cursor) (at (a .stack) i)) ≡ at (a .stack) (suc i)) × UnfinishedIn (A .marks) (at (a .stack) (suc i))
     -- the states that were left, in their order
     pub behind : (i : ℕ) → i < done → (at (a .order) i < A .n) × (at (a .rank) (at (a .order) i) ≡ suc i)
-    -- each state that was entered is unfinished, and its transitions before the cursor lead to final states and to states left earlier
-    pub unfinished : (s : ℕ) → s < A .n → 0 < at (a .rank) s → UnfinishedIn (A .marks) s
+    -- of each state that was entered, the transitions before the cursor lead to final states and to states left earlier
     pub next : (s : ℕ) → s < A .n → 0 < at (a .rank) s
         → (at (a .cursor) s ≤ none) × (at (a .cursor) s < none → Leaves A s (at (a .cursor) s))
     pub passed : (s : ℕ) → s < A .n → 0 < at (a .rank) s → (t : ℕ) → Leaves A s t → t < at (a .cursor) s
@@ -80,16 +81,17 @@ module _ (A : Arrays) where
     pub sized : Sized a
     pub search : Searching a d done
 
-  -- the step from the top of the stack leads to the state at place j of it: the walk along the stack goes on forever
+  -- the step from the top of the stack leads to the state at place j of it, an unfinished one: the walk along the stack goes on forever
   pub record Loop (a : Table) (d j : ℕ) : Type 0 where
     pub below : j < d
     pub depth : d ≤ A .n
     pub root : StartIn (A .marks) (at (a .stack) 0)
     pub stacked : (i : ℕ) → i < d → (at (a .stack) i < A .n) × (at (a .rank) (at (a .stack) i) ≡ 513 + i)
-    pub unfinished : (i : ℕ) → i < d → UnfinishedIn (A .marks) (at (a .stack) i)
+    pub unfinished : (i : ℕ) → suc i < d → UnfinishedIn (A .marks) (at (a .stack) (suc i))
     pub leaves : (i : ℕ) → i < d → Leaves A (at (a .stack) i) (at (a .cursor) (at (a .stack) i))
     pub path : (i : ℕ) → suc i < d → at (A .to) (at (a .cursor) (at (a .stack) i)) ≡ at (a .stack) (suc i)
     pub back : (i : ℕ) → suc i ≡ d → at (A .to) (at (a .cursor) (at (a .stack) i)) ≡ at (a .stack) j
+    pub back-unfinished : UnfinishedIn (A .marks) (at (a .stack) j)
 
 -- what is left to do at a state: it is entered, its transitions are passed, and it is left
 abbrev pub toDo : ℕ → ℕ → ℕ

@@ -1,5 +1,6 @@
-// A turn of the depth-first search through the unfinished states of a graph in lent arrays: the state on top of the stack is left, passes a transition, or the
-// state that it leads to is entered. A step to a state on the stack is a walk that goes on forever.
+// A turn of the depth-first search through the starts and the unfinished states of a graph in lent arrays: the state on top of the stack is left, passes a transition, or
+// the state that it leads to is entered. A final state that a walk arrives at ends it, also where it is on the stack as the walk's start; a step to an unfinished state on the
+// stack is a walk that goes on forever.
 ghost use mathlib.Core.List.{List};
 ghost use mathlib.Core.Path.{_≡_};
 ghost use Prim.Native.Nat.{ℕ, _+_, _<_};
@@ -72,17 +73,16 @@ pub fn turn(
         };
     }
     let v = wide(to[t]);
-    let r = wide(rank[v]);
-    if 512 < r {
-        return Course::Back(r - 513);
-    }
     if !is_final(marks[v]) {
+        let r = wide(rank[v]);
+        if 512 < r {
+            let back = r - 513;
+            return Course::Back(back);
+        }
         if r == 0 {
             enter(v, t as u16, d, head, rank, cursor, stack, via);
-            return Course::On {
-                depth: d + 1,
-                left: done,
-            };
+            let depth = d + 1;
+            return Course::On { depth, left: done };
         }
     }
     cursor[s] = link[t];

@@ -10,8 +10,9 @@ use Rattle.graph.specs.Route.{Cost}
 use Rattle.graph.specs.Figure.{Figure, IsLeast, IsGreatest}
 use Rattle.search.specs.Arrays.{Arrays, at, StartIn, FinalIn, UnfinishedIn, Leaves}
 use Rattle.search.specs.Chain.{Linked}
-use Rattle.search.specs.Sizes.{far, heaviest}
+use Rattle.search.specs.Sizes.{heaviest}
 use Rattle.search.specs.Route.{Accounts}
+use Rattle.best_step.specs.Steps.{Before}
 use Rattle.turns.specs.Search.{Table}
 use Rattle.hunt.specs.Hunted.{NoDeadEnd}
 use Rattle.reach.specs.Explored.{Ranked}
@@ -21,41 +22,21 @@ abbrev pub IsBest : Bool → Graph → Cost → Figure → Type 0
 IsBest true = IsLeast
 IsBest false = IsGreatest
 
--- x is as good as y, or better: no more than y, or no less
-abbrev pub Before : Bool → ℕ → ℕ → Type 0
-Before true x y = x ≤ y
-Before false x y = y ≤ x
-
--- whether x is better than y, as r says
-pub record Better (least : Bool) (x y : ℕ) (r : Bool) : Type 0 where
-  pub yes : r ≡ true → Before least x y × (x ≡ y → ⊥)
-  pub no : r ≡ false → Before least y x
-
--- what every number up to `far` is as good as, or better
-abbrev pub last : Bool → ℕ
-last true = far
-last false = 0
-
--- r is the best that a transition out of s weighs with the value behind it; the last of all where none leaves s
-pub record BestOut (least : Bool) (A : Arrays) (to weight value : List ℕ) (s r : ℕ) : Type 0 where
-  pub over : (t : ℕ) → Leaves A s t → Before least r (at weight t + at value (at to t))
-  pub attained : (r ≡ last least) ⊎ ((t : ℕ) × Leaves A s t × (r ≡ at weight t + at value (at to t)))
-
 module _ (A : Arrays) (order : List ℕ) where
-  -- the first `done` states of the order: different unfinished states, each with transitions, which lead to final states and to earlier ones
+  -- the first `done` states of the order: different states, final starts among them, each with transitions, which lead to final states and to earlier ones
   pub record Ordered (done : ℕ) : Type 0 where
     pub below : (i : ℕ) → i < done → at order i < A .n
-    pub unfinished : (i : ℕ) → i < done → UnfinishedIn (A .marks) (at order i)
     pub apart : (i j : ℕ) → i < j → j < done → at order i ≡ at order j → ⊥
     pub leaves : (i : ℕ) → i < done → (t : ℕ) × Leaves A (at order i) t
     pub earlier : (i : ℕ) → i < done → (t : ℕ) → Leaves A (at order i) t → FinalIn (A .marks) (at (A .to) t) ⊎ ((j : ℕ) × (j < i) × (at order j ≡ at (A .to) t))
 
--- the values of the first `done` states are the best over their transitions, and some transition accounts for each; a final state has its close
+-- the values of the unfinished ones of the first `done` states are the best over their transitions, and some transition accounts for each; a final state has its close, also
+-- where it is a start: the value there is for walks that arrive, and not what beginning there costs
 pub record Valued (least : Bool) (A : Arrays) (order weight close : List ℕ) (done : ℕ) (value : List ℕ) : Type 0 where
   pub sized : 512 ≤ length value
   pub at-final : (s : ℕ) → s < A .n → FinalIn (A .marks) s → at value s ≡ at close s
-  pub over : (i : ℕ) → i < done → (t : ℕ) → Leaves A (at order i) t → Before least (at value (at order i)) (at weight t + at value (at (A .to) t))
-  pub accounted : (i : ℕ) → i < done → (t : ℕ) × Leaves A (at order i) t × Accounts (A .to) weight value (at order i) t
+  pub over : (i : ℕ) → i < done → UnfinishedIn (A .marks) (at order i) → (t : ℕ) → Leaves A (at order i) t → Before least (at value (at order i)) (at weight t + at value (at (A .to) t))
+  pub accounted : (i : ℕ) → i < done → UnfinishedIn (A .marks) (at order i) → (t : ℕ) × Leaves A (at order i) t × Accounts (A .to) weight value (at order i) t
   pub most : (s : ℕ) → at value s ≤ suc done * heaviest
 
 -- what values can be filled in from: a linked graph, weights that can be added, and an order of `done` states
@@ -71,8 +52,3 @@ pub record Over (A : Arrays) (head link : List ℕ) (a : Table) (done : ℕ) : T
   pub ranked : Ranked A a done
   pub started : (s : ℕ) × (s < A .n) × StartIn (A .marks) s
   pub no-dead-end : NoDeadEnd A (a .rank)
-
--- r is a start with the best value; n where there is no start
-pub record BestStart (least : Bool) (n : ℕ) (marks value : List ℕ) (r : ℕ) : Type 0 where
-  pub found : r < n → StartIn marks r
-  pub best : (s : ℕ) → s < n → StartIn marks s → (r < n) × Before least (at value r) (at value s)

@@ -2,7 +2,8 @@
 //!
 //! The transitions stand by state in one array. The least figures take states nearest first, with
 //! a 4-ary heap, and stop at the first final state. One depth-first search gives both greatest
-//! figures, and keeps the walk to the first open transition that it takes. For the counts of a class
+//! figures, and keeps the walk to the first open transition that it takes. A final start is left at
+//! the beginning, and its place keeps what it costs to arrive there. For the counts of a class
 //! the states that count are set anew, and the search keeps no delays. Nothing is allocated.
 
 const STATES: usize = 512;
@@ -178,6 +179,10 @@ impl Graph {
         usize::from(self.first[state])..usize::from(self.first[state + 1])
     }
 
+    fn is_start(&self, state: usize) -> bool {
+        self.marks[state] & START != 0
+    }
+
     fn is_final(&self, state: usize) -> bool {
         self.marks[state] & FINAL != 0
     }
@@ -202,45 +207,62 @@ impl Graph {
         first_cost: impl Fn(usize) -> u32,
         walk: &mut [u16; STATES],
     ) -> Answer {
-        let mut costs = [u32::MAX; STATES];
-        // The state before, and the number of the transition from there.
-        let mut came = [(u16::MAX, 0); STATES];
-        let mut heap = Heap::new();
-        for state in 0..self.n {
-            if self.marks[state] & START != 0 {
-                costs[state] = first_cost(state);
-                heap.push(costs[state], state);
+        let mut nearest = Nearest::new();
+        for state in (0..self.n).filter(|&state| self.is_start(state)) {
+            let cost = first_cost(state);
+            if self.is_final(state) {
+                self.leave(state, cost, &weight, &mut nearest);
+            } else {
+                nearest.reach(state, cost, (NO_STATE, 0));
             }
         }
-        while let Some((cost, state)) = heap.pop() {
+        while let Some((cost, state)) = nearest.heap.pop() {
             if self.is_final(state) {
-                let k = trace_back(&came, state, walk);
+                let k = self.trace_back(&nearest.came, state, walk);
                 return answer(NUMBER, cost, k);
             }
-            if cost > costs[state] {
-                continue;
-            }
-            for &step in &self.steps[self.steps_of(state)] {
-                let to = usize::from(step.to);
-                let cost = cost + weight(step);
-                if cost < costs[to] {
-                    costs[to] = cost;
-                    came[to] = (state as u16, step.number);
-                    heap.push(cost, to);
-                }
+            if cost == nearest.costs[state] {
+                self.leave(state, cost, &weight, &mut nearest);
             }
         }
         answer(NONE, 0, 0)
     }
 
+    /// Takes every step from a state that is reached at this cost.
+    #[inline(always)]
+    fn leave(&self, state: usize, cost: u32, weight: impl Fn(Step) -> u32, nearest: &mut Nearest) {
+        for &step in &self.steps[self.steps_of(state)] {
+            let came = (state as u16, step.number);
+            nearest.reach(usize::from(step.to), cost + weight(step), came);
+        }
+    }
+
+    /// Puts the walk to a final state in order and returns its length. It began at a start that nothing
+    /// led to, or at a final one.
+    fn trace_back(
+        &self,
+        came: &[(u16, u16); STATES],
+        last: usize,
+        walk: &mut [u16; STATES],
+    ) -> usize {
+        let mut k = 0;
+        let mut state = last;
+        while came[state].0 != NO_STATE && (k == 0 || !self.is_final(state)) {
+            walk[k] = came[state].1;
+            k += 1;
+            state = usize::from(came[state].0);
+        }
+        walk[..k].reverse();
+        k
+    }
+
     /// The greatest delay and the greatest count; the count alone where no delays are wanted.
     fn greatest<const DELAYS: bool>(&self, walks: [&mut [u16; STATES]; 2]) -> [Answer; 2] {
         let mut search = Search::<DELAYS>::new(self);
-        let is_start = |state: &usize| self.marks[*state] & START != 0;
-        if !(0..self.n).any(|state| is_start(&state)) {
+        if !(0..self.n).any(|state| self.is_start(state)) {
             return [answer(NONE, 0, 0); 2];
         }
-        for start in (0..self.n).filter(is_start) {
+        for start in (0..self.n).filter(|&state| self.is_start(state)) {
             if let Some((k, j)) = search.explore(start) {
                 for walk in walks {
                     walk[..k].copy_from_slice(&search.walk[..k]);
@@ -249,12 +271,9 @@ impl Graph {
             }
         }
         let [delay_walk, count_walk] = walks;
-        let figure = |values, walk: &mut [u16; STATES]| match search.stranded {
-            Some(k) => {
-                walk[..k].copy_from_slice(&search.stranded_walk[..k]);
-                answer(STRANDED, 0, k)
-            }
-            None => self.best(is_start, values, walk),
+        let stranded = |k: usize, walk: &mut [u16; STATES]| {
+            walk[..k].copy_from_slice(&search.stranded_walk[..k]);
+            answer(STRANDED, 0, k)
         };
         let delay = match search.open {
             _ if !DELAYS => answer(NONE, 0, 0),
@@ -262,29 +281,58 @@ impl Graph {
                 delay_walk[..k].copy_from_slice(&search.open_walk[..k]);
                 [ENDLESS, 0, k as u32, k as u32]
             }
-            None => figure(&search.delays, delay_walk),
+            None => match search.stranded {
+                Some(k) => stranded(k, delay_walk),
+                None => self.best(|_, step| u32::from(step.high), &search.delays, delay_walk),
+            },
         };
-        [delay, figure(&search.counts, count_walk)]
+        let count = match search.stranded {
+            Some(k) => stranded(k, count_walk),
+            None => self.best(|state, _| self.counted(state), &search.counts, count_walk),
+        };
+        [delay, count]
     }
 
-    /// The greatest value of a start, and the walk that its choices make.
+    /// The greatest value of a start, and the walk that its choices make. At a final start the values are
+    /// of arriving there, and each step that leaves it is looked at.
     fn best(
         &self,
-        is_start: impl Fn(&usize) -> bool,
+        weight: impl Fn(usize, Step) -> u32,
         values: &[(u32, u16); STATES],
         walk: &mut [u16; STATES],
     ) -> Answer {
-        let starts = (0..self.n).filter(is_start);
-        let mut state = starts.max_by_key(|&state| values[state].0).unwrap_or(0);
-        let figure = values[state].0;
+        // A value, and the place of the first step.
+        let mut best = (0, 0);
+        let mut is_first = true;
+        let mut offer = |value: (u32, u16)| {
+            if is_first || value.0 > best.0 {
+                best = value;
+            }
+            is_first = false;
+        };
+        for state in (0..self.n).filter(|&state| self.is_start(state)) {
+            if self.is_final(state) {
+                for at in self.steps_of(state) {
+                    let step = self.steps[at];
+                    let value = weight(state, step) + values[usize::from(step.to)].0;
+                    offer((value, at as u16));
+                }
+            } else {
+                offer(values[state]);
+            }
+        }
+        let (figure, mut at) = best;
         let mut k = 0;
-        while !self.is_final(state) {
-            let step = self.steps[usize::from(values[state].1)];
+        loop {
+            let step = self.steps[usize::from(at)];
+            let state = usize::from(step.to);
             walk[k] = step.number;
             k += 1;
-            state = usize::from(step.to);
+            if self.is_final(state) {
+                return answer(NUMBER, figure, k);
+            }
+            at = values[state].1;
         }
-        answer(NUMBER, figure, k)
     }
 }
 
@@ -293,17 +341,36 @@ fn answer(kind: u32, figure: u32, k: usize) -> Answer {
     [kind, figure, k as u32, 0]
 }
 
-/// Puts the walk to a state in order and returns its length.
-fn trace_back(came: &[(u16, u16); STATES], last: usize, walk: &mut [u16; STATES]) -> usize {
-    let mut k = 0;
-    let mut state = last;
-    while came[state].0 != u16::MAX {
-        walk[k] = came[state].1;
-        k += 1;
-        state = usize::from(came[state].0);
+/// No state came before.
+const NO_STATE: u16 = u16::MAX;
+
+/// What it costs to reach each state, as far as is known.
+struct Nearest {
+    costs: [u32; STATES],
+    /// The state before, and the number of the transition from there.
+    came: [(u16, u16); STATES],
+    heap: Heap,
+}
+
+impl Nearest {
+    #[inline(always)]
+    fn new() -> Nearest {
+        Nearest {
+            costs: [u32::MAX; STATES],
+            came: [(NO_STATE, 0); STATES],
+            heap: Heap::new(),
+        }
     }
-    walk[..k].reverse();
-    k
+
+    /// Keeps the cost of a state where it is less than what is known.
+    #[inline(always)]
+    fn reach(&mut self, state: usize, cost: u32, came: (u16, u16)) {
+        if cost < self.costs[state] {
+            self.costs[state] = cost;
+            self.came[state] = came;
+            self.heap.push(cost, state);
+        }
+    }
 }
 
 /// A 4-ary heap of costs with states, in one word each. A state may be on it more than once.
@@ -369,7 +436,7 @@ impl Heap {
 const UNSEEN: u16 = u16::MAX;
 const LEFT: u16 = u16::MAX - 1;
 
-/// A depth-first search over unfinished states.
+/// A depth-first search over unfinished states, from starts that may be final.
 struct Search<'a, const DELAYS: bool> {
     graph: &'a Graph,
     /// For each state UNSEEN, its place on the path, or LEFT.
@@ -417,7 +484,7 @@ impl<const DELAYS: bool> Search<'_, DELAYS> {
 
     /// Searches from a start. Stops at a state that is on the path already, with k and j.
     fn explore(&mut self, start: usize) -> Option<(usize, usize)> {
-        if self.graph.is_final(start) || self.place[start] == LEFT {
+        if self.place[start] == LEFT {
             return None;
         }
         self.enter(start, 0);
@@ -464,8 +531,12 @@ impl<const DELAYS: bool> Search<'_, DELAYS> {
         }
     }
 
-    /// Takes a step whose target has its values into account at the state that it leaves.
+    /// Takes a step whose target has its values into account at the state that it leaves. A final start
+    /// keeps the values of arriving there.
     fn update(&mut self, state: usize, at: u16) {
+        if self.graph.is_final(state) {
+            return;
+        }
         let step = self.graph.steps[usize::from(at)];
         let to = usize::from(step.to);
         let is_first = self.graph.first[state] == at;

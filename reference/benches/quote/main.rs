@@ -42,9 +42,8 @@ fn main() {
     println!(
         "ones from each to the next. Open rings are those to the final state: the greatest delay"
     );
-    println!(
-        "is ENDLESS, the greatest count a number. Growth is from the second size to the third."
-    );
+    println!("is ENDLESS, the greatest count a number. Where calls begin answered, starts are final: one in");
+    println!("a ring that is the one route, or many. Growth is from the second size to the third.");
     print_table(time_proved, time_baseline);
     println!();
     println!("The least and the greatest count for a class, team {TEAM}: the proved library makes a plan");

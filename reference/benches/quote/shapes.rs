@@ -1,4 +1,4 @@
-//! The plans that the benchmark times: seven shapes, with so many states and transitions.
+//! The plans that the benchmark times: nine shapes, with so many states and transitions.
 
 use reference::rng::Rng;
 use reference::{Plan, Transition, MAX_CLOSED_HIGH, OPEN_HIGH};
@@ -9,7 +9,7 @@ pub struct Shape {
     pub plan: fn(&mut Rng, usize, usize) -> Plan,
 }
 
-pub const SHAPES: [Shape; 7] = [
+pub const SHAPES: [Shape; 9] = [
     Shape {
         name: "chain",
         plan: chain,
@@ -37,6 +37,14 @@ pub const SHAPES: [Shape; 7] = [
     Shape {
         name: "acyclic, open rings",
         plan: open_rings,
+    },
+    Shape {
+        name: "ring, begun answered",
+        plan: answered_ring,
+    },
+    Shape {
+        name: "many, begun answered",
+        plan: answered_many,
     },
 ];
 
@@ -140,6 +148,25 @@ fn open_rings(rng: &mut Rng, n: usize, m: usize) -> Plan {
         }
     }
     plan
+}
+
+/// A ring through a state that is start and final, the one route being all its states. The rest are
+/// further transitions between its neighbours.
+fn answered_ring(rng: &mut Rng, n: usize, m: usize) -> Plan {
+    let next = |_: &mut Rng, state: usize| Some((state + 1) % n);
+    plan(rng, (n, m), |state| state == 0, |state| state == 0, next)
+}
+
+/// From each state to later ones. One state in four is start and final, and the last one final.
+fn answered_many(rng: &mut Rng, n: usize, m: usize) -> Plan {
+    let next = |rng: &mut Rng, state: usize| (state + 1 < n).then(|| rng.between(state + 1, n - 1));
+    plan(
+        rng,
+        (n, m),
+        |state| state % 4 == 0,
+        |state| state % 4 == 0 || state == n - 1,
+        next,
+    )
 }
 
 /// From each state to any.

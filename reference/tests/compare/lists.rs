@@ -8,7 +8,7 @@ use reference::proved::{
     self, LentCalls, LentPlan, ACCEPTED, COUNTS, FIELDS, NO_CALLS, OUT, SHORT_SLICE, STATES, WALKS,
 };
 use reference::rng::{Case, Rng};
-use reference::{rounds, Plan, Refusal, FIGURES, MAX_STATES};
+use reference::{rounds, values, Plan, Refusal, FIGURES, MAX_STATES};
 
 use crate::generate;
 use crate::library;
@@ -282,16 +282,16 @@ fn one(rng: &mut Rng, tally: &mut Tally, kinds: &mut Kinds) -> Vec<u32> {
         expected_lent.counts[..COUNTS].copy_from_slice(&made.lent.counts);
         expected_lent.states[..STATES].copy_from_slice(&made.lent.states);
         expected_lent.fields[..FIELDS].copy_from_slice(&made.lent.fields);
-        let values = FIGURES.map(|figure| rounds::quote(&made.plan, figure).value);
+        let quotations = FIGURES.map(|figure| rounds::quote(&made.plan, figure));
         library::assert_four(
             &made.plan,
-            &values,
+            &values(&quotations),
             &walks,
             &out,
             &mut expected_walks,
             &mut expected_out,
         );
-        kinds.add(&values);
+        kinds.add(&made.plan, &quotations);
     }
     assert_eq!(answers, expected_answers, "answers of {calls:?}");
     assert!(lent == expected_lent, "the plan after {calls:?}");

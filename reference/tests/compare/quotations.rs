@@ -9,7 +9,8 @@ use reference::proved::{
 };
 use reference::rng::{Case, Rng};
 use reference::{
-    rounds, Figure, Plan, Refusal, Transition, Value, FIGURES, MAX_STATES, MAX_TRANSITIONS,
+    rounds, values, Figure, Plan, Quotation, Refusal, Transition, Value, FIGURES, MAX_STATES,
+    MAX_TRANSITIONS,
 };
 
 use crate::calls::{run_list, CALLS};
@@ -25,8 +26,8 @@ const LISTS: u64 = 8_000;
 const IMAGES: u64 = 40_000;
 const CLASS_PLANS: u64 = 20_000;
 
-fn values(plan: &Plan) -> [Value; 4] {
-    FIGURES.map(|figure| rounds::quote(plan, figure).value)
+fn quotations(plan: &Plan) -> [Quotation; 4] {
+    FIGURES.map(|figure| rounds::quote(plan, figure))
 }
 
 /// The second calculator's plan comes from the arguments of the calls alone.
@@ -38,13 +39,14 @@ fn lists_of_calls_then_quotations() {
         let case = Case { seed: SEED, number };
         let mut rng = case.rng();
         let pair = run_list(&mut rng, &mut tally);
-        let values = values(pair.plan());
+        let quotations = quotations(pair.plan());
+        let values = values(&quotations);
         library::compare(&mut rng, pair.lent(), pair.plan(), &values);
         for _ in 0..2 {
             let team = generate::about_team(&mut rng);
             count_for(&mut rng, &pair, team, &mut tally);
         }
-        kinds.add(&values);
+        kinds.add(pair.plan(), &quotations);
     }
     kinds.print(&format!(
         "lists of calls, then quotations: seed {SEED:#x}, {LISTS} lists, {} calls",
@@ -185,6 +187,58 @@ fn the_chain_by_calls() {
     }
 }
 
+/// A ring of 512 states through one that is start and final, made by calls, and its greatest figures:
+/// 512 transitions are shown in 512 places. Then its transitions are open from the last one on.
+#[test]
+fn the_ring_by_calls() {
+    let mut rng = Rng::of_test("the_ring_by_calls", SEED);
+    let mut pair = Pair::fresh(&mut rng, MAX_STATES);
+    let step = |from, seconds| {
+        Call::Join(Transition {
+            from,
+            to: (from + 1) % MAX_STATES,
+            low: seconds,
+            high: seconds,
+        })
+    };
+    for from in 0..MAX_STATES {
+        assert_eq!(pair.run(&step(from, 2046)), ACCEPTED);
+        let marks = if from == 0 { 7 } else { 1 };
+        assert_eq!(pair.run(&Call::Mark(from, marks)), ACCEPTED);
+    }
+    let count = Value::Number(513);
+    for opened in 0..=512 {
+        if opened > 0 {
+            let from = 512 - opened;
+            assert_eq!(pair.run(&Call::Unjoin(from)), ACCEPTED);
+            assert_eq!(pair.run(&step(from, 2047)), ACCEPTED);
+        }
+        if ![0, 1, 256, 512].contains(&opened) {
+            continue;
+        }
+        let least = Value::Number(1_047_552 + opened as u32);
+        let greatest = if opened == 0 { least } else { Value::Endless };
+        let values = [least, greatest, count, count];
+        library::compare(&mut rng, pair.lent(), pair.plan(), &values);
+        for (figure, value) in FIGURES.into_iter().zip(values) {
+            let (mut walk, mut out) = (vec![0; 512], [0; OUT]);
+            assert_eq!(pair.lent().quote(figure, &mut walk, &mut out), ACCEPTED);
+            if value != Value::Endless {
+                assert_eq!(out, [0, value.figure(), 512, 0]);
+            } else if opened == 1 {
+                assert_eq!(out, [3, 0, 512, 512]);
+            } else {
+                continue;
+            }
+            // It leaves every state in turn: unjoin and join have put transitions at the list's end.
+            let steps = walk
+                .into_iter()
+                .map(|number| pair.plan().transitions[usize::from(number)]);
+            assert!(steps.map(|step| step.from).eq(0..512));
+        }
+    }
+}
+
 #[test]
 fn images_quoted_at_once() {
     let mut tally = Tally::default();
@@ -199,9 +253,10 @@ fn images_quoted_at_once() {
         short.insert(library::quote_image_short(&mut rng, &octets, refusal));
         match decoded {
             Ok(plan) => {
-                let values = values(&plan);
+                let quotations = quotations(&plan);
+                let values = values(&quotations);
                 library::quote_image(&mut rng, &octets, Ok((&plan, &values)));
-                kinds.add(&values);
+                kinds.add(&plan, &quotations);
                 tally.add_image("quote", &octets, ACCEPTED);
             }
             Err(refusal) => {
@@ -225,7 +280,7 @@ fn buffers_of_walks_and_records() {
     let mut rng = Rng::of_test("buffers_of_walks_and_records", SEED);
     for (n, m) in [(1, 0), (1, 3), (4, 4), (512, 0), (512, 2048)] {
         let pair = random(&mut rng, n, m);
-        let values = values(pair.plan());
+        let values = values(&quotations(pair.plan()));
         for figure in FIGURES {
             let short = Err(Refusal::BufferTooShort);
             let value = Ok(values[figure as usize]);

@@ -1,7 +1,7 @@
 //! The plans that the benchmark times, with the kinds that they are to have.
 
 use reference::rng::{print, Case};
-use reference::Value;
+use reference::{values, Value};
 
 use crate::bench_shapes::SHAPES;
 use crate::means::compare;
@@ -26,7 +26,7 @@ fn the_benchmarks_plans() {
         let mut rng = case.rng();
         for (n, m) in [(16, 40), (32, 128), (64, 256), (128, 512), (512, 2048)] {
             let plan = shape.draw(&mut rng, n, m);
-            let values = compare(&mut rng, &plan);
+            let values = values(&compare(&mut rng, &plan));
             print(&format!("  {} of {n} states: {values:?}\n", shape.name));
             for (is_endless, value) in are_endless(shape.name)
                 .into_iter()

@@ -8,7 +8,7 @@ use crate::random::compare_shape;
 use crate::shapes::SHAPES;
 
 const SEED: u64 = 0x0000_F011;
-const PLANS: u64 = 1044;
+const PLANS: u64 = 1056;
 
 #[test]
 fn full_plans() {
@@ -17,7 +17,13 @@ fn full_plans() {
         let case = Case { seed: SEED, number };
         let mut rng = case.rng();
         let shape = &SHAPES[number as usize % SHAPES.len()];
-        kinds.add(&compare_shape(&mut rng, shape, MAX_STATES, MAX_TRANSITIONS));
+        compare_shape(
+            &mut rng,
+            shape,
+            MAX_STATES,
+            MAX_TRANSITIONS,
+            &mut [&mut kinds],
+        );
     }
     kinds.print(&format!(
         "full plans: seed {SEED:#x}, {PLANS} plans of {MAX_STATES} states and {MAX_TRANSITIONS} \

@@ -1,5 +1,5 @@
-//! The plans of document 01 whose figures it gives, those of our own for E2 and E4 of document 02, and
-//! the edges beside them.
+//! The plans of document 01 whose figures it gives, those of our own for E2, E4 and E5 of document 02,
+//! and the edges beside them.
 
 use std::fs;
 use std::ops::RangeInclusive;
@@ -9,7 +9,7 @@ use reference::check::check;
 use reference::image::{decode, encode};
 use reference::quotation::RECORD_OCTETS;
 use reference::rng::Rng;
-use reference::{rounds, text, Figure, Plan, Refusal, Transition, Value, FIGURES};
+use reference::{rounds, text, values, Figure, Plan, Refusal, Transition, Value, FIGURES};
 
 use crate::means::{agree, agree_class, compare, COUNTS};
 use crate::shapes::give_teams;
@@ -40,9 +40,9 @@ fn plan(marks: &[u8], steps: &[(usize, usize, u32, u32)]) -> Plan {
 /// A plan with its name and its figures.
 pub type Row = (&'static str, Plan, [Value; 4]);
 
-/// All plans with known figures but the chains.
+/// All plans with known figures but the chains and the rings.
 pub fn known() -> Vec<Row> {
-    [closed(), opened()].concat()
+    [closed(), opened(), answered()].concat()
 }
 
 /// P1 to P9, and some more that no row of them is like.
@@ -51,11 +51,8 @@ fn closed() -> Vec<Row> {
     let p5 = Plan::of(vec![0, 1, 1, 2], p1.transitions.clone());
     vec![
         ("P1", p1, [Number(7), Number(60), Number(1), Number(2)]),
-        (
-            "P2",
-            plan(&[7], &[]),
-            [Number(0), Number(0), Number(1), Number(1)],
-        ),
+        // "P2 gets P3's figures" (document 02, E5).
+        ("P2", plan(&[7], &[]), [None, Stranded, None, Stranded]),
         ("P3", plan(&[4, 2], &[]), [None, Stranded, None, Stranded]),
         (
             "P4",
@@ -99,9 +96,9 @@ fn closed() -> Vec<Row> {
             [Number(2), Number(3), Number(2), Number(2)],
         ),
         (
-            "a start that leads to no answer beside one that is one",
+            "two starts without transitions, one of them final",
             plan(&[4, 7], &[]),
-            [Number(0), Stranded, Number(1), Stranded],
+            [None, Stranded, None, Stranded],
         ),
     ]
 }
@@ -178,14 +175,14 @@ fn opened() -> Vec<Row> {
             [Number(1), Number(2), Number(1), Number(1)],
         ),
         (
-            "one out of a start that is final",
+            "one out of a start that is final, to a dead end",
             plan(&[6, 0], &[(0, 1, 1, 2047)]),
-            [Number(0), Number(0), Number(0), Number(0)],
+            [None, Endless, None, Stranded],
         ),
         (
             "one out of a start that is final, beside a start that is not",
             plan(&[6, 5], &[(0, 1, 1, 2047), (1, 0, 4, 2046)]),
-            [Number(0), Number(2046), Number(0), Number(1)],
+            [Number(4), Endless, Number(1), Number(1)],
         ),
         (
             "one out of the second start",
@@ -198,6 +195,91 @@ fn opened() -> Vec<Row> {
             [None; 4],
         ),
     ]
+}
+
+/// "Its first state may be final, and no state between its first and last may be." (document 02, E5)
+fn answered() -> Vec<Row> {
+    vec![
+        (
+            "a transition to itself",
+            answered_returns(),
+            [Number(3), Number(4), Number(2), Number(2)],
+        ),
+        (
+            "to an unfinished loop",
+            plan(&[6, 0], &[(0, 1, 1, 1), (1, 1, 1, 1)]),
+            [None, Endless, None, Endless],
+        ),
+        (
+            "to a dead end",
+            plan(&[6, 0], &[(0, 1, 1, 1)]),
+            [None, Stranded, None, Stranded],
+        ),
+        (
+            "to another final state",
+            plan(&[7, 3], &[(0, 1, 2, 3)]),
+            [Number(2), Number(3), Number(2), Number(2)],
+        ),
+        (
+            "without transitions, beside a good start",
+            plan(&[6, 4, 2], &[(1, 2, 1, 2)]),
+            [Number(1), Stranded, Number(0), Stranded],
+        ),
+        (
+            "an open transition to another final state",
+            plan(&[6, 2], &[(0, 1, 1, 2047)]),
+            [Number(1), Endless, Number(0), Number(0)],
+        ),
+        (
+            "an open transition to itself",
+            plan(&[6], &[(0, 0, 1, 2047)]),
+            [Number(1), Endless, Number(0), Number(0)],
+        ),
+        (
+            "a ring, which is no loop",
+            plan(&[7, 1, 0], &[(0, 1, 1, 2), (1, 2, 3, 5), (2, 0, 0, 9)]),
+            [Number(4), Number(16), Number(3), Number(3)],
+        ),
+        (
+            "back, or on to an answer",
+            plan(&[7, 0, 2], &[(0, 1, 1, 1), (1, 0, 1, 2), (1, 2, 5, 5)]),
+            [Number(2), Number(6), Number(1), Number(2)],
+        ),
+        (
+            "an answer on the way, where calls begin too",
+            plan(&[4, 7, 2], &[(0, 1, 1, 1), (1, 2, 5, 6)]),
+            [Number(1), Number(6), Number(1), Number(1)],
+        ),
+        (
+            "two that lead to each other",
+            plan(&[7, 6], &[(0, 1, 5, 6), (1, 0, 7, 9)]),
+            [Number(5), Number(9), Number(1), Number(1)],
+        ),
+        (
+            "a loop, a dead end and an open transition past an answer",
+            plan(
+                &[6, 2, 0, 0],
+                &[(0, 1, 1, 1), (1, 2, 1, 2047), (2, 2, 1, 1), (1, 3, 1, 1)],
+            ),
+            [Number(1), Number(1), Number(0), Number(0)],
+        ),
+        (
+            "a dead end that is final where no call begins",
+            plan(&[6, 2, 2], &[(0, 1, 1, 4), (0, 2, 2, 3)]),
+            [Number(1), Number(4), Number(0), Number(0)],
+        ),
+        (
+            "a dead end before a loop that another start reaches",
+            plan(&[6, 4, 0], &[(1, 2, 1, 1), (2, 1, 1, 1)]),
+            [None, Endless, None, Endless],
+        ),
+    ]
+}
+
+/// A start that is final and counted, with a transition to itself: a route that ends where it began,
+/// and counts its state twice.
+pub fn answered_returns() -> Plan {
+    plan(&[7], &[(0, 0, 3, 4)])
 }
 
 /// The greatest delay is ENDLESS by the walk 0 1, whose last transition is open, beside numbers.
@@ -228,11 +310,30 @@ pub fn chain(seconds: u32) -> Plan {
     plan
 }
 
+/// 512 counted states in a ring through one that is start and final, each step with these seconds for
+/// its low and its high.
+pub fn ring(seconds: u32) -> Plan {
+    let mut plan = Plan::fresh(512).unwrap();
+    for from in 0..512 {
+        let (to, low, high) = ((from + 1) % 512, seconds, seconds);
+        plan.mark(from, if from == 0 { 7 } else { 1 }).unwrap();
+        plan.join(Transition {
+            from,
+            to,
+            low,
+            high,
+        })
+        .unwrap();
+    }
+    plan
+}
+
 #[test]
 fn known_plans() {
     let mut rng = Rng::of_test("known_plans", SEED);
     for (name, plan, values) in known() {
-        assert_eq!(compare(&mut rng, &plan), values, "{name}");
+        let quotations = compare(&mut rng, &plan);
+        assert_eq!(reference::values(&quotations), values, "{name}");
         let octets = encode(&plan);
         let lines = FIGURES.map(|figure| {
             let mut buffer = vec![7; plan.states.len() + 1];
@@ -328,7 +429,7 @@ fn all_teams_on_one_route() {
         }
     }
     // The counted mark is another yes-or-no.
-    assert_eq!(agree(&plan)[2..], [Number(2); 2]);
+    assert_eq!(values(&agree(&plan))[2..], [Number(2); 2]);
 }
 
 /// Whatever the teams, a count for a class has the kind that the count has: "NONE", "STRANDED" and
@@ -365,7 +466,12 @@ fn lines_of_other_kinds() {
     );
     assert_eq!(
         lines(&known[1].1),
-        "least delay 0:\ngreatest delay 0:\nleast count 1:\ngreatest count 1:\n"
+        "least delay NONE:\ngreatest delay STRANDED:\n\
+         least count NONE:\ngreatest count STRANDED:\n"
+    );
+    assert_eq!(
+        lines(&answered_returns()),
+        "least delay 3: 0\ngreatest delay 4: 0\nleast count 2: 0\ngreatest count 2: 0\n"
     );
     assert_eq!(
         lines(&open_reached()),
@@ -381,9 +487,8 @@ fn lines_of_other_kinds() {
 fn the_chain_of_512_states() {
     let mut rng = Rng::of_test("the_chain_of_512_states", SEED);
     let plan = p10();
-    let values = compare(&mut rng, &plan);
     assert_eq!(
-        values,
+        values(&compare(&mut rng, &plan)),
         [Number(1_045_506), Number(1_045_506), Number(0), Number(0)]
     );
     for figure in FIGURES {
@@ -401,20 +506,70 @@ fn the_chain_of_512_states() {
     assert_eq!(plan.clone().join(step(2048)), Err(Refusal::Duration));
 }
 
-/// A chain of 2047..2047: the least delay is the greatest that there is, and the greatest ENDLESS.
+/// A chain of 2047..2047.
 #[test]
 fn the_open_chain() {
     let mut rng = Rng::of_test("the_open_chain", SEED);
-    let values = [Number(1_046_017), Endless, Number(0), Number(0)];
-    assert_eq!(compare(&mut rng, &chain(2047)), values);
-    // Its last transition alone open: the longest walk that shows one.
+    assert_eq!(
+        values(&compare(&mut rng, &chain(2047))),
+        [Number(1_046_017), Endless, Number(0), Number(0)]
+    );
+    // Its last transition alone open.
     let mut plan = p10();
     plan.transitions[510].high = 2047;
-    let values = [Number(1_045_506), Endless, Number(0), Number(0)];
-    assert_eq!(compare(&mut rng, &plan), values);
+    assert_eq!(
+        values(&compare(&mut rng, &plan)),
+        [Number(1_045_506), Endless, Number(0), Number(0)]
+    );
     let quotation = plan.quote(Figure::GreatestDelay, &mut [0; 512]).unwrap();
     assert_eq!(quotation.walk, (0..511).collect::<Vec<_>>());
     assert_eq!(quotation.j, 511);
+}
+
+/// The ring of 512 states: each figure is the greatest that there is, over 512 transitions.
+#[test]
+fn the_ring_of_512_states() {
+    let mut rng = Rng::of_test("the_ring_of_512_states", SEED);
+    for (seconds, delays) in [
+        (2047, [Number(1_048_064), Endless]),
+        (2046, [Number(1_047_552), Number(1_047_552)]),
+    ] {
+        let plan = ring(seconds);
+        let [least, greatest] = delays;
+        let figures = [least, greatest, Number(513), Number(513)];
+        assert_eq!(values(&compare(&mut rng, &plan)), figures);
+        for (figure, value) in FIGURES.into_iter().zip(figures) {
+            let quotation = plan.quote(figure, &mut [0; 512]).unwrap();
+            // The first transition is open.
+            let k = if value == Endless { 1 } else { 512 };
+            assert_eq!(quotation.walk, (0..k).collect::<Vec<_>>());
+            assert_eq!(quotation.j, if value == Endless { 1 } else { 0 });
+        }
+        // The record's 20 bits hold them.
+        assert_eq!(plan.record(&mut [0; 11]), Ok(11));
+    }
+    // Its last transition alone open: the longest walk that shows one.
+    let mut plan = ring(2046);
+    plan.transitions[511].high = 2047;
+    assert_eq!(
+        values(&compare(&mut rng, &plan)),
+        [Number(1_047_552), Endless, Number(513), Number(513)]
+    );
+    let quotation = plan.quote(Figure::GreatestDelay, &mut [0; 512]).unwrap();
+    assert_eq!(quotation.walk, (0..512).collect::<Vec<_>>());
+    assert_eq!(quotation.j, 512);
+    // Where its last transition leads to state 1 instead, there is a loop and no route; and so where the
+    // first state is not final.
+    let mut plan = ring(2046);
+    for (marks, j) in [(7, 1), (5, 1), (5, 0)] {
+        plan.states[0].marks = marks;
+        plan.transitions[511].to = j;
+        let figures = [None, Endless, None, Endless];
+        assert_eq!(values(&compare(&mut rng, &plan)), figures);
+        let quotation = plan.quote(Figure::GreatestCount, &mut [0; 512]).unwrap();
+        assert_eq!(quotation.walk, (0..512).collect::<Vec<_>>());
+        assert_eq!(quotation.j, j);
+    }
 }
 
 #[test]
@@ -432,6 +587,12 @@ fn records() {
     let p4 = &known()[3].1;
     assert_eq!(p4.record(&mut buffer), Ok(11));
     let expected = [0x00, 0x00, 0x07, 0, 0, 0, 0, 0, 0x30, 0, 0];
+    assert_eq!(buffer[..11], expected);
+
+    // P2 by E5: the kinds 1, 2, 1 and 2.
+    let p2 = &known()[1].1;
+    assert_eq!(p2.record(&mut buffer), Ok(11));
+    let expected = [0x40, 0x00, 0x02, 0, 0, 0x04, 0, 0, 0x20, 0, 0];
     assert_eq!(buffer[..11], expected);
 
     // Kind 3 and figure 0 for the greatest delay, between numbers: 2, 1 and 1.
@@ -465,13 +626,13 @@ fn stored_lines() {
         }
         quoted += 1;
     }
-    assert!(quoted >= 6, "{quoted} plans");
+    assert!(quoted >= 9, "{quoted} plans");
 }
 
 #[test]
 fn short_buffers_and_broken_plans() {
     let p1 = decode(&P1).unwrap();
-    let broken = with_teams(&plan(&[7], &[]), &[32]);
+    let broken = with_teams(&answered_returns(), &[32]);
     for figure in FIGURES {
         let mut buffer = [7; 5];
         let refused = p1.quote(figure, &mut buffer[..3]);

@@ -6,7 +6,7 @@ use reference::quotation::RECORD_OCTETS;
 use reference::rng::Rng;
 use reference::{text, Figure, Plan, Value, FIGURES, MAX_STATES};
 
-use crate::known::{known, open_reached, p10, P1_LINES};
+use crate::known::{answered_returns, known, open_reached, p10, ring, P1_LINES};
 use crate::library;
 use crate::vectors::P1;
 
@@ -67,5 +67,12 @@ fn the_librarys_lines() {
     let octets = encode(&open_reached());
     let one = Value::Number(1);
     let values = [Value::Number(2), Value::Endless, one, one];
+    assert_eq!(lines(&octets, values), text::quote(&octets));
+    // The routes that end where they began: of one transition, and of as many as there can be.
+    let octets = encode(&answered_returns());
+    let values = [3, 4, 2, 2].map(Value::Number);
+    assert_eq!(lines(&octets, values), text::quote(&octets));
+    let octets = encode(&ring(2046));
+    let values = [1_047_552, 1_047_552, 513, 513].map(Value::Number);
     assert_eq!(lines(&octets, values), text::quote(&octets));
 }

@@ -4,7 +4,8 @@ use reference::check::check;
 use reference::image::encode;
 use reference::rng::Rng;
 use reference::{
-    rounds, walks, Asked, Figure, Plan, Quotation, Value, FIGURES, MAX_STATES, MAX_TEAM,
+    rounds, values, walks, Asked, Figure, Plan, Quotation, State, Value, FIGURES, MAX_STATES,
+    MAX_TEAM,
 };
 
 use crate::baseline;
@@ -19,13 +20,13 @@ fn is_small(plan: &Plan) -> bool {
 }
 
 /// Quotes the figures by the second calculator's own means, which must agree, and returns the
-/// values.
-pub fn agree(plan: &Plan) -> [Value; 4] {
+/// quotations.
+pub fn agree(plan: &Plan) -> [Quotation; 4] {
     FIGURES.map(|figure| agree_on(plan, figure.into()))
 }
 
 /// The same of one quotation.
-fn agree_on(plan: &Plan, asked: Asked) -> Value {
+fn agree_on(plan: &Plan, asked: Asked) -> Quotation {
     let quotation = rounds::quote(plan, asked);
     assert_shown(plan, asked, &quotation);
     if is_small(plan) {
@@ -34,14 +35,48 @@ fn agree_on(plan: &Plan, asked: Asked) -> Value {
         assert_eq!(listed.value, quotation.value, "{name} of {plan:?}");
         assert_shown(plan, asked, &listed);
     }
-    quotation.value
+    quotation
+}
+
+/// Quotes the figures of the plan in which no state is start and final, which must be the same. A walk
+/// that is shown for the one may be shown for the other.
+pub fn agree_apart(plan: &Plan, quotations: &[Quotation; 4]) {
+    let apart = apart(plan);
+    for (figure, quotation) in FIGURES.into_iter().zip(quotations) {
+        let other = rounds::quote(&apart, figure);
+        let name = figure.name();
+        assert_eq!(other.value, quotation.value, "{name} of {plan:?}");
+        assert_shown(plan, figure.into(), &other);
+        assert_shown(&apart, figure.into(), quotation);
+    }
+}
+
+/// The plan in which each state that is start and final is two: one that calls arrive at, final and no
+/// start, and one that they leave, a start and unfinished. A call that begins answered (document 02,
+/// E5) is then as any other. It may have more states than a plan may have.
+fn apart(plan: &Plan) -> Plan {
+    let mut apart = plan.clone();
+    for state in 0..plan.states.len() {
+        if plan.is_start(state) && plan.is_final(state) {
+            let State { marks, team } = plan.states[state];
+            let new = apart.states.len();
+            apart.states[state].marks = marks - 4;
+            let marks = marks - 2;
+            apart.states.push(State { marks, team });
+            let left = apart.transitions.iter_mut();
+            for transition in left.filter(|transition| transition.from == state) {
+                transition.from = new;
+            }
+        }
+    }
+    apart
 }
 
 /// The least and the greatest count for the class of a team, by the second calculator's own means.
 /// They are the counts of the plan in which just the states of the class are marked counted, which
 /// is found here by the bounds of the class.
 pub fn agree_class(plan: &Plan, team: u32) -> [Value; 2] {
-    let values = COUNTS.map(|figure| agree_on(plan, figure.for_class_of(team)));
+    let values = COUNTS.map(|figure| agree_on(plan, figure.for_class_of(team)).value);
     let marked = marked_by_class(plan, team);
     let by_marks = COUNTS.map(|figure| rounds::quote(&marked, figure).value);
     assert_eq!(values, by_marks, "for team {team} of {plan:?}");
@@ -67,8 +102,10 @@ pub fn marked_by_class(plan: &Plan, team: u32) -> Plan {
 
 /// Quotes the figures by all means, with the library's among them where it is linked.
 #[cfg_attr(not(feature = "quotations"), allow(unused_variables))]
-pub fn compare(rng: &mut Rng, plan: &Plan) -> [Value; 4] {
-    let values = agree(plan);
+pub fn compare(rng: &mut Rng, plan: &Plan) -> [Quotation; 4] {
+    let quotations = agree(plan);
+    agree_apart(plan, &quotations);
+    let values = values(&quotations);
     compare_baseline(plan, &values);
     // Mostly the class of some state.
     let state = rng.below(plan.states.len());
@@ -93,7 +130,7 @@ pub fn compare(rng: &mut Rng, plan: &Plan) -> [Value; 4] {
             library::quote(rng, &lent, plan, asked, places, expected);
         }
     }
-    values
+    quotations
 }
 
 /// Compares the baseline's figures with the values found.

@@ -10,12 +10,12 @@ use reference::image::{decode, encode};
 use reference::rng::{print, Case};
 use reference::{rounds, text, Plan, FIGURES, MAX_STATES, MAX_TRANSITIONS};
 
-use crate::known::{chain, known, open_reached, p10, P1_LINES};
+use crate::known::{answered_returns, chain, known, open_reached, p10, ring, P1_LINES};
 use crate::shapes::SHAPES;
 use crate::vectors::{P1, P1_WRITTEN};
 
 const SEED: u64 = 0x0000_90CE;
-const PLANS: u64 = 270;
+const PLANS: u64 = 288;
 
 /// The program, where `rt ci` builds it or `RT_QUOTE` says.
 fn program() -> PathBuf {
@@ -69,8 +69,9 @@ fn the_program_quotes_known_plans() {
         assert_quoted(&plan);
     }
     assert_quoted(&chain(2047));
+    assert_quoted(&ring(2047));
     // Of these there is one walk to show.
-    for plan in [p10(), open_reached()] {
+    for plan in [p10(), open_reached(), answered_returns(), ring(2046)] {
         let octets = encode(&plan);
         assert_eq!(printed(&octets), text::quote(&octets));
     }

@@ -2,7 +2,7 @@
 
 use reference::kinds::Kinds;
 use reference::rng::{Case, Rng};
-use reference::{Plan, Transition, Value, MAX_CLOSED_HIGH, OPEN_HIGH};
+use reference::{values, Plan, Transition, Value, MAX_CLOSED_HIGH, OPEN_HIGH};
 
 use crate::means::compare;
 use crate::shapes::{give_teams, Greatest, Shape, SHAPES};
@@ -25,9 +25,8 @@ fn random_plans_of_many_shapes() {
             _ => rng.between(8, 14),
         };
         let m = rng.between(2 * n, 4 * n);
-        let values = compare_shape(&mut rng, &SHAPES[place], n, m);
-        by_shape[place].add(&values);
-        all.add(&values);
+        let kinds = &mut [&mut by_shape[place], &mut all];
+        compare_shape(&mut rng, &SHAPES[place], n, m, kinds);
     }
     for (shape, kinds) in SHAPES.iter().zip(&by_shape) {
         kinds.print_greatest(shape.name);
@@ -46,16 +45,19 @@ fn random_small_plans() {
         let case = Case { seed: SEED, number };
         let mut rng = case.rng();
         let plan = small_plan(&mut rng);
-        kinds.add(&compare(&mut rng, &plan));
+        let quotations = compare(&mut rng, &plan);
+        kinds.add(&plan, &quotations);
     }
     kinds.print(&format!("small plans: seed {SEED:#x}, {SMALL_PLANS} plans"));
     kinds.assert_covers();
 }
 
-/// Draws a plan of the shape, quotes it by all means and holds it to what the shape decides.
-pub fn compare_shape(rng: &mut Rng, shape: &Shape, n: usize, m: usize) -> [Value; 4] {
+/// Draws a plan of the shape, quotes it by all means, holds it to what the shape decides and adds it to
+/// the counts.
+pub fn compare_shape(rng: &mut Rng, shape: &Shape, n: usize, m: usize, counts: &mut [&mut Kinds]) {
     let plan = shape.draw(rng, n, m);
-    let values = compare(rng, &plan);
+    let quotations = compare(rng, &plan);
+    let values = values(&quotations);
     let is_number = |value: Value| matches!(value, Value::Number(_));
     for (greatest, value) in shape.greatest.into_iter().zip([values[1], values[3]]) {
         let holds = match greatest {
@@ -70,7 +72,9 @@ pub fn compare_shape(rng: &mut Rng, shape: &Shape, n: usize, m: usize) -> [Value
         let holds = is_number(values[0]) && is_number(values[2]);
         assert!(holds, "{}: {values:?} of {plan:?}", shape.name);
     }
-    values
+    for kinds in counts {
+        kinds.add(&plan, &quotations);
+    }
 }
 
 /// One plan in three has loops of all sorts, one those of one state alone, and one none. Three in four

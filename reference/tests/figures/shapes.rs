@@ -36,7 +36,7 @@ const fn shape(
 }
 
 /// The shapes. Only those named open have open highs, so in the others loops and dead ends decide.
-pub const SHAPES: [Shape; 18] = [
+pub const SHAPES: [Shape; 24] = [
     shape("chain", chain, [Number, Number]),
     shape("layers", layers, [Number, Number]),
     shape("sound", sound, [Number, Number]),
@@ -49,6 +49,12 @@ pub const SHAPES: [Shape; 18] = [
     shape("open and dead end", open_and_dead_end, [Endless, Stranded]),
     shape("open and loop", open_and_loop, [Endless, Endless]),
     shape("open anywhere", open_anywhere, [Any, Any]),
+    shape("answered ring", answered_ring, [Number, Number]),
+    shape("answered sound", answered_sound, [Number, Number]),
+    shape("answered loop", answered_loop, [Endless, Endless]),
+    shape("answered dead end", answered_dead_end, [Stranded, Stranded]),
+    shape("answered alone", answered_alone, [Stranded, Stranded]),
+    shape("answered open", answered_open, [Endless, Number]),
     shape("dense", dense, [Any, Any]),
     shape("zero durations", zero_durations, [Any, Any]),
     shape("many starts", many_starts, [Any, Any]),
@@ -174,14 +180,15 @@ fn layers(rng: &mut Rng, n: usize, m: usize) -> Plan {
     Plan::of(marks, transitions)
 }
 
-/// Every unfinished state is left, by transitions to higher states, and the last one is final: all
-/// walks come to an answer. From final states transitions lead anywhere.
+/// Every state but the last is left, an unfinished one by transitions to higher states, and the last
+/// one is final and no start: all walks come to an answer. From final states transitions lead anywhere,
+/// and some of them are starts.
 fn sound(rng: &mut Rng, n: usize, m: usize) -> Plan {
     let few = rng.pick(&[2, 8, 1000]);
     let reach = rng.pick(&[1, 3, n]);
     let marks: Vec<u8> = (0..n)
         .map(|state| {
-            let is_start = state == 0 || rng.one_in(few);
+            let is_start = state == 0 || (state < n - 1 && rng.one_in(few));
             let is_final = state == n - 1 || (state > 0 && rng.one_in(few));
             marks(rng, is_start, is_final)
         })
@@ -230,7 +237,7 @@ fn loop_reached(rng: &mut Rng, n: usize, m: usize) -> Plan {
     plan
 }
 
-/// A sound plan, and a loop that only final states lead to.
+/// A sound plan, and a loop that only a final state leads to, which is no start.
 fn loop_unreached(rng: &mut Rng, n: usize, m: usize) -> Plan {
     let length = rng.between(1, 3);
     let mut plan = sound(rng, n - length, m - length - 2);
@@ -287,12 +294,13 @@ fn open_reached(rng: &mut Rng, n: usize, m: usize) -> Plan {
     plan
 }
 
-/// A sound plan in which no open transition counts: they leave final states, starts among them, and a
-/// state that only a final state leads to. The others are a second below open now and then.
+/// A sound plan in which no open transition counts: they leave final states that are no starts, and a
+/// state that only such a one leads to. The others are a second below open now and then.
 fn open_unreached(rng: &mut Rng, n: usize, m: usize) -> Plan {
     let mut plan = sound(rng, n - 1, m - 2);
     for number in 0..m - 2 {
-        if plan.is_final(plan.transitions[number].from) && !rng.one_in(4) {
+        let from = plan.transitions[number].from;
+        if plan.is_final(from) && !plan.is_start(from) && !rng.one_in(4) {
             open(rng, &mut plan.transitions[number]);
         }
     }
@@ -341,6 +349,85 @@ fn open_anywhere(rng: &mut Rng, n: usize, m: usize) -> Plan {
             transition.low = transition.low.min(MAX_CLOSED_HIGH);
             transition.high = MAX_CLOSED_HIGH;
         }
+    }
+    plan
+}
+
+/// A ring through a state that is start and final, with shortcuts to later states and back to it. Every
+/// route ends where it began.
+fn answered_ring(rng: &mut Rng, n: usize, m: usize) -> Plan {
+    let marks = (0..n).map(|state| marks(rng, state == 0, state == 0));
+    let marks = marks.collect();
+    let reach = rng.pick(&[1, 3, n]);
+    let mut transitions: Vec<Transition> = (0..n)
+        .map(|state| step(rng, state, (state + 1) % n))
+        .collect();
+    while transitions.len() < m {
+        let state = rng.below(n);
+        let to = rng.between(state + 1, (state + reach).min(n));
+        transitions.push(step(rng, state, to % n));
+    }
+    Plan::of(marks, transitions)
+}
+
+/// A sound plan in which every start is final. All calls begin answered.
+fn answered_sound(rng: &mut Rng, n: usize, m: usize) -> Plan {
+    let mut plan = sound(rng, n, m);
+    for state in &mut plan.states {
+        if state.marks & 4 != 0 {
+            state.marks |= 2;
+        }
+    }
+    plan
+}
+
+/// The same, and a loop that only a start leads to.
+fn answered_loop(rng: &mut Rng, n: usize, m: usize) -> Plan {
+    let length = rng.between(1, 3);
+    let mut plan = answered_sound(rng, n - length, m - length - 1);
+    let first = n - length;
+    for state in first..n {
+        plan.states.push(unmarked(rng));
+        let next = if state + 1 < n { state + 1 } else { first };
+        plan.transitions.push(step(rng, state, next));
+    }
+    let to = rng.between(first, n - 1);
+    plan.transitions.push(step(rng, 0, to));
+    plan
+}
+
+/// The same with a dead end in place of the loop.
+fn answered_dead_end(rng: &mut Rng, n: usize, m: usize) -> Plan {
+    let mut plan = answered_sound(rng, n - 1, m - 1);
+    plan.states.push(unmarked(rng));
+    plan.transitions.push(step(rng, 0, n - 1));
+    plan
+}
+
+/// A sound plan, in which starts are final or not, and a final start without transitions.
+fn answered_alone(rng: &mut Rng, n: usize, m: usize) -> Plan {
+    let make = rng.pick(&[sound, answered_sound]);
+    let mut plan = make(rng, n - 1, m);
+    let marks = marks(rng, true, true);
+    plan.states.push(State { marks, team: 0 });
+    // Calls may arrive there.
+    for transition in &mut plan.transitions {
+        if rng.one_in(n) {
+            transition.to = n - 1;
+        }
+    }
+    plan
+}
+
+/// A sound plan in which all calls begin answered, and open transitions that leave a start.
+fn answered_open(rng: &mut Rng, n: usize, m: usize) -> Plan {
+    let mut plan = answered_sound(rng, n, m);
+    let is_first = |step: &Transition| plan.is_start(step.from);
+    let numbers = (0..m).filter(|&number| is_first(&plan.transitions[number]));
+    let numbers: Vec<usize> = numbers.collect();
+    for _ in 0..rng.pick(&[1, 1, 3]) {
+        let number = rng.pick(&numbers);
+        open(rng, &mut plan.transitions[number]);
     }
     plan
 }

@@ -5,11 +5,11 @@ use std::thread;
 
 use reference::kinds::Kinds;
 use reference::rng::Case;
-use reference::{rounds, Plan, Transition, OPEN_HIGH};
+use reference::{rounds, values, Plan, Transition, OPEN_HIGH};
 
 #[cfg(feature = "quotations")]
 use crate::lent::{compare_some, lend};
-use crate::means::{agree, COUNTS};
+use crate::means::{agree, agree_apart, COUNTS};
 
 const SEED: u64 = 0x0000_5A11;
 const WORKERS: usize = 2;
@@ -61,9 +61,12 @@ fn compare(case: Case, lists: &[(usize, Vec<Transition>)]) -> Kinds {
             let mut plan = Plan::of(states.collect(), transitions.clone());
             let class = &CLASSES[kinds.plans() as usize % CLASSES.len()];
             let team = give_class(&mut plan, class);
-            let values = agree(&plan);
-            // the second calculator's own counts for the class, of every fourth plan: each class comes up, and the tests stay short
+            let quotations = agree(&plan);
+            let values = values(&quotations);
+            // Of every fourth plan its states apart, and the second calculator's own counts for the class:
+            // each class comes up, and the tests stay short.
             if kinds.plans() % 4 == 0 {
+                agree_apart(&plan, &quotations);
                 for (figure, value) in COUNTS.into_iter().zip(&values[2..]) {
                     let quotation = rounds::quote(&plan, figure.for_class_of(team));
                     assert_eq!(quotation.value, *value, "for team {team} of {plan:?}");
@@ -74,7 +77,7 @@ fn compare(case: Case, lists: &[(usize, Vec<Transition>)]) -> Kinds {
                 lent.hold(&plan);
                 compare_some(&mut rng, &lent, &plan, &values, team);
             }
-            kinds.add(&values);
+            kinds.add(&plan, &quotations);
         }
     }
     kinds

@@ -63,7 +63,7 @@ pub const COUNTED: u32 = 1;
 
 /// The version of the archive that this crate is for: 10,000 times the first number, 100 times the
 /// second, and the third.
-pub const VERSION_NUMBER: u32 = 600;
+pub const VERSION_NUMBER: u32 = 700;
 
 /// What the archive answers for accepted. Write, export and record add the octets' number.
 const ACCEPTED: u32 = 256;
@@ -82,12 +82,13 @@ pub struct Transition {
 /// A figure: its number or kind.
 #[derive(Clone, Copy, Debug, PartialEq, Eq, Hash)]
 pub enum Figure {
-    /// Seconds, at most 1,046,017 for the least delay and 1,045,506 for the greatest, or counted
-    /// states, at most 512.
+    /// Seconds, at most 1,048,064 for the least delay and 1,047,552 for the greatest, or counted
+    /// states, at most 513.
     Number(u32),
     /// A least figure of a plan without routes, or a greatest one of a plan without a start.
     None,
-    /// A call can end unanswered, in a state that nothing leaves.
+    /// A call can end unanswered, in a state that nothing leaves: an unfinished one, or a start, final
+    /// or not.
     Stranded,
     /// A call can go on forever unanswered. Where `j` is below the walk's length, the walk arrives
     /// where it was after `j` transitions. Where it is the walk's length, which it can be for the
@@ -97,6 +98,23 @@ pub enum Figure {
 }
 
 /// A figure, with a walk that shows it.
+///
+/// A route begins at a start and takes at least one transition, the last to a final state. Its first state
+/// may be final too, as of a desk that puts a caller back into the plan, and no state between its first
+/// and its last is. So a route may end where it began, and that state then counts twice. A walk that
+/// shows another kind may begin at a final start as well.
+///
+/// ```
+/// use callplan::{Figure, Plan, Transition, COUNTED, FINAL, START};
+///
+/// let mut plan = Plan::fresh(1)?;
+/// plan.mark(0, START + FINAL + COUNTED)?;
+/// assert_eq!(plan.greatest_delay().figure(), Figure::Stranded);
+/// plan.join(Transition { from: 0, to: 0, low: 3, high: 4 })?;
+/// assert_eq!(plan.greatest_delay().figure(), Figure::Number(4));
+/// assert_eq!(plan.greatest_count().figure(), Figure::Number(2));
+/// # Ok::<(), callplan::Refusal>(())
+/// ```
 #[derive(Clone)]
 pub struct Quotation {
     figure: Figure,
@@ -111,8 +129,8 @@ impl Quotation {
         self.figure
     }
 
-    /// The walk, as transition numbers. Beside a number or [`Figure::Stranded`] an empty one is a
-    /// start alone.
+    /// The walk, as transition numbers, at most as many as the plan has states. Beside a number there is
+    /// at least one; beside [`Figure::Stranded`] an empty walk is a start alone, which nothing leaves.
     #[must_use]
     pub fn walk(&self) -> &[u16] {
         &self.places[..self.k]
@@ -454,8 +472,8 @@ impl Plan {
     }
 
     /// The largest sum of highs over all routes, unless calls can go unanswered. It is
-    /// [`Figure::Endless`] also where a walk of unfinished states from a start can take an open
-    /// transition, which may lead anywhere.
+    /// [`Figure::Endless`] also where a walk of unfinished states from a start, which may be final, can
+    /// take an open transition, which may lead anywhere.
     ///
     /// ```
     /// use callplan::{Figure, Plan, Transition, FINAL, OPEN_HIGH, START};
@@ -475,8 +493,8 @@ impl Plan {
         self.quote(archive::callplan_lent_greatest_delay)
     }
 
-    /// The smallest number of counted states on a route, first and last included. Open highs are of
-    /// no account.
+    /// The smallest number of counted states on a route, first and last included, one that is both
+    /// twice. Open highs are of no account.
     #[must_use]
     pub fn least_count(&self) -> Quotation {
         self.quote(archive::callplan_lent_least_count)

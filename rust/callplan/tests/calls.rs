@@ -4,7 +4,8 @@ use std::hash::{DefaultHasher, Hash, Hasher};
 use std::thread;
 
 use callplan::{
-    Figure, Plan, Refusal, Transition, COUNTED, FINAL, MAX_TEAM, MAX_TRANSITIONS, OPEN_HIGH, START,
+    Figure, Plan, Refusal, Transition, COUNTED, FINAL, MAX_STATES, MAX_TEAM, MAX_TRANSITIONS,
+    OPEN_HIGH, START,
 };
 
 /// The image of plan P1 of document 01, of version 1.
@@ -376,7 +377,7 @@ fn open_highs_are_endless() {
     assert_eq!(record, [0, 0, 0x0B, 0, 0, 0, 0, 0, 0x40, 0, 1]);
     assert_eq!(callplan::quote(&image(&plan)).unwrap()[1], delay);
 
-    // A second less is a number, and out of a final state an open high is of no account.
+    // A second less is a number, and out of a final state that is no start an open high is of no account.
     plan.unjoin(1).unwrap();
     plan.join(transition(1, 2, 1, OPEN_HIGH - 1)).unwrap();
     plan.join(transition(2, 0, 0, OPEN_HIGH)).unwrap();
@@ -386,6 +387,60 @@ fn open_highs_are_endless() {
     plan.join(transition(1, 2, OPEN_HIGH, OPEN_HIGH)).unwrap();
     assert_eq!(plan.least_delay().figure(), Figure::Number(2048));
     assert_eq!(plan.greatest_delay().figure(), Figure::Endless { j: 2 });
+}
+
+/// A route has at least one transition, and its first state may be final.
+#[test]
+fn calls_begin_answered() {
+    let figures = |plan: &Plan| {
+        [
+            plan.least_delay(),
+            plan.greatest_delay(),
+            plan.least_count(),
+            plan.greatest_count(),
+        ]
+        .map(|quotation| quotation.figure())
+    };
+    let [none, stranded] = [Figure::None, Figure::Stranded];
+    let mut plan = Plan::fresh(1).unwrap();
+    plan.mark(0, START + FINAL + COUNTED).unwrap();
+    assert_eq!(figures(&plan), [none, stranded, none, stranded]);
+    assert!(plan.greatest_delay().walk().is_empty());
+    // A route that ends where it began, and counts its state twice.
+    plan.join(transition(0, 0, 3, 4)).unwrap();
+    assert_eq!(figures(&plan), [3, 4, 2, 2].map(Figure::Number));
+    assert_eq!(plan.least_delay().walk(), [0]);
+    let [of_none, of_wards] = [0, 1].map(|team| plan.least_count_for(team).unwrap().figure());
+    assert_eq!((of_none, of_wards), (Figure::Number(2), Figure::Number(0)));
+    plan.join(transition(0, 0, 3, OPEN_HIGH)).unwrap();
+    assert_eq!(plan.greatest_delay().figure(), Figure::Endless { j: 1 });
+    assert_eq!(plan.greatest_delay().walk(), [1]);
+
+    // To a dead end, which then becomes a loop.
+    let mut plan = Plan::fresh(2).unwrap();
+    plan.mark(0, START + FINAL).unwrap();
+    plan.join(transition(0, 1, 1, 1)).unwrap();
+    assert_eq!(figures(&plan), [none, stranded, none, stranded]);
+    assert_eq!(plan.greatest_delay().walk(), [0]);
+    plan.join(transition(1, 1, 1, 1)).unwrap();
+    let endless = Figure::Endless { j: 1 };
+    assert_eq!(figures(&plan), [none, endless, none, endless]);
+    assert_eq!(plan.greatest_delay().walk(), [0, 1]);
+
+    // The ring of 512 states: the greatest figures that there are, over 512 transitions.
+    let mut plan = Plan::fresh(MAX_STATES).unwrap();
+    for state in 0..MAX_STATES {
+        let step = transition(state, (state + 1) % MAX_STATES, 2046, OPEN_HIGH - 1);
+        plan.mark(state, COUNTED).unwrap();
+        plan.join(step).unwrap();
+    }
+    plan.mark(0, START + FINAL + COUNTED).unwrap();
+    let delay = Figure::Number(1_047_552);
+    let count = Figure::Number(513);
+    assert_eq!(figures(&plan), [delay, delay, count, count]);
+    for quotation in [plan.least_delay(), plan.greatest_count()] {
+        assert!(quotation.walk().iter().copied().eq(0..512));
+    }
 }
 
 #[test]

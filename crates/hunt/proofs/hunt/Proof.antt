@@ -176,7 +176,7 @@ states-again c =
       omega (arith, l),
       w .6 ∙ w .4 .inv .0,
       below-more _ s (i .2) (λ m from e r. record {
-        itself = λ q. ⊎-elim (λ x. absurd (x .2 .left q)) (λ x. head-below e s l (λ p. x .left (w .2 .ensures ∙ p))) (w .3 .came);
+        itself = λ q. ⊎-elim (λ x. absurd (omega (arith, q, x .2 .left))) (λ x. head-below e s l (λ p. x .left (w .2 .ensures ∙ p))) (w .3 .came);
         behind = followed-all (w .4 .inv .1 m from e) (e .linked .bounded .count) (w .5 .left);
       }),
     ))

@@ -1,10 +1,10 @@
--- `least_search::by_keys` meets its contract: keys that spread and are settled by the nearest start give the figure, and a route is read off them (LeastFigure). Assumes nothing.
+-- `least_search::by_keys` meets its contract: keys that spread and are settled by the best first step give the figure, and a route is read off them (LeastFigure). Assumes nothing.
 use native.Mathlib.Nat.{le-refl}
 use native.Mathlib.Omega.{arith}
 use borrow.Author.Needs.{needs}
 use Rattle.search.specs.Arrays.{Arrays, arrays}
 use Rattle.keys.specs.Keys.{Keyed, Ready}
-use Rattle.least_search.proofs.LeastFigure.{readable, least-quoted, none-quoted}
+use Rattle.least_search.proofs.LeastFigure.{taken, readable, least-quoted, none-quoted}
 use Rattle.least_search.proofs.by_keys.Statement.{statement}
 use Rattle.least_search.proofs.by_keys.Tie as tie
 
@@ -18,7 +18,7 @@ keyed c =
     record { bounded = p .0; weighed = p .1; keys = c .spread .ensures _ _ (p .0) (p .1) (c .before .before .before .before .before .chains .ensures) }
 
 -- .. and as they are settled
-ready : (c : tie.After-settle) → Ready (graph (c .before .before .before .before .before .before .before .before .before)) (c .before .before .before .before .before .before .before .before .before .args .weight .now) (c .before .before .before .before .before .before .before .before .before .args .close .now) (c .settle .result) (c .settle .last .1 .1 .1 .1 .1 .1 .0)
+ready : (c : tie.After-settle) → Ready (graph (c .before .before .before .before .before .before .before .before .before)) (c .before .before .before .before .before .before .before .before .before .args .weight .now) (c .before .before .before .before .before .before .before .before .before .args .close .now) (c .settle .result) (c .settle .last .1 .1 .1 .1 .1 .1 .1 .1 .0)
 ready c = c .settle .ensures (c .before .before .before .before .before .before .before .before .before .args .close .now) (keyed (c .before .before))
 
 chains-requires : tie.Need-chains-requires
@@ -30,21 +30,16 @@ spread-requires c κs =
     (le-refl 512, (c .before .before .before .before .before .before .args .m, c .before .before .before .before .before .before .args .to .now, p .0, p .1, c .before .before .before .before .chains .ensures))
 
 settle-requires : tie.Need-settle-requires
-settle-requires c κs = (_, keyed (c .before))
+settle-requires c κs = ((_, keyed (c .before)), c .before .before .before .before .before .before .before .before .pre .1)
 
 returns : tie.Need-returns
-returns c = λ g held. none-quoted (ready (c .before)) held (omega (arith, c .if1 .taken)) (c .before .before .before .before .before .before .before .before .before .before .args .walk .now)
+returns c = λ g held. none-quoted (ready (c .before .before)) held (omega (arith, c .if1 .taken)) (c .before .before .before .before .before .before .before .before .before .before .before .args .walk .now)
 
 trace-requires : tie.Need-trace-requires
 trace-requires c κs =
-    let a = c .before .before .before .before .before .before .before .before .before .before .before .before .args in
-    (a .n, a .m, a .from .now, a .close .now, c .before .before .before .before .before .before .before .before .before .before .before .before .pre .0 .2, readable (ready (c .before .before .before)) (c .before .before .before .before .before .before .before .before .before .before .before .before .pre .1) (omega (arith, c .before .before .if1 .left)))
-
-mul-cost : tie.Need-mul-cost
-mul-cost c = omega (arith, c .before .before .before .before .before .before .before .before .before .before .before .before .before .before .before .pre .0 .0 .states, c .before .before .before .before .before .if1 .left)
-
-array-read-cost : tie.Need-array-read-cost
-array-read-cost c = omega (arith, c .before .before .before .before .before .before .before .before .before .before .before .before .before .before .before .pre .0 .0 .states, c .before .before .before .before .before .if1 .left)
+    let a = c .before .before .before .before .before .before .before .before .before .before .before .before .before .args in
+    let r = ready (c .before .before .before .before) in
+    (a .n, a .m, a .from .now, a .close .now, c .before .before .before .before .before .before .before .before .before .before .before .before .before .pre .0 .2, taken r (omega (arith, c .before .before .if1 .left)), readable r (c .before .before .before .before .before .before .before .before .before .before .before .before .before .pre .1) (omega (arith, c .before .before .if1 .left)))
 
 same-length : tie.Need-same-length
 same-length c = search needs
@@ -52,11 +47,11 @@ same-length c = search needs
 returns-2 : tie.Need-returns-2
 returns-2 c =
     let t = c .before .before .trace in
-    let a = c .before .before .before .before .before .before .before .before .before .before .before .before .before .before .before .args in
-    let r = ready (c .before .before .before .before .before .before) in
+    let a = c .before .before .before .before .before .before .before .before .before .before .before .before .before .before .before .before .args in
+    let r = ready (c .before .before .before .before .before .before .before) in
     λ g held.
-    least-quoted r held (omega (arith, c .before .before .before .before .before .if1 .left)) (t .kept .1 .1 .1 .1 .1 .1 .1 .0) (c .before .before .before .before .before .before .before .before .before .before .before .before .before .before .before .pre .0 .2)
-    (t .ensures (a .n) (a .m) (a .from .now) (a .close .now) (readable r (c .before .before .before .before .before .before .before .before .before .before .before .before .before .before .before .pre .1) (omega (arith, c .before .before .before .before .before .if1 .left))))
+    least-quoted r held (c .before .before .before .before .before .before .before .before .before .before .before .before .before .before .before .before .pre .1) (omega (arith, c .before .before .before .before .before .if1 .left)) (t .kept .1 .1 .1 .1 .1 .1 .1 .0) (c .before .before .before .before .before .before .before .before .before .before .before .before .before .before .before .before .pre .0 .2)
+    (t .ensures (a .n) (a .m) (a .from .now) (a .close .now) (readable r (c .before .before .before .before .before .before .before .before .before .before .before .before .before .before .before .before .pre .1) (omega (arith, c .before .before .before .before .before .if1 .left))))
 
 pub by-keys-spec : {M : Type 1} → statement M
 by-keys-spec =
@@ -67,7 +62,5 @@ by-keys-spec =
     settle-requires
     returns
     trace-requires
-    mul-cost
-    array-read-cost
     same-length
     returns-2)

@@ -19,12 +19,12 @@ pub record Relaxing (A : Arrays) (weight close key heap : List ℕ) (s t : ℕ) 
   pub followed : Followed (A .to) (A .m) (λ k. at (A .to) k ≡ s) s t
 
 abbrev Inv-loop : tie.InvT-loop
-Inv-loop s marks from weight head link key₀ heap₀ place₀ size pending₀ t₀ key heap place pending t = (pending ≤ 512) × Below 512 place
+Inv-loop s marks from weight head link key₀ heap₀ place₀ size₀ nearest₀ t₀ key heap place size nearest t = (size ≤ 512) × Below 512 place
     × ((n m : ℕ) (to close : List ℕ) → s < n → Spreading (arrays n m marks from to) weight close head link key₀ → Below n heap₀
     → Relaxing (arrays n m marks from to) weight close key heap s t)
 
 abbrev μ-loop : tie.MeasureT-loop
-μ-loop s marks from weight head link key₀ heap₀ place₀ size pending₀ t₀ key heap place pending t = 2048 - t
+μ-loop s marks from weight head link key₀ heap₀ place₀ size₀ nearest₀ t₀ key heap place size nearest t = 2048 - t
 
 abbrev graph : tie.Start Inv-loop μ-loop → Arrays
 graph c = arrays (c .pre .2 .0) (c .pre .2 .1) (c .args .marks .now) (c .args .from .now) (c .pre .2 .2)
@@ -99,6 +99,15 @@ offer-requires c κs =
     let r = relaxing (l .before) in
     (behind-below (c .before .before .before), i .0, r .keys .sized, below-weaken (l .before .loop .heap) (l .before .before .before .before .pre .2 .5 .keyed .bounded .states) (r .pending), i .1)
 
+element-copy-out-is-start : tie.Need-element-copy-out-is-start Inv-loop μ-loop
+element-copy-out-is-start c = omega (arith, behind-below (c .before .before .before .before))
+
+is-start-requires : tie.Need-is-start-requires Inv-loop μ-loop
+is-start-requires c κs = search needs
+
+nearer-requires : tie.Need-nearer-requires Inv-loop μ-loop
+nearer-requires c κs = search needs
+
 mul-wide-3 : tie.Need-mul-wide-3 Inv-loop μ-loop
 mul-wide-3 c = search needs
 
@@ -110,14 +119,14 @@ wide-requires-3 c κs = search needs
 
 loop-less : tie.Need-loop-less Inv-loop μ-loop
 loop-less c =
-    let l = c .before .before .before .before .before .before .before .before .before .before in
+    let l = c .before .before .before .before .before .before .before .before .before .before .before .before .before in
     omega (arith, c .wide3 .ensures, followed-rises (l .before .before .before .before .pre .2 .5 .chains) _ (relaxing (l .before) .followed) (l .loop-test .taken))
 
 loop-again : tie.Need-loop-again Inv-loop μ-loop
 loop-again c =
-    let l = c .before .before .before .before .before .before .before .before .before .before in
-    let b = c .before .before .before .before .before .before .wide2 .ensures in
-    let o = c .before .before .offer .ensures in (
+    let l = c .before .before .before .before .before .before .before .before .before .before .before .before .before in
+    let b = c .before .before .before .before .before .before .before .before .before .wide2 .ensures in
+    let o = c .before .before .before .before .before .offer .ensures in (
       o .0,
       o .2,
       λ n m to close h w p.
@@ -154,6 +163,9 @@ relax-into-spec =
     element-copy-out-wide-2
     wide-requires-2
     offer-requires
+    element-copy-out-is-start
+    is-start-requires
+    nearer-requires
     mul-wide-3
     element-copy-out-wide-3
     wide-requires-3

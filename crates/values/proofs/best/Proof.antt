@@ -1,15 +1,14 @@
 -- `values::best` meets its contract: the values are filled in, a route is read off them from the best start, and its value is the figure (BestFigure).
 -- Assumes nothing.
-use Prim.Native.Nat.{ℕ, _<_}
+use Prim.Native.Nat.{ℕ}
 use mathlib.Core.List.{List}
 use mathlib.Core.Path.{_≡_}
-use native.Mathlib.Omega.{arith}
 use borrow.Author.Needs.{needs}
 use lib.ListN.{length}
 use Rattle.search.specs.Arrays.{Arrays, arrays}
 use Rattle.turns.specs.Search.{table}
 use Rattle.values.specs.Values.{Over, Valued}
-use Rattle.values.proofs.BestFigure.{valued-none, fillable, best-below, readable, best-quoted}
+use Rattle.values.proofs.BestFigure.{valued-none, fillable, addable, found, readable, best-quoted}
 use Rattle.values.proofs.best.Statement.{statement}
 use Rattle.values.proofs.best.Tie as tie
 
@@ -27,43 +26,30 @@ unfilled : (c : tie.Start) (m : ℕ) (from : List ℕ) → Valued (c .args .leas
 unfilled c m from = valued-none (c .args .least) (graph c m from) _ _ _ (closes c) (c .pre .0 .1 .closes)
 
 filled : (c : tie.After-fill) (m : ℕ) (from rank cursor stack via : List ℕ) → Ended (c .before .before .before) m from rank cursor stack via
-    → Valued (c .before .before .before .args .least) (graph (c .before .before .before) m from) (c .before .before .before .args .order .now) (c .before .before .before .args .weight .now) (c .before .before .before .args .t10) (c .before .before .before .args .done) (c .fill .last .1 .1 .1 .1 .1 .1 .1 .0)
+    → Valued (c .before .before .before .args .least) (graph (c .before .before .before) m from) (c .before .before .before .args .order .now) (c .before .before .before .args .weight .now) (c .before .before .before .args .t10) (c .before .before .before .args .done) (c .fill .last .1 .1 .1 .1 .1 .1 .1 .1 .0)
 filled c m from rank cursor stack via o =
-    c .fill .ensures (c .before .before .before .args .n) m (c .before .before .before .args .marks .now) from (fillable o (c .before .before .before .pre .0 .1 .weights)) (unfilled (c .before .before .before) m from)
+    c .fill .ensures (c .before .before .before .args .n) m from (fillable o (c .before .before .before .pre .0 .1 .weights)) (unfilled (c .before .before .before) m from)
 
 fill-requires : tie.Need-fill-requires
 fill-requires c κs =
     let p = c .before .before .pre .1 in
-    (c .before .before .args .n, p .0, c .before .before .args .marks .now, p .1, fillable (p .6) (c .before .before .pre .0 .1 .weights), unfilled (c .before .before) (p .0) (p .1))
+    (c .before .before .args .n, p .0, p .1, fillable (p .6) (c .before .before .pre .0 .1 .weights), unfilled (c .before .before) (p .0) (p .1))
 
-best-start-requires : tie.Need-best-start-requires
-best-start-requires c κs =
+first-requires : tie.Need-first-requires
+first-requires c κs =
     let p = c .before .before .before .before .pre .1 in
-    let few = p .6 .linked .bounded .states in
-    (few, λ x. omega (arith, filled (c .before) (p .0) (p .1) (p .2) (p .3) (p .4) (p .5) (p .6) .most x, p .6 .ranked .count, few))
+    let v = filled (c .before) (p .0) (p .1) (p .2) (p .3) (p .4) (p .5) (p .6) in
+    (p .6 .linked .bounded .states, (p .0, p .1, p .6 .linked .chains, addable (p .6) (c .before .before .before .before .pre .0 .1 .weights) v))
 
 trace-requires : tie.Need-trace-requires
 trace-requires c κs =
-    let p = c .before .before .before .before .before .before .before .pre .1 in (
-      c .before .before .before .before .before .before .before .args .n,
-      p .0,
-      p .1,
-      c .before .before .before .before .before .before .before .args .t10,
-      c .before .before .before .before .before .before .before .pre .0 .0,
-      readable (p .6) (c .before .before .before .before .before .before .before .pre .0 .1 .weights) (filled (c .before .before .before .before) (p .0) (p .1) (p .2) (p .3) (p .4) (p .5) (p .6)) (c .before .before .best-start .ensures),
-    )
-
--- the start that is best is a state
-start-below : (c : tie.After-best-start) → c .best-start .result < 512
-start-below c =
-    let p = c .before .before .before .before .before .pre .1 in
-    omega (arith, best-below (p .6) (c .before .before .before .before .before .pre .0 .1 .weights) (filled (c .before .before) (p .0) (p .1) (p .2) (p .3) (p .4) (p .5) (p .6)) (c .best-start .ensures), p .6 .linked .bounded .states)
-
-mul-cost : tie.Need-mul-cost
-mul-cost c = omega (arith, start-below (c .before .before .before .before .before))
-
-array-read-cost : tie.Need-array-read-cost
-array-read-cost c = omega (arith, start-below (c .before .before .before .before .before))
+    let s = c .before .before .before .before .before .before .before in
+    let p = s .pre .1 in
+    let v = filled (c .before .before .before .before) (p .0) (p .1) (p .2) (p .3) (p .4) (p .5) (p .6) in
+    let l = p .6 .linked in
+    let f = c .before .before .first .ensures (p .0) (p .1) (l .bounded .count) (l .chains) (l .bounded .leaves) in
+    let w = s .pre .0 .1 .weights in
+    (s .args .n, p .0, p .1, s .args .t10, s .pre .0 .0, f .found (found (p .6) w v f) .0, readable (p .6) w v f)
 
 same-length : tie.Need-same-length
 same-length c = search needs
@@ -71,19 +57,18 @@ same-length c = search needs
 returns : tie.Need-returns
 returns c =
     let s = c .before .before .before .before .before .before .before .before .before .before in
+    let w = s .pre .0 .1 .weights in
     λ m from rank cursor stack via o g held.
     let v = filled (c .before .before .before .before .before .before .before) m from rank cursor stack via o in
-    best-quoted o (s .pre .0 .1 .weights) v (c .before .before .before .before .before .best-start .ensures) held (c .before .before .trace .kept .1 .1 .1 .1 .1 .1 .1 .0) (s .pre .0 .0)
-    (c .before .before .trace .ensures (s .args .n) m from (s .args .t10) (readable o (s .pre .0 .1 .weights) v (c .before .before .before .before .before .best-start .ensures)))
+    let f = c .before .before .before .before .before .first .ensures m from (o .linked .bounded .count) (o .linked .chains) (o .linked .bounded .leaves) in
+    best-quoted o w v f held (c .before .before .trace .kept .1 .1 .1 .1 .1 .1 .1 .0) (s .pre .0 .0) (c .before .before .trace .ensures (s .args .n) m from (s .args .t10) (readable o w v f))
 
 pub best-spec : {M : Type 1} → statement M
 best-spec =
     tie.close
     (tie.spec
     fill-requires
-    best-start-requires
+    first-requires
     trace-requires
-    mul-cost
-    array-read-cost
     same-length
     returns)

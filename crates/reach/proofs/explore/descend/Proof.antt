@@ -37,7 +37,7 @@ Going c n m from a d = Underway (arrays n m (c .args .marks .now) from (c .args 
 begun : (c : tie.Start Inv-loop μ-loop) (n m : ℕ) (from : List ℕ) → c .args .s < n → Going c n m from (before c) 0 → Going c n m from (after c) 1
 begun c n m from l u =
     let p = c .pre .0 in
-    record { linked = u .linked; sized = enter-sized u _ none l (p .2); search = enter-start u _ l (p .2) (p .0) (p .1) }
+    record { linked = u .linked; sized = enter-sized u _ none l (p .1); search = enter-start u _ l (p .1) (p .0) }
 
 cast-enter : tie.Need-cast-enter Inv-loop μ-loop
 cast-enter c = search needs
@@ -100,7 +100,7 @@ returns-2 c =
     let z : l .loop .d ≡ 0 = omega arith in
     λ n m from b u.
     let i = l .loop .inv n m from (entered (l .before) n m from b u) in
-    (rw z at (i .0 .search), i .0 .sized, (λ x h. i .1 x (rw e (enter-grown u _ none b (k .pre .0 .2) x h))), i .1 _ (rw e (enter-now u _ none b (k .pre .0 .2))))
+    (rw z at (i .0 .search), i .0 .sized, (λ x h. i .1 x (rw e (enter-grown u _ none b (k .pre .0 .1) x h))), i .1 _ (rw e (enter-now u _ none b (k .pre .0 .1))))
 
 pub descend-spec : {M : Type 1} → statement M
 descend-spec =

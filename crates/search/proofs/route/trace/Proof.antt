@@ -1,129 +1,82 @@
--- `search::route::trace` meets its contract. The invariant: of whatever arrays and closes a route from s can be read off, what is written is `Tracing`; each turn is
--- `traced-turn`, and at a final state it is the route. A route is shorter than the places, so the measure is what is left of them. Assumes nothing.
-use Prim.Native.Nat.{ℕ, _-_, _<_}
-use mathlib.Core.List.{List}
-use mathlib.Core.Path.{_≡_, sym, _∙_}
-use native.Mathlib.Numerals.{add-one}
+-- `search::route::trace` meets its contract: the transition stands in the first place, and the route from where it leads behind it (`begun-all`). Assumes nothing.
+use Prim.Native.Nat.{_-_, _≤_, _<_}
+use mathlib.Core.Path.{_∙_}
 use native.Mathlib.Omega.{arith}
 use borrow.Author.Needs.{needs}
-use borrow.Author.Tests.{not-true, not-false}
-use lib.ListN.{length, length-set}
-use Rattle.search.specs.Arrays.{arrays, UnfinishedIn}
-use Rattle.search.specs.Route.{Readable}
-use Rattle.search.proofs.Tracing.{Tracing, traced-first, traced-fits, traced-below, traced-turn, traced-all}
+use borrow.Rule.Slice.PartMut.{same-len-mid}
+use lib.ListN.{length, set, length-set, length-drop}
+use Rattle.search.proofs.Tracing.{part-behind, readable-at, begun-all}
 use Rattle.search.proofs.route.trace.Statement.{statement}
 use Rattle.search.proofs.route.trace.Tie as tie
 
-abbrev Inv-loop : tie.InvT-loop
-Inv-loop s marks to head link weight value walk₀ x₀ k₀ walk x k = (length walk ≡ length walk₀)
-    × ((n m : ℕ) (from close : List ℕ) (r : Readable (arrays n m marks from to) head link weight close value s) → Tracing r x k walk₀ walk)
+-- there is a place, since there is a state
+some : (c : tie.Start) → 1 ≤ length (c .args .walk .now)
+some c = let p = c .pre in omega (arith, p .4, p .6 .linked .bounded .some)
 
-abbrev μ-loop : tie.MeasureT-loop
-μ-loop s marks to head link weight value walk₀ x₀ k₀ walk x k = length walk₀ - k
+t-below : (c : tie.Start) → c .args .t < 2048
+t-below c = let p = c .pre in omega (arith, p .5, p .6 .linked .bounded .count)
 
--- the arrays and closes that the caller speaks of
-traced : (c : tie.At-loop Inv-loop μ-loop) → Tracing (c .before .before .pre .5) (c .loop .x) (c .loop .k) (c .before .before .args .walk .now) (c .loop .walk)
-traced c = let p = c .before .before .pre in c .loop .inv .1 (p .0) (p .1) (p .2) (p .3) (p .5)
+cast-walk : tie.Need-cast-walk
+cast-walk c = omega (arith, t-below (c .before))
 
-x-below : (c : tie.At-loop Inv-loop μ-loop) → c .loop .x < 512
-x-below c = let p = c .before .before .pre in omega (arith, traced-below (p .5) (traced c), p .5 .linked .bounded .states)
+slice-write-walk : tie.Need-slice-write-walk
+slice-write-walk c = omega (arith, some (c .before))
 
-k-below : (c : tie.At-loop Inv-loop μ-loop) → (c .loop .k < 512) × (c .loop .k < length (c .loop .walk))
-k-below c =
-    let p = c .before .before .pre in
-    let f = traced-fits (p .5) (traced c) in
-    (omega (arith, p .5 .linked .bounded .states), omega (arith, p .4, c .loop .inv .0))
+mul-wide : tie.Need-mul-wide
+mul-wide c = search needs
 
--- the state reached is unfinished in the loop
-unfinished : (c : tie.Then1 Inv-loop μ-loop) → UnfinishedIn (c .before .before .before .before .before .args .marks .now) (c .before .before .before .loop .x)
-unfinished c = sym (c .before .is-final .ensures) ∙ not-true _ (c .if1 .taken)
+element-copy-out-wide : tie.Need-element-copy-out-wide
+element-copy-out-wide c = search needs
 
--- the transition that is written
-t-below : (c : tie.After-accounting Inv-loop μ-loop) → c .accounting .result < 2048
-t-below c =
-    let a = c .before .before .before .before .before .before .args in
-    let p = c .before .before .before .before .before .before .pre in
-    omega (arith, c .accounting .ensures .1 (arrays (p .0) (p .1) (a .marks .now) (p .2) (a .to .now)) (p .5 .linked .chains) .listed, p .5 .linked .bounded .count)
-
-loop-holds : tie.Need-loop-holds Inv-loop μ-loop
-loop-holds c = (search needs, λ n m from close r. traced-first r (c .before .args .walk .now))
-
-element-copy-out-is-final : tie.Need-element-copy-out-is-final Inv-loop μ-loop
-element-copy-out-is-final c = omega (arith, x-below c)
-
-is-final-requires : tie.Need-is-final-requires Inv-loop μ-loop
-is-final-requires c κs = search needs
-
-accounting-requires : tie.Need-accounting-requires Inv-loop μ-loop
-accounting-requires c κs =
-    let o = c .before .before .before in
-    let r = o .before .before .pre .5 in
-    let u = unfinished c in (
-      _,
-      x-below o,
-      r .linked .bounded .count,
-      r .linked .chains,
-      (λ t q. (omega (arith, r .linked .bounded .arrives t q, r .linked .bounded .states), r .weights t q, r .values _ (r .linked .bounded .arrives t q))),
-      r .leading .accounted (o .loop .x) (traced-below r (traced o)) (traced o .within u) u,
-    )
-
-cast-walk : tie.Need-cast-walk Inv-loop μ-loop
-cast-walk c = omega (arith, t-below c)
-
-mul-walk : tie.Need-mul-walk Inv-loop μ-loop
-mul-walk c = omega (arith, k-below (c .before .before .before .before) .0)
-
-slice-write-walk : tie.Need-slice-write-walk Inv-loop μ-loop
-slice-write-walk c = omega (arith, k-below (c .before .before .before .before) .1)
-
-add-k : tie.Need-add-k Inv-loop μ-loop
-add-k c = omega (arith, k-below (c .before .before .before .before) .0)
-
-mul-wide : tie.Need-mul-wide Inv-loop μ-loop
-mul-wide c = omega (arith, t-below c)
-
-element-copy-out-wide : tie.Need-element-copy-out-wide Inv-loop μ-loop
-element-copy-out-wide c = omega (arith, t-below c)
-
-wide-requires : tie.Need-wide-requires Inv-loop μ-loop
+wide-requires : tie.Need-wide-requires
 wide-requires c κs = search needs
 
-loop-less : tie.Need-loop-less Inv-loop μ-loop
-loop-less c = let l = c .before .before .before .before .before .before in omega (arith, k-below l .1, l .loop .inv .0)
+sub-follow : tie.Need-sub-follow
+sub-follow c = rw length-set (some (c .before .before .before))
 
-loop-again : tie.Need-loop-again Inv-loop μ-loop
-loop-again c =
-    let l = c .before .before .before .before .before .before in
-    let q = c .before .before .accounting .ensures in (
-      length-set (l .loop .walk) _ _ ∙ l .loop .inv .0,
-      λ n m from close r. rw (c .wide .ensures, add-one)
-          (traced-turn r (l .loop .inv .1 n m from close r) _ (k-below l .1) (unfinished (c .before .before .before)) (q .1 _ (r .linked .chains)) (q .0)),
-    )
+part-follow-start : tie.Need-part-follow-start
+part-follow-start c = rw length-set (some (c .before .before .before))
 
-same-length : tie.Need-same-length Inv-loop μ-loop
-same-length c = c .before .before .before .loop .inv .0
+part-follow-end : tie.Need-part-follow-end
+part-follow-end c = search needs
 
-returns : tie.Need-returns Inv-loop μ-loop
-returns c = λ n m from close r. traced-all r (c .before .before .before .loop .inv .1 n m from close r) (sym (c .before .is-final .ensures) ∙ not-false _ (c .if1 .left))
+follow-requires : tie.Need-follow-requires
+follow-requires c κs =
+    let p = c .before .before .before .before .pre in
+    (p .0, p .1, p .2, p .3, rw (part-behind _ _ (some (c .before .before .before .before))) (omega (arith, length-drop 1 (c .before .before .before .before .args .walk .now), p .4)), readable-at (c .before .wide .ensures) (p .6))
+
+add-result : tie.Need-add-result
+add-result c =
+    let s = c .before .before .before .before .before .before .before in
+    let p = s .pre in
+    let x = c .before .before .follow .ensures (p .0) (p .1) (p .2) (p .3) (readable-at (c .before .before .before .before .wide .ensures) (p .6)) in
+    omega (arith, x .fits, p .6 .linked .bounded .states)
+
+same-length : tie.Need-same-length
+same-length c =
+    let w = c .before .before .before .before .before .before .before .args .walk .now in
+    let t = c .before .before .before .before .before .before .before .args .t in
+    same-len-mid 1 (length (set w 0 t) - 1) (set w 0 t) (c .before .before .follow .last .1 .1 .1 .1 .1 .1 .1 .0) (c .before .before .follow .kept .1 .1 .1 .1 .1 .1 .1 .0) ∙ length-set w 0 t
+
+returns : tie.Need-returns
+returns c =
+    let s = c .before .before .before .before .before .before .before in
+    let e = c .before .before .before .before .wide .ensures in
+    λ n m from close r. begun-all (some s) e (c .before .before .follow .ensures n m from close (readable-at e r))
 
 pub trace-spec : {M : Type 1} → statement M
 trace-spec =
     tie.close
     (tie.spec
-    Inv-loop
-    μ-loop
-    loop-holds
-    element-copy-out-is-final
-    is-final-requires
-    accounting-requires
     cast-walk
-    mul-walk
     slice-write-walk
-    add-k
     mul-wide
     element-copy-out-wide
     wide-requires
-    loop-less
-    loop-again
+    sub-follow
+    part-follow-start
+    part-follow-end
+    follow-requires
+    add-result
     same-length
     returns)

@@ -1,0 +1,2 @@
+-- The best step, along a chain and over the states.
+pub mod Choosing
