@@ -158,6 +158,15 @@ static void images(void)
     octets[12] = 0x00;
     CHECK(callplan_read(&other, octets, 28) == CALLPLAN_REFUSED_DURATION);
     CHECK(callplan_states(&other) == 1 && callplan_transitions(&other) == 0);
+    /* Refused at the last transition, by its from, its to and its durations: every octet of the old plan stays. */
+    for (int way = 0; way < 3; way++) {
+        const callplan_plan before = other;
+        memcpy(octets, p1_image, 28);
+        octets[way == 0 ? 23 : way == 1 ? 24 : 27] = way == 0 ? 0xFF : way == 1 ? 0x01 : 0x00;
+        CHECK(callplan_read(&other, octets, 28)
+              == (way == 0 ? CALLPLAN_REFUSED_FROM_STATE : way == 1 ? CALLPLAN_REFUSED_TO_STATE : CALLPLAN_REFUSED_DURATION));
+        CHECK(memcmp(&other, &before, sizeof other) == 0);
+    }
     CHECK(callplan_read(&other, p1_image, sizeof p1_image) == CALLPLAN_ACCEPTED);
     CHECK(is_same_plan(&other, &plan));
     CHECK(callplan_read(&other, p1_written, sizeof p1_written) == CALLPLAN_ACCEPTED);

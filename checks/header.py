@@ -379,7 +379,7 @@ DAMAGES = [
     ("header", "a transition's to is not below the state count\"", "a transition's from is not below the state count\""),
     ("header", '    case CALLPLAN_ACCEPTED: return "accepted";\n', ""),
     ("header", "CALLPLAN_VERSION_NUMBER 7", "CALLPLAN_VERSION_NUMBER 8"),
-    ("binding", "r ≡ 700 ⌝", "r ≡ 701 ⌝"),
+    ("binding", "r ≡ 701 ⌝", "r ≡ 702 ⌝"),
     ("crate", "VERSION_NUMBER: u32 = 7", "VERSION_NUMBER: u32 = 8"),
     ("launch", "version=0", "version=1"),
     ("page", '"callplan 0', '"callplan 1'),

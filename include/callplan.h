@@ -49,8 +49,8 @@
 extern "C" {
 #endif
 
-#define CALLPLAN_VERSION "0.7.0"
-#define CALLPLAN_VERSION_NUMBER 700 /* 10,000 times the first number, 100 times the second, and the third */
+#define CALLPLAN_VERSION "0.7.1"
+#define CALLPLAN_VERSION_NUMBER 701 /* 10,000 times the first number, 100 times the second, and the third */
 
 #define CALLPLAN_MAX_STATES 512
 #define CALLPLAN_MAX_TRANSITIONS 2048
@@ -334,7 +334,8 @@ CALLPLAN_ANSWERS callplan_unjoin(callplan_plan *plan, size_t number)
  * Images of versions 1 and 2 are read, and version 2 is written. They differ in the last five bits of each state, which are its team in
  * version 2. In version 1 they are spare and zero, and all teams of the plan are 0. */
 
-/* Makes *plan the plan that the octets are the image of, in place of the one that it holds.
+/* Makes *plan the plan that the octets are the image of, in place of the one that it holds. The octets are gone over once, up to
+ * the item that refuses them: the header, a state or a transition. One that is refused at its last transition leaves *plan too.
  * Refused: PLAN_LIMITS, of the plan that it holds; IMAGE_SHORT, of fewer than 4 octets; VERSION, STATE_COUNT, TRANSITION_COUNT;
  * SPARE_BITS, of the pad; IMAGE_SHORT, IMAGE_LONG; of version 1 state by state SPARE_BITS; transition by transition FROM_STATE,
  * TO_STATE, DURATION. */

@@ -9,7 +9,7 @@ use std::hint::black_box;
 
 use reference::image::{encode, length};
 use reference::proved::{LentPlan, ACCEPTED};
-use reference::{Plan, MAX_STATES, MAX_TRANSITIONS};
+use reference::{Plan, Refusal, MAX_STATES, MAX_TRANSITIONS};
 use shared::{compare, full_plan, Baseline, CALLS, ROUNDS};
 
 fn main() {
@@ -47,6 +47,20 @@ fn main() {
         quick.plan() == plan,
         "the baseline and the reference hold the same plan"
     );
+
+    // Refused at its last transition, whose low is above its high: all of it is taken, and the plan stays.
+    let mut wrong = full_plan();
+    let last = wrong.transitions.last_mut().expect("a full list");
+    (last.low, last.high) = (1, 0);
+    let wrong = encode(&wrong);
+    let wrong = wrong.as_slice();
+    compare(
+        "read, refused at the last",
+        || assert_eq!(lent.read(black_box(wrong)), 8),
+        || assert_eq!(quick.read(black_box(wrong)), 8),
+        || assert_eq!(plan.read(black_box(wrong)), Err(Refusal::Duration)),
+    );
+    assert!(lent.plan() == plan && quick.plan() == plan);
 
     let written = ACCEPTED + octets.len() as u32;
     let mut lent_buffer = vec![0; octets.len()];

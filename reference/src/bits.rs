@@ -1,9 +1,10 @@
 //! Packed fields, most significant bit first, one after another.
 
-/// Takes fields from octets at a running bit position.
+/// Takes fields from octets at a running bit position, and counts the bits that it takes.
 pub struct BitReader<'a> {
     octets: &'a [u8],
     position: usize,
+    taken: usize,
 }
 
 impl<'a> BitReader<'a> {
@@ -11,11 +12,18 @@ impl<'a> BitReader<'a> {
         BitReader {
             octets,
             position: 0,
+            taken: 0,
         }
+    }
+
+    /// How many bits were taken so far.
+    pub fn taken(&self) -> usize {
+        self.taken
     }
 
     /// The next field of `width` bits, at most 32. It must not pass the last octet.
     pub fn take(&mut self, width: usize) -> u32 {
+        self.taken += width;
         let mut value = 0;
         let mut left = width;
         while left > 0 {
@@ -80,6 +88,7 @@ mod tests {
         assert_eq!(bits.take(4), 0b0100);
         assert_eq!(bits.take(9), 0b1_1011_0000);
         assert_eq!(bits.take(2), 0b01);
+        assert_eq!(bits.taken(), 16);
     }
 
     #[test]

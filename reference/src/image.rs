@@ -36,8 +36,19 @@ impl Plan {
 
 /// The plan that an image holds, or the first ground for refusing it.
 pub fn decode(octets: &[u8]) -> Result<Plan, Refusal> {
-    require(octets.len() >= HEADER_OCTETS, Refusal::ImageTooShort)?;
+    decode_by(&mut BitReader::new(octets), octets.len())
+}
+
+/// How many bits are taken of an image until it is accepted or refused (document 02, E6).
+pub fn bits_taken(octets: &[u8]) -> usize {
     let mut bits = BitReader::new(octets);
+    let _ = decode_by(&mut bits, octets.len());
+    bits.taken()
+}
+
+/// The plan in an image of so many octets, which the reader takes, or the first ground.
+fn decode_by(bits: &mut BitReader, octets: usize) -> Result<Plan, Refusal> {
+    require(octets >= HEADER_OCTETS, Refusal::ImageTooShort)?;
 
     let version = bits.take(4);
     let n = bits.take(10) as usize;
@@ -47,8 +58,8 @@ pub fn decode(octets: &[u8]) -> Result<Plan, Refusal> {
     require((1..=MAX_STATES).contains(&n), Refusal::StateCount)?;
     require(m <= MAX_TRANSITIONS, Refusal::TransitionCount)?;
     require(pad == 0, Refusal::SpareBit)?;
-    require(octets.len() >= length(n, m), Refusal::ImageTooShort)?;
-    require(octets.len() <= length(n, m), Refusal::ImageTooLong)?;
+    require(octets >= length(n, m), Refusal::ImageTooShort)?;
+    require(octets <= length(n, m), Refusal::ImageTooLong)?;
 
     let mut states = Vec::with_capacity(n);
     for _ in 0..n {

@@ -6,7 +6,7 @@ mod texts;
 mod vectors;
 
 use reference::aldebaran;
-use reference::image::{decode, encode};
+use reference::image::{bits_taken, decode, encode};
 use reference::{Duration, Figure, Plan, Refusal, Transition};
 use texts::{edges, ACCEPTED, P1_TEXT};
 use vectors::{P1, P1_WRITTEN};
@@ -503,6 +503,46 @@ fn read_keeps_the_order_of_grounds() {
     // A bad to in the first transition and a bad from in the last, and the reverse.
     assert_refused(&p1_with(&[(9, 0x01), (23, 0x02)]), Refusal::ToState);
     assert_refused(&p1_with(&[(8, 0x02), (24, 0x01)]), Refusal::FromState);
+}
+
+/// The bits of taken/proofs/Basic.antt: `taken-header`, `taken-known`, `taken-states` and
+/// `taken-transitions`. Then each octet that P1 can be refused at.
+#[test]
+fn bits_are_counted_over_the_whole_read() {
+    assert_eq!(bits_taken(&[]), 0);
+    assert_eq!(bits_taken(&[0x20, 0x04, 0x00]), 0);
+    assert_eq!(bits_taken(&[0x30, 0x04, 0x00, 0x00, 0x80]), 32);
+    assert_eq!(bits_taken(&[0x20, 0x04, 0x00, 0x00]), 32);
+    assert_eq!(bits_taken(&[0x20, 0x04, 0x00, 0x00, 0x80, 0x00]), 32);
+    assert_eq!(bits_taken(&P1), 224);
+
+    let header = [0x10, 0x08, 0x00, 0x40];
+    let bad = [0x01, 0x00, 0x40, 0x08, 0x01];
+    for (states, bits) in [([0x81, 0x41], 40), ([0x80, 0x41], 48), ([0x80, 0x40], 88)] {
+        let octets = [&header[..], &states, &bad].concat();
+        assert_eq!(bits_taken(&octets), bits);
+    }
+
+    let one_way = transition(0, 1, 5, 20);
+    let back = transition(1, 0, 2, 3);
+    for (transitions, bits) in [
+        (vec![transition(2, 1, 1, 1), one_way], 88),
+        (vec![one_way, transition(0, 1, 5, 3), back], 128),
+        (vec![one_way, back], 128),
+        (vec![], 48),
+    ] {
+        let octets = encode(&Plan::of(vec![4, 2], transitions));
+        assert_eq!(bits_taken(&octets), bits);
+    }
+
+    for state in 0..4 {
+        let octets = p1_with(&[(4 + state, 0x01)]);
+        assert_eq!(bits_taken(&octets), 32 + 8 * (state + 1));
+    }
+    for number in 0..4 {
+        let octets = p1_with(&[(8 + 5 * number, 0xFF)]);
+        assert_eq!(bits_taken(&octets), 64 + 40 * (number + 1));
+    }
 }
 
 #[test]

@@ -12,3 +12,5 @@ pub mod Answers
 pub mod Record
 -- Import and export.
 pub mod Exchange
+-- One pass over the image.
+pub mod OnePass

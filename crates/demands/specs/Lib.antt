@@ -4,3 +4,4 @@ pub mod Demands
 pub mod Record
 -- Document 02.
 pub mod Exchange
+pub mod OnePass

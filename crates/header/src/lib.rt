@@ -13,9 +13,9 @@ pub struct Heading {
 }
 
 // Reads the header, 32 bits.
-pub fn header(octets: &[u8], at: &mut usize) -> Heading
-    requires { ⌜ now at ≡ 0 ⌝ }
-    ensures { λ r. ⌜ HeaderRead (now (octets .entry)) (now (at .exit)) r ⌝ }
+pub fn header(octets: &[u8], at: &mut usize, taken: &mut usize) -> Heading
+    requires { ⌜ (now at ≡ 0) × (now taken ≡ 0) ⌝ }
+    ensures { λ r. ⌜ HeaderRead (now (octets .entry)) (now (at .exit)) (now (taken .exit)) r ⌝ }
 {
     if octets.len() < 4 {
         return Heading {
@@ -25,7 +25,7 @@ pub fn header(octets: &[u8], at: &mut usize) -> Heading
             transitions: 0,
         };
     }
-    let fields = reader::next(octets, at, 4, 10, 12, 6);
+    let fields = image_fields::header(octets, at, taken);
     Heading {
         answer: header_grounds::grounds(octets, fields),
         version: fields.first,

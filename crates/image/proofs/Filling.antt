@@ -1,16 +1,23 @@
 -- The whole image from its parts. The rows of the image are the header's, the states' and the transitions', one after another: a refused part decides
--- where no row before it holds, and where no row holds at all the octets hold the plan that stands in the arrays. Assumes nothing.
+-- where no row before it holds, and where no row holds at all the octets hold the plan that stands in the arrays. The bits taken are the position after the part that decides.
+-- Assumes nothing.
 use mathlib.Core.List.{List, [], _++_, append-nil}
 use mathlib.Core.Path.{_≡_, refl, sym, ap, ap₂, _∙_}
-use Prim.Native.Nat.{ℕ}
+use Prim.Native.Nat.{ℕ, _*_}
+use native.Mathlib.Omega.{arith}
+use borrow.Author.Tests.{le-ltb}
+use lib.ListN.{length}
+use Rattle.graph.specs.Graph.{Graph}
 use Rattle.rules.specs.declared.Answer.{Answer}
 use Rattle.rules.specs.declared.Answer.the-variants.{Accepted, Refused}
 use Rattle.rules.specs.declared.Refusal.{Refusal}
 use Rattle.rules.specs.Image.{tabulate, stateCountOf, transitionCountOf, stateAt, statePlace, transitionAt, transitionPlace, graphIn}
-use Rattle.rules.specs.Image.{headerRows, stateRows, transitionRows, imageRows, readImage}
+use Rattle.rules.specs.Image.{headerRows, stateRows, imageRows, readImage}
+use Rattle.taken.specs.Taken.{listedRows, pastHeader, pastStates, pastTransitions, bitsTaken}
 use Rattle.rules.specs.Refusal.{accepted, refused, said, came}
 use Rattle.rules.specs.Table.{Row, byTable, first, byNumber, NoneHolds}
 use Rattle.rules.proofs.ReadWrite.{Header, clear-header}
+use Rattle.taken.proofs.Taken.{items-all, at-states, at-transitions, accepted-taken}
 use Rattle.rules.proofs.Tables.{accepted-where, accepted-only, after-none, after-refused}
 use Rattle.arrays.specs.Tables.{statesOf, transitionsOf, graphOf}
 
@@ -19,7 +26,7 @@ abbrev pub statesRows : List ℕ → ℕ → List Row
 statesRows os n = byNumber (stateRows os) 0 n
 
 abbrev pub transitionsRows : List ℕ → ℕ → ℕ → List Row
-transitionsRows os n m = byNumber (λ i. transitionRows n (transitionAt os (transitionPlace n i))) 0 m
+transitionsRows os n m = byNumber (listedRows os n) 0 m
 
 clear : (rows : List Row) → first rows ≡ accepted tt → NoneHolds rows
 clear rows e = accepted-only rows tt tt e .0
@@ -53,6 +60,10 @@ module _ (os : List ℕ) (n m : ℕ) (h : Head os n m) where
   unfolding T
   same-transitions = ap₂ (λ (k j : ℕ). first (transitionsRows os k j)) (sym (h .states)) (sym (h .transitions))
 
+  -- the position after the header is that of the first state
+  pub begun : pastHeader os ≡ statePlace 0
+  begun = rw (le-ltb (length os) 4 (omega (arith, header os n m h .long)))
+
   past-header : readImage os ≡ byTable (S ++ T) (graphIn os)
   unfolding readImage imageRows S T
   past-header = after-none (headerRows os) (S ++ T) (graphIn os) (clear (headerRows os) (h .rows))
@@ -60,7 +71,20 @@ module _ (os : List ℕ) (n m : ℕ) (h : Head os n m) where
   pub by-states : (r : Refusal) → first (statesRows os n) ≡ refused r → readImage os ≡ refused r
   by-states r e = past-header ∙ after-refused S T (graphIn os) r (same-states ∙ e)
 
+  pub states-count : (r : Refusal) → first (statesRows os n) ≡ refused r → bitsTaken os ≡ pastStates os n
+  unfolding S
+  states-count r e = at-states os r (clear (headerRows os) (h .rows)) (same-states ∙ e) ∙ ap (pastStates os) (sym (h .states))
+
   module _ (s : first (statesRows os n) ≡ accepted tt) where
+    -- the position after the states is that of the first transition
+    pub all-states : pastStates os n ≡ transitionPlace n 0
+    all-states = omega (arith, items-all (stateRows os) n (clear (statesRows os n) s))
+
+    pub transitions-count : bitsTaken os ≡ pastTransitions os n m
+    unfolding S
+    transitions-count =
+        at-transitions os (clear (headerRows os) (h .rows)) (clear S (same-states ∙ s)) ∙ ap₂ (pastTransitions os) (sym (h .states)) (sym (h .transitions))
+
     past-states : readImage os ≡ byTable T (graphIn os)
     past-states = past-header ∙ after-none S T (graphIn os) (clear S (same-states ∙ s))
 
@@ -87,3 +111,7 @@ module _ (os : List ℕ) (n m : ℕ) (h : Head os n m) where
         → came a (graphOf n m marks teams from to low high) ≡ readImage os
     by-answer Accepted marks teams from to low high t es et = sym (by-none marks teams from to low high (sym t) es (et refl))
     by-answer (Refused r) marks teams from to low high t es et = sym (by-transitions r (sym t))
+
+-- what is taken of an accepted image
+pub accepted-count : (os : List ℕ) (a : Answer) (g : Graph) (taken : ℕ) → came a g ≡ readImage os → taken ≡ bitsTaken os → a ≡ Accepted → taken ≡ 8 * length os
+accepted-count os a g taken rule e f = e ∙ accepted-taken os g (sym rule ∙ ap (λ (x : Answer). came x g) f)

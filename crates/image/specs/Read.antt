@@ -7,35 +7,38 @@ use lib.ListN.{length}
 use Rattle.rules.specs.declared.Answer.{Answer}
 use Rattle.rules.specs.declared.Answer.the-variants.{Accepted}
 use Rattle.rules.specs.Image.{tabulate, stateAt, statePlace, transitionAt, transitionPlace}
-use Rattle.rules.specs.Image.{stateRows, transitionRows, readImage}
+use Rattle.rules.specs.Image.{stateRows, readImage}
 use Rattle.rules.specs.Refusal.{said, came}
 use Rattle.rules.specs.Table.{first, byNumber}
+use Rattle.taken.specs.Taken.{listedRows, pastStates, pastTransitions, bitsTaken}
 use Rattle.arrays.specs.Tables.{statesOf, transitionsOf, graphOf, Later, Fields, LaterFields}
 use Rattle.image.specs.declared.reading.Filled.{Filled}
 
 -- "then states by number, 6", into the arrays of marks values and of teams
-pub record StatesRead (os : List ℕ) (n : ℕ) (before after teams teams′ : List ℕ) (at : ℕ) (r : Answer) : Type 0 where
+pub record StatesRead (os : List ℕ) (n : ℕ) (before after teams teams′ : List ℕ) (at taken : ℕ) (r : Answer) : Type 0 where
   pub answer : said r ≡ first (byNumber (stateRows os) 0 n)
   pub states : r ≡ Accepted → statesOf n after teams′ ≡ tabulate n (λ i. stateAt os (statePlace i))
   pub later : Later n before after
   pub later-teams : Later n teams teams′
-  pub all : r ≡ Accepted → at ≡ statePlace n
-  pub most : at ≤ statePlace n
+  pub all : r ≡ Accepted → at ≡ transitionPlace n 0
+  pub bits : taken ≡ pastStates os n
 
 -- "then transitions by number", 16, 17, 8
-pub record TransitionsRead (os : List ℕ) (n m : ℕ) (before after : Fields) (at : ℕ) (r : Answer) : Type 0 where
-  pub answer : said r ≡ first (byNumber (λ i. transitionRows n (transitionAt os (transitionPlace n i))) 0 m)
+pub record TransitionsRead (os : List ℕ) (n m : ℕ) (before after : Fields) (taken : ℕ) (r : Answer) : Type 0 where
+  pub answer : said r ≡ first (byNumber (listedRows os n) 0 m)
   pub transitions : r ≡ Accepted → transitionsOf m (after .from) (after .to) (after .low) (after .high) ≡ tabulate m (λ i. transitionAt os (transitionPlace n i))
   pub later : LaterFields m before after
-  pub all : r ≡ Accepted → at ≡ transitionPlace n m
-  pub most : at ≤ transitionPlace n m
+  pub bits : taken ≡ pastTransitions os n m
 
--- an image read into arrays: its answer and the plan in the arrays are the rule's; places past the counts stay; an accepted image costs its octets,
--- eight bits each, and a refused one never more
+-- an image read into arrays: its answer and the plan in the arrays are the rule's, and places past the counts stay. "Let the reader count the bits it takes over the whole
+-- call" (document 02, E6): `taken`
 pub record Fills (os before after teams teams′ : List ℕ) (fields fields′ : Fields) (r : Filled) : Type 0 where
   pub rule : came (r .answer) (graphOf (r .states) (r .transitions) after teams′ (fields′ .from) (fields′ .to) (fields′ .low) (fields′ .high)) ≡ readImage os
   pub marks : Later (r .states) before after
   pub later-teams : Later (r .states) teams teams′
   pub later : LaterFields (r .transitions) fields fields′
+  pub taken : r .taken ≡ bitsTaken os
+  -- "an accepted image costs exactly eight times its octets
   pub all : r .answer ≡ Accepted → r .taken ≡ 8 * length os
+  -- and a refused one never more"
   pub most : r .taken ≤ 8 * length os

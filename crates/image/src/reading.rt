@@ -1,9 +1,10 @@
-// A plan's states and transitions, read from the octets of an image: every field once, by a bit position that a reader moves.
+// A plan read from the octets of an image in one pass: every field is taken once, in order, by the reader, which moves a bit position and counts the bits that it takes.
 ghost use mathlib.Core.Bool.{not};
 ghost use mathlib.Core.Path.{_≡_};
 ghost use Prim.Native.Nat.{_+_, _*_, _≤_, _<_, _^_};
 ghost use lib.Dec.{eqb};
 ghost use lib.ListN.{length};
+ghost use Rattle.field.specs.Field.{Spans};
 ghost use Rattle.rules.specs.Image.{spareIn, versionOf, transitionAt};
 ghost use Rattle.rules.specs.Table.{first};
 ghost use Rattle.arrays.specs.Tables.{fields};
@@ -16,7 +17,7 @@ use field::Four;
 use rules::Answer;
 use rules::Refusal;
 
-// What came of an image: the answer, the counts of the states and transitions in the arrays, and how many bits were taken.
+// What came of an image: the answer, the counts of the states and transitions in the arrays, and how many bits were taken over the whole call.
 pub struct Filled {
     pub answer: Answer,
     pub states: usize,
@@ -46,18 +47,19 @@ fn is_spare(version: usize, five: usize) -> bool
 fn states(
     octets: &[u8],
     at: &mut usize,
+    taken: &mut usize,
     version: usize,
     n: usize,
     marks: &mut [u8; 512],
     teams: &mut [u8; 512],
 ) -> Answer
-    requires { ⌜ (n ≤ 512) × (n ≤ length (now marks)) × (n ≤ length (now teams)) × (4 + n ≤ length (now octets)) × (now at ≡ 32)
+    requires { ⌜ (n ≤ 512) × (n ≤ length (now marks)) × (n ≤ length (now teams)) × (4 + n ≤ length (now octets)) × (now at ≡ 32) × (now taken ≡ 32)
         × (version ≡ versionOf (now octets)) ⌝ }
-    ensures { λ r. ⌜ StatesRead (now (octets .entry)) n (now (marks .entry)) (now (marks .exit)) (now (teams .entry)) (now (teams .exit)) (now (at .exit)) r ⌝ }
+    ensures { λ r. ⌜ StatesRead (now (octets .entry)) n (now (marks .entry)) (now (marks .exit)) (now (teams .entry)) (now (teams .exit)) (now (at .exit)) (now (taken .exit)) r ⌝ }
 {
     let mut i = 0;
     while i < n {
-        let fields = reader::next(octets, at, 1, 1, 1, 5);
+        let fields = image_fields::state(octets, at, taken);
         let five = fields.fourth;
         if is_spare(version, five) {
             return Answer::Refused(Refusal::SpareBits); // 6: a state
@@ -69,12 +71,13 @@ fn states(
     Answer::Accepted
 }
 
-// Reads the fields of a transition, 40 bits.
-fn transition(octets: &[u8], at: &mut usize) -> Transition
-    requires { ⌜ (now at + 40 ≤ 8 * length (now octets)) × (now at + 40 < 2 ^ 32) ⌝ }
-    ensures { λ r. ⌜ (meant r ≡ transitionAt (now (octets .entry)) (now (at .entry))) × (now (at .exit) ≡ now (at .entry) + 40) ⌝ }
+// Takes the fields of a transition, 40 bits.
+fn transition(octets: &[u8], at: &mut usize, taken: &mut usize) -> Transition
+    requires { ⌜ Spans (now octets) (now at) 40 × (now taken + 40 < 2 ^ 32) ⌝ }
+    ensures { λ r. ⌜ (meant r ≡ transitionAt (now (octets .entry)) (now (at .entry))) × (now (at .exit) ≡ now (at .entry) + 40)
+        × (now (taken .exit) ≡ now (taken .entry) + 40) ⌝ }
 {
-    let fields = reader::next(octets, at, 9, 9, 11, 11);
+    let fields = image_fields::transition(octets, at, taken);
     Transition {
         from: fields.first,
         to: fields.second,
@@ -87,6 +90,7 @@ fn transition(octets: &[u8], at: &mut usize) -> Transition
 fn transitions(
     octets: &[u8],
     at: &mut usize,
+    taken: &mut usize,
     n: usize,
     m: usize,
     from: &mut [u16; 2048],
@@ -94,16 +98,16 @@ fn transitions(
     low: &mut [u16; 2048],
     high: &mut [u16; 2048],
 ) -> Answer
-    requires { ⌜ (n ≤ 512) × (m ≤ 2048) × (4 + n + 5 * m ≤ length (now octets)) × (now at ≡ 32 + 8 * n) ⌝ }
+    requires { ⌜ (n ≤ 512) × (m ≤ 2048) × (4 + n + 5 * m ≤ length (now octets)) × (now at ≡ 32 + 8 * n) × (now taken ≡ 32 + 8 * n) ⌝ }
     requires { ⌜ (m ≤ length (now from)) × (m ≤ length (now to)) × (m ≤ length (now low)) × (m ≤ length (now high)) ⌝ }
     ensures { λ r. ⌜ TransitionsRead (now (octets .entry)) n m
         (fields (now (from .entry)) (now (to .entry)) (now (low .entry)) (now (high .entry)))
         (fields (now (from .exit)) (now (to .exit)) (now (low .exit)) (now (high .exit)))
-        (now (at .exit)) r ⌝ }
+        (now (taken .exit)) r ⌝ }
 {
     let mut i = 0;
     while i < m {
-        let t = transition(octets, at);
+        let t = transition(octets, at, taken);
         let grounds = transition_grounds::checked(n, t.from, t.to, t.low, t.high);
         if let Answer::Refused(r) = grounds {
             return Answer::Refused(r);
@@ -134,33 +138,35 @@ pub fn fill(
         (fields (now (from .exit)) (now (to .exit)) (now (low .exit)) (now (high .exit))) r ⌝ }
 {
     let mut position = 0;
+    let mut bits = 0;
     let at = &mut position;
-    let heading = header::header(octets, at);
+    let taken = &mut bits;
+    let heading = header::header(octets, at, taken);
     let head = heading.answer;
     if let Answer::Refused(_) = head {
         return Filled {
             answer: head,
             states: 0,
             transitions: 0,
-            taken: position,
+            taken: bits,
         };
     }
     let n = heading.states;
     let m = heading.transitions;
-    let marked = states(octets, at, heading.version, n, marks, teams);
+    let marked = states(octets, at, taken, heading.version, n, marks, teams);
     if let Answer::Refused(_) = marked {
         return Filled {
             answer: marked,
             states: n,
             transitions: m,
-            taken: position,
+            taken: bits,
         };
     }
-    let listed = transitions(octets, at, n, m, from, to, low, high);
+    let listed = transitions(octets, at, taken, n, m, from, to, low, high);
     Filled {
         answer: listed,
         states: n,
         transitions: m,
-        taken: position,
+        taken: bits,
     }
 }

@@ -184,7 +184,7 @@ pub fn replace(mut p: Plan, format: Format, octets: &[u8]) -> Edited
         format,
         limited,
         octets,
-        &mut marks,
+        &mut marks, // not the plan's: a refusal leaves those
         &mut teams,
         &mut from,
         &mut to,

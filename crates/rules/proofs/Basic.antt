@@ -147,6 +147,14 @@ pub run-ends : map code (runFresh 1 (mark 1 0 ∷ join (to-join 1 1 5 3) ∷ joi
 unfolding run within all imageRows headerRows byNumber imageBy imageFields fieldsOfEach pack octetsOf bitsOf bitsOfAll widthOfAll number fieldAt bits textOctets valueAfter value andThen readWord isDigit front isNumeral readNumber readForm firstForm lineForm readLines whole readText textRows holdingRows each
 run-ends = refl
 
+-- "An image refused at its last transition must still leave the old plan." (document 02, E6): a mark, and then a read of two states whose second transition has a low above its high
+abbrev last-refused : List Call
+last-refused = mark 1 2 ∷ read (image (plan (4 ∷ 2 ∷ []) (one-way ∷ to-join 0 1 5 3 ∷ []))) ∷ []
+
+pub run-last : (map code (runFresh 2 last-refused .answers) ≡ 256 ∷ 8 ∷ []) × (runFresh 2 last-refused .last ≡ plan (0 ∷ 2 ∷ []) [])
+unfolding run within all imageRows headerRows byNumber imageBy imageFields fieldsOfEach pack octetsOf bitsOf bitsOfAll widthOfAll number fieldAt bits
+run-last = (refl, refl)
+
 -- "and returns its length"
 pub write-length : writeRule (P1 .plan) (replicate 30 0) ≡ accepted 28
 unfolding writeRule within all

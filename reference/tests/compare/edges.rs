@@ -444,8 +444,8 @@ fn unjoin_at_every_place() {
     }
 }
 
-/// The version of the archive, 0.7.0.
+/// The version of the archive, 0.7.1.
 #[test]
 fn the_library_says_its_version() {
-    assert_eq!(reference::proved::version(), 700);
+    assert_eq!(reference::proved::version(), 701);
 }

@@ -14,6 +14,7 @@ mod lists;
 mod pair;
 #[cfg(feature = "quotations")]
 mod quotations;
+mod taken;
 mod tally;
 mod text;
 #[path = "../texts/mod.rs"]

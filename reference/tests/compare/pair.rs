@@ -74,7 +74,6 @@ impl Pair {
         &self.plan
     }
 
-    #[cfg(feature = "quotations")]
     pub fn lent(&self) -> &LentPlan {
         &self.lent
     }

@@ -63,7 +63,7 @@ pub const COUNTED: u32 = 1;
 
 /// The version of the archive that this crate is for: 10,000 times the first number, 100 times the
 /// second, and the third.
-pub const VERSION_NUMBER: u32 = 700;
+pub const VERSION_NUMBER: u32 = 701;
 
 /// What the archive answers for accepted. Write, export and record add the octets' number.
 const ACCEPTED: u32 = 256;
@@ -362,11 +362,12 @@ impl Plan {
         accepted(answer).map(|_| ())
     }
 
-    /// Becomes the plan that the octets are the image of.
+    /// Becomes the plan that the octets are the image of. They are gone over once, up to the item that
+    /// refuses them: the header, a state or a transition.
     ///
     /// # Errors
     ///
-    /// Those of [`Plan::from_image`]; the plan then stays as it was.
+    /// Those of [`Plan::from_image`]; the plan then stays as it was, at the last transition too.
     pub fn read(&mut self, octets: &[u8]) -> Result<(), Refusal> {
         let answer = unsafe {
             archive::callplan_lent_read(

@@ -149,6 +149,10 @@ fn images_are_written_and_read() {
         (8, 0xFF, Refusal::FromState),
         (9, 0x01, Refusal::ToState),
         (12, 0x00, Refusal::Duration),
+        // At the last transition.
+        (23, 0xFF, Refusal::FromState),
+        (24, 0x01, Refusal::ToState),
+        (27, 0x00, Refusal::Duration),
     ] {
         let mut octets = P1;
         octets[place] = octet;
@@ -156,8 +160,8 @@ fn images_are_written_and_read() {
             octets[2] = 0xFF;
         }
         assert_eq!(plan.read(&octets), Err(refusal));
+        assert_eq!(plan, Plan::fresh(1).unwrap());
     }
-    assert_eq!((plan.states(), plan.transitions()), (1, 0));
 }
 
 /// A team is set by its own call, and is in images of version 2 alone.

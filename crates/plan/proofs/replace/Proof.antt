@@ -24,15 +24,15 @@ use Rattle.plan_limits.proofs.in_limits.Reads as in-limits-reads
 in-limits-requires : tie.Need-in-limits-requires
 in-limits-requires c κs = search needs
 
-take-requires : tie.Need-take-requires
-take-requires c κs = search needs
-
 enum-told : tie.Need-enum-told
 enum-told c = search needs
 
 -- the arrays of a plan value have their lengths
 sized : (c : tie.Start) → Sized (c .args .t1)
 sized c = record { marks = search needs; teams = search needs; from = search needs; to = search needs; low = search needs; high = search needs }
+
+take-requires : tie.Need-take-requires
+take-requires c κs = (omega (arith, sized (c .before .before .before .before .before .before .before .before .before .before .before .before .before .before .before)), search needs, search needs)
 
 -- the plan value that was taken from the octets
 taken : tie.After-take → Plan

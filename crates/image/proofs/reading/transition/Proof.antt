@@ -6,13 +6,13 @@ use Rattle.image.proofs.reading.transition.Statement.{statement}
 use Rattle.image.proofs.reading.transition.Tie as tie
 use Rattle.image.proofs.reading.transition.Reads as reads
 use Rattle.image.proofs.reading.transition.Lts as lts
-use Rattle.reader.proofs.next.Reads as next-reads
+use Rattle.image_fields.proofs.transition.Reads as transition-reads
 
-next-requires : tie.Need-next-requires
-next-requires c κs = search needs
+transition-requires : tie.Need-transition-requires
+transition-requires c κs = search needs
 
 returns : tie.Need-returns
-returns c = (transition-fields (c .before .before .before .args .octets .now) (c .before .before .before .args .at .now) (c .next .result) (c .next .ensures .0), c .next .ensures .1)
+returns c = (transition-fields (c .before .before .before .before .args .octets .now) (c .before .before .before .before .args .at .now) (c .transition .result) (c .transition .ensures .0), c .transition .ensures .1, c .transition .ensures .2)
 
 pub transition-spec : {M : Type 1} → statement M
-transition-spec = tie.close (tie.spec next-requires returns)
+transition-spec = tie.close (tie.spec transition-requires returns)

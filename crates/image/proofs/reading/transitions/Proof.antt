@@ -1,5 +1,5 @@
 -- `image::reading::transitions` meets its contract. The invariant: no row of a transition passed holds, and it stands at its place of the
--- arrays; no later place was touched; the position is that of the next transition. So the first row that holds is of the transition at hand.
+-- arrays; no later place was touched; the position, and the count of the bits taken, is that of the next transition. So the first row that holds is of the transition at hand.
 -- Assumes nothing.
 use Prim.Native.Nat.{ℕ, _-_, _≤_, _<_}
 use mathlib.Core.List.{List}
@@ -13,7 +13,9 @@ use Rattle.rules.specs.Image.{transitionAt, transitionPlace, transitionRows}
 use Rattle.rules.specs.Refusal.{refused, said}
 use Rattle.rules.specs.Table.{Row, first, byNumber, NoneHolds}
 use Rattle.rules.proofs.ReadWrite.{Bounded, bounded, rows-ok}
-use Rattle.rules.proofs.Tables.{item-decides, accepted-where, accepted-only, none-each}
+use Rattle.rules.proofs.Tables.{accepted-where, accepted-only, none-each}
+use Rattle.taken.specs.Taken.{listedRows, RefusedAt}
+use Rattle.taken.proofs.Taken.{items-all, items-to, refused-by}
 use Rattle.rules.proofs.Tabulated.{tabulate-same}
 use Rattle.arrays.specs.Tables.{transitionOf, Later, LaterFields, fields}
 use Rattle.image.specs.Values.{meant}
@@ -26,21 +28,21 @@ use Rattle.transition_grounds.proofs.checked.Reads as checked-reads
 use Rattle.image.proofs.reading.transition.Reads as transition-reads
 
 abbrev Inv-loop : tie.InvT-loop
-Inv-loop octets at₀ n m from₀ to₀ low₀ high₀ i₀ at from to low high i =
+Inv-loop octets at₀ taken₀ n m from₀ to₀ low₀ high₀ i₀ at taken from to low high i =
     (i ≤ m) × LaterFields m (fields from₀ to₀ low₀ high₀) (fields from to low high) × (at ≡ transitionPlace n i)
     × ((k : ℕ) → k < i → NoneHolds (transitionRows n (transitionAt octets (transitionPlace n k))))
-    × ((k : ℕ) → k < i → transitionOf from to low high k ≡ transitionAt octets (transitionPlace n k))
+    × ((k : ℕ) → k < i → transitionOf from to low high k ≡ transitionAt octets (transitionPlace n k)) × (taken ≡ transitionPlace n i)
 
 abbrev μ-loop : tie.MeasureT-loop
-μ-loop octets at₀ n m from₀ to₀ low₀ high₀ i₀ at from to low high i = m - i
+μ-loop octets at₀ taken₀ n m from₀ to₀ low₀ high₀ i₀ at taken from to low high i = m - i
 
 loop-holds : tie.Need-loop-holds Inv-loop μ-loop
 loop-holds c =
     let none : (l : List ℕ) → c .before .args .m ≤ length l → Later (c .before .args .m) l l = λ l h. later-none _ l h in
-    (omega arith, record { from = none _ (omega arith); to = none _ (omega arith); low = none _ (omega arith); high = none _ (omega arith) }, omega arith, below-none _, below-none _)
+    (omega arith, record { from = none _ (omega arith); to = none _ (omega arith); low = none _ (omega arith); high = none _ (omega arith) }, omega arith, below-none _, below-none _, omega arith)
 
 transition-requires : tie.Need-transition-requires Inv-loop μ-loop
-transition-requires c κs = omega arith
+transition-requires c κs = (record { most = omega arith; inside = omega arith; near = omega arith }, omega arith)
 
 checked-requires : tie.Need-checked-requires Inv-loop μ-loop
 checked-requires c κs = tt
@@ -49,37 +51,37 @@ enum-known-grounds : tie.Need-enum-known-grounds Inv-loop μ-loop
 enum-known-grounds c = search needs
 
 -- the transition that was taken is the one at its place
-taken : (c : tie.After-transition Inv-loop μ-loop) → meant (c .transition .result) ≡ transitionAt (c .before .before .before .before .before .args .octets .now) (transitionPlace (c .before .before .before .before .before .args .n) (c .before .before .before .loop .i))
-taken c = c .transition .ensures .0 ∙ ap (transitionAt (c .before .before .before .before .before .args .octets .now)) (c .before .before .before .loop .inv .2)
+taken : (c : tie.After-transition Inv-loop μ-loop) → meant (c .transition .result) ≡ transitionAt (c .before .before .before .before .before .before .args .octets .now) (transitionPlace (c .before .before .before .before .before .before .args .n) (c .before .before .before .before .loop .i))
+taken c = c .transition .ensures .0 ∙ ap (transitionAt (c .before .before .before .before .before .before .args .octets .now)) (c .before .before .before .before .loop .inv .2)
 
 returns : tie.Need-returns Inv-loop μ-loop
 returns c =
-    let a = c .before .before .before .before .before .before .before .before .before .args in
-    let l = c .before .before .before .before .before .before .before .loop in
+    let a = c .before .before .before .before .before .before .before .before .before .before .args in
+    let l = c .before .before .before .before .before .before .before .before .loop in
     let os = a .octets .now in
     let r = c .before .grounds .given .0 .0 in
-    let rows : ℕ → List Row = λ k. transitionRows (a .n) (transitionAt os (transitionPlace (a .n) k)) in
+    let rows : ℕ → List Row = listedRows os (a .n) in
     let e : first (rows (l .i)) ≡ refused r =
     ap (λ (t : Transition). first (transitionRows (a .n) t)) (sym (taken (c .before .before .before .before))) ∙ sym (c .before .before .before .checked .ensures) ∙ ap said (c .before .grounds .given .1) in
+    let here : RefusedAt rows (a .m) (l .i) r = record { before = none-each rows (l .i) (l .inv .3); listed = omega arith; here = e } in
     record {
-      answer = sym (item-decides rows (a .m) (l .i) r (omega arith) (l .inv .3) e);
+      answer = sym (refused-by rows (a .m) (l .i) r here);
       transitions = λ e. absurd (let z : _≡_ {A = ℕ} 0 1 = cc in omega arith);
       later = l .inv .1;
-      all = λ e. absurd (let z : _≡_ {A = ℕ} 0 1 = cc in omega arith);
-      most = omega (arith, c .before .before .before .before .transition .ensures .1);
+      bits = omega (arith, c .before .before .before .before .transition .ensures .2, items-to rows (a .m) (l .i) r here);
     }
 
 enum-told : tie.Need-enum-told Inv-loop μ-loop
 enum-told c = search needs
 
 -- no row of the transition that was read holds, so its numbers are within the limits
-clear : (c : tie.After-enum-told Inv-loop μ-loop) → NoneHolds (transitionRows (c .before .before .before .before .before .before .before .before .args .n) (meant (c .before .before .before .transition .result)))
+clear : (c : tie.After-enum-told Inv-loop μ-loop) → NoneHolds (transitionRows (c .before .before .before .before .before .before .before .before .before .args .n) (meant (c .before .before .before .transition .result)))
 clear c =
-    accepted-only (transitionRows (c .before .before .before .before .before .before .before .before .args .n) (meant (c .before .before .before .transition .result))) tt tt
+    accepted-only (transitionRows (c .before .before .before .before .before .before .before .before .before .args .n) (meant (c .before .before .before .transition .result))) tt tt
     (sym (c .before .before .checked .ensures) ∙ ap said (c .enum-told .given .1)) .0
 
-numbers : (c : tie.After-struct-known Inv-loop μ-loop) → Bounded (c .before .before .before .before .before .before .before .before .before .args .n) (meant (c .before .before .before .before .transition .result))
-numbers c = bounded _ _ (rows-ok (c .before .before .before .before .before .before .before .before .before .args .n) (meant (c .before .before .before .before .transition .result)) (clear (c .before)))
+numbers : (c : tie.After-struct-known Inv-loop μ-loop) → Bounded (c .before .before .before .before .before .before .before .before .before .before .args .n) (meant (c .before .before .before .before .transition .result))
+numbers c = bounded _ _ (rows-ok (c .before .before .before .before .before .before .before .before .before .before .args .n) (meant (c .before .before .before .before .transition .result)) (clear (c .before)))
 
 cast-from : tie.Need-cast-from Inv-loop μ-loop
 cast-from c = omega (arith, numbers c)
@@ -125,8 +127,8 @@ loop-less c = omega arith
 
 loop-again : tie.Need-loop-again Inv-loop μ-loop
 loop-again c =
-    let a = c .before .before .before .before .before .before .before .before .before .before .before .before .args in
-    let l = c .before .before .before .before .before .before .before .before .before .before .loop in
+    let a = c .before .before .before .before .before .before .before .before .before .before .before .before .before .args in
+    let l = c .before .before .before .before .before .before .before .before .before .before .before .loop in
     let r = c .before .before .before .before .before .before .before .transition .result in
     let f = l .inv .1 in
     let here : transitionOf (set (l .from) (l .i) (r .from)) (set (l .to) (l .i) (r .to)) (set (l .low) (l .i) (r .low)) (set (l .high) (l .i) (r .high)) (l .i) ≡ meant r =
@@ -143,6 +145,7 @@ loop-again c =
       below-more _ _
           (λ k h. transition-other (l .from) (l .to) (l .low) (l .high) (l .i) (r .from) (r .to) (r .low) (r .high) k (omega arith) ∙ l .inv .4 k h)
           (here ∙ taken (c .before .before .before .before .before .before .before)),
+      omega (arith, c .before .before .before .before .before .before .before .transition .ensures .2),
     )
 
 returns-2 : tie.Need-returns-2 Inv-loop μ-loop
@@ -150,13 +153,13 @@ returns-2 c =
     let a = c .before .before .before .args in
     let l = c .before .loop in
     let os = a .octets .now in
-    let rows : ℕ → List Row = λ k. transitionRows (a .n) (transitionAt os (transitionPlace (a .n) k)) in
+    let rows : ℕ → List Row = listedRows os (a .n) in
+    let none : NoneHolds (byNumber rows 0 (a .m)) = none-each rows (a .m) (λ k h. l .inv .3 k (omega arith)) in
     record {
-      answer = sym (accepted-where (byNumber rows 0 (a .m)) tt (none-each rows (a .m) (λ k h. l .inv .3 k (omega arith))));
+      answer = sym (accepted-where (byNumber rows 0 (a .m)) tt none);
       transitions = λ e. tabulate-same (a .m) (transitionOf (l .from) (l .to) (l .low) (l .high)) (λ (k : ℕ). transitionAt os (transitionPlace (a .n) k)) (λ k h. l .inv .4 k (omega arith));
       later = l .inv .1;
-      all = λ e. omega arith;
-      most = omega arith;
+      bits = omega (arith, items-all rows (a .m) none);
     }
 
 pub transitions-spec : {M : Type 1} → statement M
