@@ -173,6 +173,74 @@ static void images(void)
     CHECK(is_same_plan(&other, &plan));
 }
 
+/* Plans made from a seed, over a plan that breaks a limit: by the draws, which are worked out in 64 bits, and the same each time. */
+static void made(void)
+{
+    static const uint32_t seeds[] = {0, 1, 305419896, 2147483648u, UINT32_MAX};
+    static const size_t sizes[][2] = {{1, 0}, {1, 3}, {2, 1}, {3, 100}, {512, 0}, {512, CALLPLAN_MAX_TRANSITIONS}};
+    static const size_t bad[] = {0, 513, 65536, ((size_t)1 << 32) + 1, SIZE_MAX};
+    static const size_t many[] = {2049, 65536, ((size_t)1 << 32) + 1, SIZE_MAX};
+    static uint64_t words[55 + 4 * CALLPLAN_MAX_TRANSITIONS];
+    static uint8_t buffer[CALLPLAN_MAX_IMAGE_OCTETS];
+    callplan_plan plan, other, before;
+    callplan_transition transition;
+    size_t written = 77;
+
+    memset(&plan, 0xAA, sizeof plan);
+    before = plan;
+    for (size_t i = 0; i < sizeof bad / sizeof bad[0]; i++) {
+        CHECK(callplan_generate(&plan, 1, bad[i], 0) == CALLPLAN_REFUSED_STATE_COUNT);
+        CHECK(callplan_generate(&plan, 1, bad[i], 2049) == CALLPLAN_REFUSED_STATE_COUNT);
+        CHECK(callplan_generate(&plan, 1, bad[i], SIZE_MAX) == CALLPLAN_REFUSED_STATE_COUNT);
+    }
+    for (size_t i = 0; i < sizeof many / sizeof many[0]; i++) {
+        CHECK(callplan_generate(&plan, 1, 1, many[i]) == CALLPLAN_REFUSED_TRANSITION_COUNT);
+        CHECK(callplan_generate(&plan, UINT32_MAX, 512, many[i]) == CALLPLAN_REFUSED_TRANSITION_COUNT);
+    }
+    CHECK(is_same_plan(&plan, &before));
+
+    for (size_t s = 0; s < sizeof seeds / sizeof seeds[0]; s++) {
+        words[0] = seeds[s];
+        for (size_t i = 1; i < sizeof words / sizeof words[0]; i++) {
+            words[i] = (i < 55 ? words[i - 1] + 0x9E3779B9u : words[i - 24] + words[i - 55]) % ((uint64_t)1 << 32);
+        }
+        for (size_t i = 0; i < sizeof sizes / sizeof sizes[0]; i++) {
+            const size_t n = sizes[i][0];
+            const size_t m = sizes[i][1];
+            int as_drawn = 1;
+            CHECK(callplan_generate(&plan, seeds[s], n, m) == CALLPLAN_ACCEPTED);
+            CHECK(callplan_states(&plan) == n && callplan_transitions(&plan) == m);
+            for (size_t state = 0; state < n; state++) {
+                const int marks = (state == 0 ? CALLPLAN_START : 0) + (state == n - 1 ? CALLPLAN_FINAL : 0);
+                as_drawn = as_drawn && callplan_marks(&plan, state) == marks && callplan_team_of(&plan, state) == 0;
+            }
+            for (size_t number = 0; number < m; number++) {
+                const uint64_t *draws = words + 55 + 4 * number;
+                const uint64_t low = draws[2] % 2048;
+                transition = callplan_transition_at(&plan, number);
+                as_drawn = as_drawn && transition.from == draws[0] % n && transition.to == draws[1] % n;
+                as_drawn = as_drawn && transition.low == low && transition.high == low + draws[3] % (2048 - low);
+            }
+            CHECK(as_drawn);
+            memset(&other, 0x55, sizeof other);
+            CHECK(callplan_generate(&other, seeds[s], n, m) == CALLPLAN_ACCEPTED && is_same_plan(&plan, &other));
+            CHECK(callplan_write(&plan, buffer, sizeof buffer, &written) == CALLPLAN_ACCEPTED && written == 4 + n + 5 * m);
+            CHECK(callplan_fresh(&other, 1) == CALLPLAN_ACCEPTED);
+            CHECK(callplan_read(&other, buffer, written) == CALLPLAN_ACCEPTED && callplan_equal(&plan, &other) == 1);
+        }
+    }
+
+    /* One state is start and final, and one plan by hand, which is edited as any other. */
+    CHECK(callplan_generate(&plan, 1, 1, 0) == CALLPLAN_ACCEPTED && callplan_marks(&plan, 0) == CALLPLAN_START + CALLPLAN_FINAL);
+    CHECK(callplan_generate(&plan, 1, 2, 1) == CALLPLAN_ACCEPTED);
+    transition = callplan_transition_at(&plan, 0);
+    CHECK(transition.from == 1 && transition.to == 1 && transition.low == 1101 && transition.high == 1368);
+    CHECK(callplan_join(&plan, 0, 1, 5, 20) == CALLPLAN_ACCEPTED && callplan_transitions(&plan) == 2);
+    before = plan;
+    CHECK(callplan_generate(&plan, 1, 513, 0) == CALLPLAN_REFUSED_STATE_COUNT && is_same_plan(&plan, &before));
+    CHECK(callplan_generate(&plan, 1, 2, 2049) == CALLPLAN_REFUSED_TRANSITION_COUNT && is_same_plan(&plan, &before));
+}
+
 static int has_teams(const callplan_plan *plan, uint8_t first, uint8_t second, uint8_t third, uint8_t fourth)
 {
     return callplan_team_of(plan, 0) == first && callplan_team_of(plan, 1) == second && callplan_team_of(plan, 2) == third &&
@@ -610,6 +678,8 @@ static void broken_plan(void)
     CHECK(callplan_least_count(&plan, &figure) == CALLPLAN_REFUSED_PLAN_LIMITS);
     CHECK(callplan_greatest_count(&plan, &figure) == CALLPLAN_REFUSED_PLAN_LIMITS);
     CHECK(is_same_plan(&plan, &before) && written == 77 && memcmp(&figure, &blank, sizeof figure) == 0);
+    CHECK(callplan_generate(&plan, 1, 2, 1) == CALLPLAN_ACCEPTED);
+    CHECK(callplan_mark(&plan, 1, 7) == CALLPLAN_ACCEPTED);
     CHECK(callplan_fresh(&plan, 1) == CALLPLAN_ACCEPTED);
     CHECK(callplan_mark(&plan, 0, 7) == CALLPLAN_ACCEPTED);
 
@@ -651,6 +721,10 @@ static void short_slices(void)
     CHECK(callplan_lent_fresh(1, plan.counts, 1, STATES(plan), 1024, plan.fields, 8192) == CALLPLAN_SHORT_SLICE);
     CHECK(callplan_lent_fresh(1, plan.counts, 2, STATES(plan), 1023, plan.fields, 8192) == CALLPLAN_SHORT_SLICE);
     CHECK(callplan_lent_fresh(1, plan.counts, 2, STATES(plan), 1024, plan.fields, 8191) == CALLPLAN_SHORT_SLICE);
+    CHECK(callplan_lent_generate(1, 1, 1, plan.counts, 1, STATES(plan), 1024, plan.fields, 8192) == CALLPLAN_SHORT_SLICE);
+    CHECK(callplan_lent_generate(1, 0, 2049, plan.counts, 2, STATES(plan), 1023, plan.fields, 8192) == CALLPLAN_SHORT_SLICE);
+    CHECK(callplan_lent_generate(1, 1, 2049, plan.counts, 2, STATES(plan), 1024, plan.fields, 8191) == CALLPLAN_SHORT_SLICE);
+    CHECK(callplan_states(&plan) == 4 && callplan_transitions(&plan) == 4);
     CHECK(callplan_lent_import(plan.counts, 1, STATES(plan), 1024, plan.fields, 8192, p1_image, 28) == CALLPLAN_SHORT_SLICE);
     CHECK(callplan_lent_import(plan.counts, 2, STATES(plan), 1024, plan.fields, 8192, p1_image, 28) == CALLPLAN_REFUSED_TEXT_FORM);
     CHECK(callplan_lent_export(plan.counts, 2, STATES(plan), 1023, plan.fields, 8192, text, sizeof text) == CALLPLAN_SHORT_SLICE);
@@ -798,6 +872,7 @@ int main(void)
     CHECK(CALLPLAN_MAX_IMAGE_OCTETS == 4 + CALLPLAN_MAX_STATES + 5 * CALLPLAN_MAX_TRANSITIONS);
     edits();
     images();
+    made();
     teams();
     wrong_ends();
     texts();

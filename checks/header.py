@@ -29,6 +29,8 @@ FILES = {
     "image": "crates/rules/specs/Image.antt",
     "text": "crates/aldebaran/specs/Text.antt",
     "quotations": "crates/rules/specs/Quotations.antt",
+    "words": "crates/generator/specs/Words.antt",
+    "generated": "crates/generated/specs/Generated.antt",
     "header": "include/callplan.h",
     "package": "include/callplan.pc",
     "cargo": "rust/callplan/Cargo.toml",
@@ -39,6 +41,7 @@ FILES = {
     "launch": "programs/launch",
     "page": "docs/quote.1",
     "import page": "docs/callplan-import.1",
+    "generate page": "docs/callplan-generate.1",
     "rules page": "docs/RULES.md",
     "changes": "CHANGELOG.md",
 }
@@ -193,6 +196,20 @@ def comparisons(t):
     words = re.sub(r"\s*///\s*", " ", t["crate"])
     said = re.findall(r"Seconds, at most ([\d,]+) for the least delay and ([\d,]+) for the greatest, or counted states, at most (\d+)\.", words)
     yield "rust/callplan: the bounds of a number", bounds, [x.replace(",", "") for least, greatest, count in said for x in (least, greatest, count, count)]
+    # How a seed makes a plan, in numbers: the words, and the durations that are drawn.
+    rule = [number(t["words"], pattern) for pattern in (
+        r"cond \(ltb \(suc i\) (\d+)\)", r"plus \(back 1 words\) (\d+)", r"plus \(back (\d+) words\) \(back", r"\(back (\d+) words\)\)\n",
+        r"plus a b = \(a \+ b\) % (\d+)",
+    )]
+    durations = number(t["generated"], r"low = low % (\d+);")
+    rule += [(number(t["words"], r"draw s k = word s \((\d+) \+ k\)") or 0) + 1, durations, durations]
+    for place, text in ("header", re.sub(r"\n \* ?", " ", t["header"])), ("crate", words):
+        said = re.findall(
+            r"The first (\d+) words of 32 bits are the seed, then each the one before plus ([\dA-F]+) hex; each later word is the word (\d+) back plus the "
+            r"word (\d+) back, modulo ([\d,]+)\. Words are drawn from the (\d+)th on, four a transition: from and to are a draw modulo n, low a draw modulo "
+            r"([\d,]+), and high is low plus a draw modulo \(([\d,]+) - low\)\.", text)
+        found = [int(n.replace(",", ""), 16 if i == 1 else 10) for one in said for i, n in enumerate(one)]
+        yield f"{FILES[place]}: how a seed makes a plan", rule, found
     declared = between(t["header"], "typedef enum callplan_kind {", "} callplan_kind;")
     yield "include/callplan.h: the kinds", kinds, numbers(declared, r"CALLPLAN_(\w+) = (\d)")
 
@@ -229,7 +246,7 @@ def comparisons(t):
     yield "include/callplan.h: the version's number", archive, number(t["header"], r"#define CALLPLAN_VERSION_NUMBER (\d+)")
     yield "rust/callplan: the version's number", archive, number(t["crate"], r"pub const VERSION_NUMBER: u32 = (\d+);")
     yield "programs/launch: the version", version, re.findall(r"(?m)^version=(.*)$", t["launch"])
-    for page in "page", "import page":
+    for page in "page", "import page", "generate page":
         yield f"{FILES[page]}: the version", version, re.findall(r'"callplan ([\d.]+)"', t[page])
     yield "CHANGELOG.md: the version", version, re.findall(r"(?m)^## ([\d.]+)$", t["changes"])[:1]
     yield "include/callplan.pc: the version", version, re.findall(r"(?m)^Version: (.*)$", t["package"])
@@ -251,6 +268,8 @@ def compare(texts):
 DAMAGES = [
     ("binding", "callplan_lent_unjoin(", "callplan_lent_remove("),
     ("binding", "    n: usize,", "    n: u32,"),
+    ("binding", "    seed: u32,\n    n: usize,\n    m: usize,", "    seed: u32,\n    m: usize,\n    n: usize,"),
+    ("binding", "    seed: u32,", "    seed: u64,"),
     ("binding", "    octets: &[u8],\n) -> u32", "    octets: &mut [u8],\n) -> u32"),
     ("binding", "least_delay(\n    counts: &[usize],\n    states: &[u8],\n    fields: &[u16],\n    walk: &mut [u16],", "least_delay(\n    counts: &[usize],\n    states: &[u8],\n    fields: &[u16],\n    walk: &mut [u32],"),
     ("binding", "    team: u32,\n    walk: &mut [u16],", "    walk: &mut [u16],\n    team: u32,"),
@@ -304,8 +323,22 @@ DAMAGES = [
     ("figure", "most GreatestDelay = 1047552", "most GreatestDelay = 1048064"),
     ("figure", "most LeastCount = 513", "most LeastCount = 512"),
     ("route", "eqb high 2047", "eqb high 2046"),
+    ("words", "plus (back 1 words) 2654435769", "plus (back 1 words) 2654435768"),
+    ("words", "back 24 words", "back 31 words"),
+    ("words", "(back 55 words)", "(back 54 words)"),
+    ("words", "word s (55 + k)", "word s (54 + k)"),
+    ("words", "% 4294967296", "% 4294967295"),
+    ("words", "ltb (suc i) 55", "ltb (suc i) 56"),
+    ("generated", "low = low % 2048;", "low = low % 2047;"),
+    ("header", "plus 9E3779B9 hex", "plus 9E3779B8 hex"),
+    ("header", "the word 24 back plus", "the word 31 back plus"),
+    ("header", "from the 56th on", "from the 55th on"),
+    ("header", "modulo (2,048 - low)", "modulo (2,047 - low)"),
+    ("crate", "plus 9E3779B9 hex", "plus 9E3779B7 hex"),
     ("header", "uint32_t callplan_lent_read(", "uint64_t callplan_lent_read("),
     ("header", "uint32_t callplan_lent_write(const size_t *counts", "uint32_t callplan_lent_write(size_t *counts"),
+    ("header", "uint32_t seed, size_t n, size_t m, size_t *counts", "uint32_t seed, size_t m, size_t n, size_t *counts"),
+    ("header", "uint32_t callplan_lent_generate(uint32_t seed,", "uint32_t callplan_lent_generate(size_t seed,"),
     ("header", "size_t from, size_t to", "size_t to, size_t from"),
     ("header", "uint32_t low, uint32_t high);", "uint32_t low, uint16_t high);"),
     ("header", "uint16_t *walk, size_t walk_len,", "uint16_t *walk,"),
@@ -365,6 +398,7 @@ DAMAGES = [
     ("crate", "FINAL: u32 = 2", "FINAL: u32 = 1"),
     ("archive", "fields: *mut u16", "fields: *mut u32"),
     ("archive", "octets: *const u8", "octets: *mut u8"),
+    ("archive", "        seed: u32,\n", "        seed: u64,\n"),
     ("archive", "        number: usize,\n", ""),
     ("archive", "        team: u32,\n        walk: *mut u16,", "        team: u16,\n        walk: *mut u16,"),
     ("archive", "callplan_lent_least_delay(", "callplan_lent_delay("),
@@ -378,18 +412,20 @@ DAMAGES = [
     ("header", 'return "the marks value is above 7"', 'return "the marks value is above 8"'),
     ("header", "a transition's to is not below the state count\"", "a transition's from is not below the state count\""),
     ("header", '    case CALLPLAN_ACCEPTED: return "accepted";\n', ""),
-    ("header", "CALLPLAN_VERSION_NUMBER 7", "CALLPLAN_VERSION_NUMBER 8"),
-    ("binding", "r ≡ 701 ⌝", "r ≡ 702 ⌝"),
-    ("crate", "VERSION_NUMBER: u32 = 7", "VERSION_NUMBER: u32 = 8"),
+    ("header", "CALLPLAN_VERSION_NUMBER 8", "CALLPLAN_VERSION_NUMBER 9"),
+    ("binding", "r ≡ 800 ⌝", "r ≡ 801 ⌝"),
+    ("crate", "VERSION_NUMBER: u32 = 8", "VERSION_NUMBER: u32 = 9"),
     ("launch", "version=0", "version=1"),
     ("page", '"callplan 0', '"callplan 1'),
     ("import page", '"callplan 0', '"callplan 1'),
+    ("generate page", '"callplan 0', '"callplan 1'),
     ("rules page", "| 16 | join", "| 18 | join"),
     ("rules page", "| 18 | team", "| 19 | team"),
     ("rules page", "| 1 to 9 | wards |", "| 1 to 10 | wards |"),
-    ("changes", "## 0.7", "## 0.8"),
+    ("changes", "## 0.8", "## 0.9"),
     ("proved", "value: u32,\n    ) -> u32", "value: u32,\n    ) -> u16"),
     ("proved", "walk_len: usize", "length: usize"),
+    ("proved", "        seed: u32,\n        n: usize,\n        m: usize,", "        seed: u32,\n        n: usize,"),
     ("proved", "STATES: usize = 2 * MAX_STATES", "STATES: usize = MAX_STATES"),
     ("proved", "        state: usize,\n        team: u32,\n    ) -> u32", "        state: usize,\n        team: u8,\n    ) -> u32"),
     ("proved", "NO_CALLS: u32 = 254", "NO_CALLS: u32 = 253"),

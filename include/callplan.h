@@ -49,8 +49,8 @@
 extern "C" {
 #endif
 
-#define CALLPLAN_VERSION "0.7.1"
-#define CALLPLAN_VERSION_NUMBER 701 /* 10,000 times the first number, 100 times the second, and the third */
+#define CALLPLAN_VERSION "0.8.0"
+#define CALLPLAN_VERSION_NUMBER 800 /* 10,000 times the first number, 100 times the second, and the third */
 
 #define CALLPLAN_MAX_STATES 512
 #define CALLPLAN_MAX_TRANSITIONS 2048
@@ -102,7 +102,7 @@ enum {
  *     30 to 31    outside lines
  * A class is named by the number of any team in it. */
 
-/* A plan. callplan_fresh makes one; before that it may hold anything. Copy it by assignment. */
+/* A plan. callplan_fresh, callplan_generate or callplan_from_image makes one; before that it may hold anything. Copy it by assignment. */
 typedef struct callplan_plan {
     size_t counts[2];                              /* states, transitions */
     uint8_t marks[CALLPLAN_MAX_STATES];            /* a marks value for each state */
@@ -185,6 +185,8 @@ enum {
 uint32_t callplan_lent_version(void);
 uint32_t callplan_lent_fresh(size_t n, size_t *counts, size_t counts_len, uint8_t *states, size_t states_len,
                              uint16_t *fields, size_t fields_len);
+uint32_t callplan_lent_generate(uint32_t seed, size_t n, size_t m, size_t *counts, size_t counts_len, uint8_t *states,
+                                size_t states_len, uint16_t *fields, size_t fields_len);
 uint32_t callplan_lent_from_image(const uint8_t *octets, size_t octets_len, size_t *counts, size_t counts_len,
                                   uint8_t *states, size_t states_len, uint16_t *fields, size_t fields_len);
 uint32_t callplan_lent_mark(size_t *counts, size_t counts_len, uint8_t *states, size_t states_len, uint16_t *fields,
@@ -299,6 +301,21 @@ CALLPLAN_ANSWERS callplan_fresh(callplan_plan *plan, size_t n)
 {
     callplan_private_check_version();
     return callplan_private_answer(callplan_lent_fresh(n, CALLPLAN_SLICES(plan)));
+}
+
+/* Makes *plan the plan with n states and m transitions that a seed makes, whatever it held before. The same seed and counts make the
+ * same plan everywhere, and a smaller m the first m of its transitions. State 0 is start and state n - 1 final, no other mark is set, and
+ * all teams are 0; with n at 1 the one state is both. Transitions lead from any state to any, and a high may come out as
+ * CALLPLAN_OPEN_HIGH. For made-up plans, as those that releases are compared on.
+ *
+ * The first 55 words of 32 bits are the seed, then each the one before plus 9E3779B9 hex; each later word is the word 24 back plus the
+ * word 55 back, modulo 4,294,967,296. Words are drawn from the 56th on, four a transition: from and to are a draw modulo n, low a draw
+ * modulo 2,048, and high is low plus a draw modulo (2,048 - low).
+ * Refused: STATE_COUNT, TRANSITION_COUNT. */
+CALLPLAN_ANSWERS callplan_generate(callplan_plan *plan, uint32_t seed, size_t n, size_t m)
+{
+    callplan_private_check_version();
+    return callplan_private_answer(callplan_lent_generate(seed, n, m, CALLPLAN_SLICES(plan)));
 }
 
 /* Makes the marks value of a state the value given. Its team stays.

@@ -1,8 +1,8 @@
 //! A second call plan calculator, written from documents 01 and 02 alone.
 //!
 //! It states the rules once more, in plain Rust: what a plan is, the calls on it, the image and the
-//! Aldebaran text both ways, the four figures with the walks shown, the counts for classes of teams,
-//! the record, and the refusals.
+//! Aldebaran text both ways, plans made from a seed, the four figures with the walks shown, the counts
+//! for classes of teams, the record, and the refusals.
 //! The tests compare it with the proved library.
 
 pub mod aldebaran;
@@ -10,6 +10,7 @@ pub mod bits;
 pub mod check;
 pub mod class;
 pub mod figure;
+pub mod generate;
 pub mod image;
 pub mod kinds;
 pub mod plan;

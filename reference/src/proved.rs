@@ -39,6 +39,18 @@ extern "C" {
         fields_len: usize,
     ) -> u32;
 
+    fn callplan_lent_generate(
+        seed: u32,
+        n: usize,
+        m: usize,
+        counts: *mut usize,
+        counts_len: usize,
+        states: *mut u8,
+        states_len: usize,
+        fields: *mut u16,
+        fields_len: usize,
+    ) -> u32;
+
     fn callplan_lent_from_image(
         octets: *const u8,
         octets_len: usize,
@@ -290,6 +302,23 @@ impl LentPlan {
         unsafe {
             callplan_lent_fresh(
                 n,
+                self.counts.as_mut_ptr(),
+                self.counts.len(),
+                self.states.as_mut_ptr(),
+                self.states.len(),
+                self.fields.as_mut_ptr(),
+                self.fields.len(),
+            )
+        }
+    }
+
+    /// The plan that a seed makes, whatever the slices hold.
+    pub fn generate(&mut self, seed: u32, n: usize, m: usize) -> u32 {
+        unsafe {
+            callplan_lent_generate(
+                seed,
+                n,
+                m,
                 self.counts.as_mut_ptr(),
                 self.counts.len(),
                 self.states.as_mut_ptr(),

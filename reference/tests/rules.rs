@@ -2,12 +2,15 @@
 //! library.
 
 mod ends;
+mod seeds;
 mod texts;
 mod vectors;
 
 use reference::aldebaran;
+use reference::generate::{draws, words};
 use reference::image::{bits_taken, decode, encode};
 use reference::{Duration, Figure, Plan, Refusal, Transition};
+use seeds::{adler32, missing, parse, Vectors, WORDS};
 use texts::{edges, ACCEPTED, P1_TEXT};
 use vectors::{P1, P1_WRITTEN};
 
@@ -674,4 +677,246 @@ fn the_initial_state_is_the_start_wherever_it_is() {
     let imported = aldebaran::decode(text.as_bytes()).unwrap();
     assert_eq!(imported.marks(), [0, 0, 0, 4]);
     assert_eq!(imported, plan.stripped());
+}
+
+/// What the first 55 words of a seed grow by, document 02, E7.
+const STEP: u128 = 0x9E37_79B9;
+
+/// Seeds at the edges, and some between.
+const SEEDS: [u32; 9] = [
+    0,
+    1,
+    2,
+    54,
+    0x61C8_8647, // with the step, 0 modulo 4,294,967,296
+    305_419_896,
+    1 << 31,
+    u32::MAX - 1,
+    u32::MAX,
+];
+
+/// "the first 55 words are s, then each the one before plus 9E3779B9 hex": s and a multiple of it. "Each
+/// later word is the word 24 back plus the word 55 back": word 56 is word 32 plus word 1, and so on, with
+/// twice s and two multiples, up to word 79; from word 80 on the word 24 back is such a word itself.
+#[test]
+fn words_are_those_of_the_sentence() {
+    for seed in SEEDS {
+        let of = |seeds: u128, steps: u128| {
+            ((seeds * u128::from(seed) + steps * STEP) % 4_294_967_296) as u64
+        };
+        let words = words(seed, 86);
+        for (place, &word) in (0..).zip(&words) {
+            let expected = match place {
+                0..55 => of(1, place),
+                55..79 => of(2, (place - 24) + (place - 55)),
+                _ => of(3, (place - 48) + (place - 79) + (place - 55)),
+            };
+            assert_eq!(word, expected, "{seed} {place}");
+        }
+        assert_eq!(draws(seed, 31), words[55..]);
+    }
+    // Word 1 of all, none, and words that do not depend on how many are asked for.
+    assert_eq!(words(7, 1), [7]);
+    assert_eq!((words(7, 0), draws(7, 0)), (vec![], vec![]));
+    assert_eq!(words(7, 300)[..86], words(7, 86));
+}
+
+/// Every word is a sum of seeds and steps: as many seeds as the words of seeds 0 and 1 are apart.
+#[test]
+fn words_of_any_seed_are_those_of_0_and_1_together() {
+    let count = 55 + 4 * 2048;
+    let (zero, one) = (words(0, count), words(1, count));
+    for seed in SEEDS {
+        for (place, word) in words(seed, count).into_iter().enumerate() {
+            let seeds = u128::from(one[place] + 4_294_967_296 - zero[place]);
+            let sum = u128::from(zero[place]) + seeds * u128::from(seed);
+            assert_eq!(u128::from(word), sum % 4_294_967_296, "{seed} {place}");
+        }
+    }
+}
+
+/// Small plans of seed 1, by hand. Its first draws, words 56 to 63, are 2 and 31, 33, 35 .. 45 times
+/// 9E3779B9 hex, modulo 4,294,967,296: 683130217, 1697034459, 2710938701, 3724842943, 443779889,
+/// 1457684131, 2471588373, 3485492615.
+#[test]
+fn small_plans_are_made_by_hand() {
+    // 2710938701 is 1323700 times 2,048 and 1101, and 3724842943 is 3933308 times 947 and 267; 2471588373
+    // is 1206830 times 2,048 and 533, and 3485492615 is 2300655 times 1515 and 290.
+    for (n, ends) in [
+        (1, [(0, 0), (0, 0)]),
+        (2, [(1, 1), (1, 1)]),
+        (3, [(1, 0), (2, 1)]),
+        (10, [(7, 9), (9, 1)]),
+        (512, [(361, 219), (305, 163)]),
+    ] {
+        let durations = [(1101, 1368), (533, 823)];
+        let transitions = ends.into_iter().zip(durations);
+        let transitions =
+            transitions.map(|((from, to), (low, high))| transition(from, to, low, high));
+        let transitions: Vec<Transition> = transitions.collect();
+        for m in 0..=2 {
+            let plan = Plan::generate(1, n, m).unwrap();
+            assert_eq!(plan.transitions, transitions[..m], "{n} {m}");
+        }
+    }
+}
+
+/// "State 0 is start and state n − 1 final, no other mark set and all teams zero", whatever the seed.
+#[test]
+fn marks_of_made_plans_are_those_of_the_first_and_the_last_state() {
+    for seed in SEEDS {
+        for n in 1..=512 {
+            let plan = Plan::generate(seed, n, 3).unwrap();
+            let mut marks = vec![0; n];
+            marks[n - 1] = 2;
+            marks[0] += 4;
+            assert_eq!(plan.marks(), marks);
+            assert_eq!(plan.teams(), vec![0; n]);
+            assert_eq!(plan.transitions.len(), 3);
+        }
+        // One state is both.
+        assert_eq!(Plan::generate(seed, 1, 0).unwrap().marks(), [6]);
+        assert_eq!(Plan::generate(seed, 2, 0).unwrap().marks(), [4, 2]);
+        assert_eq!(Plan::generate(seed, 3, 0).unwrap().marks(), [4, 0, 2]);
+    }
+}
+
+/// "A bad n returns 4, then a transition count above 2,048 returns 5."
+#[test]
+fn generate_refuses_the_state_count_before_the_transition_count() {
+    let wide = [1 << 16, 1 << 32, (1 << 32) + 1, 1 << 63, usize::MAX];
+    for seed in SEEDS {
+        for n in [0, 513, 514, 1024].into_iter().chain(wide) {
+            for m in [0, 1, 2048, 2049].into_iter().chain(wide) {
+                let refused = Plan::generate(seed, n, m);
+                assert_eq!(refused, Err(Refusal::StateCount), "{n} {m}");
+            }
+        }
+        for m in [2049, 2050, 4096].into_iter().chain(wide) {
+            for n in [1, 2, 511, 512] {
+                let refused = Plan::generate(seed, n, m);
+                assert_eq!(refused, Err(Refusal::TransitionCount), "{n} {m}");
+            }
+        }
+        for (n, m) in [(1, 0), (1, 2048), (512, 0), (512, 2048)] {
+            assert!(Plan::generate(seed, n, m).is_ok(), "{n} {m}");
+        }
+    }
+}
+
+/// "Every generated plan is one that write and read carry through whole." Fewer transitions of the same
+/// seed are the first ones of more.
+#[test]
+fn made_plans_are_within_the_limits_and_are_read_back_whole() {
+    let sizes = [1, 2, 3, 10, 511, 512].map(|n| [0, 1, 2, 2047, 2048].map(|m| (n, m)));
+    for seed in SEEDS {
+        for (n, m) in sizes.into_iter().flatten() {
+            let plan = Plan::generate(seed, n, m).unwrap();
+            assert!(plan.within_limits(), "{seed} {n} {m}");
+            assert_eq!((plan.states.len(), plan.transitions.len()), (n, m));
+            let octets = encode(&plan);
+            assert_eq!(octets.len(), 4 + n + 5 * m);
+            assert_eq!(read_over_p1(&octets), Ok(plan.clone()));
+            assert_eq!(encode(&decode(&octets).unwrap()), octets);
+            let full = Plan::generate(seed, n, 2048).unwrap();
+            assert_eq!(plan.transitions, full.transitions[..m]);
+            // The text carries all but the final mark.
+            let text = aldebaran::encode(&plan).unwrap();
+            let imported = aldebaran::decode(text.as_bytes());
+            assert_eq!(imported, Ok(plan.stripped()));
+        }
+    }
+}
+
+/// A high may come out as 2,047: as many of them as there are draws one below 2,048 − low.
+#[test]
+fn highs_that_are_drawn_as_2047_are_open() {
+    let mut open = 0;
+    for seed in SEEDS {
+        let plan = Plan::generate(seed, 512, 2048).unwrap();
+        let draws = draws(seed, 4 * 2048);
+        for (transition, four) in plan.transitions.iter().zip(draws.chunks(4)) {
+            let span = 2048 - four[2] % 2048;
+            let is_open = four[3] % span == span - 1;
+            assert_eq!(transition.longest() == Duration::Open, is_open);
+            assert_eq!(transition.high == 2047, is_open);
+            open += u32::from(is_open);
+        }
+    }
+    // On average one high in 250 or so is.
+    assert!((20..400).contains(&open), "{open}");
+}
+
+/// The words and the plans that are proved, by this calculator.
+#[test]
+fn made_plans_are_those_of_the_proved_vectors() {
+    let vectors = seeds::vectors();
+    for (seed, expected) in vectors.words {
+        assert_eq!(draws(seed, WORDS), expected, "words of seed {seed}");
+        assert_eq!(words(seed, 70)[55..], expected, "words of seed {seed}");
+    }
+    for ((seed, n, m), expected) in vectors.plans {
+        let octets = encode(&Plan::generate(seed, n, m).unwrap());
+        assert_eq!(adler32(&octets), expected, "{seed} {n} {m}");
+    }
+}
+
+/// A vector that is missing, off its form or there twice is found, and so is a wrong checksum: the one
+/// of "Wikipedia" is known.
+#[test]
+fn vectors_are_parsed_and_none_may_be_missing() {
+    assert_eq!(adler32(b"Wikipedia"), 0x11E6_0398);
+    assert_eq!((adler32(b""), adler32(&[0xFF; 6000])), (1, 0xA497_59EA));
+
+    let words_of = |seed: &str| {
+        let words: Vec<String> = (1..=15).map(|word| word.to_string()).collect();
+        format!(
+            "words-{seed} : tabulate 15 (draw {seed}) ≡ {} ∷ []",
+            words.join(" ∷ ")
+        )
+    };
+    let plan_of = |n: usize, m: usize| {
+        format!("plan-9-{n}-{m} : adler32 (image (generatedGraph 9 {n} {m})) ≡ 77")
+    };
+    let mut lines = vec!["-- a comment : and no fact".to_string()];
+    lines.extend(["0", "1", "305419896", "4294967295"].map(words_of));
+    lines.push("words-0 = refl".to_string());
+    for n in [1, 2, 512] {
+        lines.extend([0, 1, 2048].map(|m| plan_of(n, m)));
+    }
+    let whole = parse(&lines.join("\n")).unwrap();
+    assert_eq!((whole.words.len(), whole.plans.len()), (4, 9));
+    assert_eq!(whole.words[&1], (1..=15).collect::<Vec<u64>>());
+    assert_eq!(whole.plans[&(9, 512, 2048)], 77);
+    assert_eq!(missing(&whole), None);
+    assert!(missing(&Vectors::default()).is_some());
+
+    for (place, line) in lines.iter().enumerate() {
+        if !line.contains('≡') {
+            continue;
+        }
+        let mut fewer = lines.clone();
+        fewer.remove(place);
+        assert!(
+            missing(&parse(&fewer.join("\n")).unwrap()).is_some(),
+            "{line}"
+        );
+        fewer.extend([line.clone(), line.clone()]);
+        assert!(parse(&fewer.join("\n")).is_err(), "twice: {line}");
+    }
+    for wrong in [
+        words_of("1").replace("15 ∷ []", "[]"),
+        words_of("1").replace("15 ∷ []", "15 ∷ 16 ∷ []"),
+        words_of("1").replace("tabulate 15", "tabulate 14"),
+        words_of("1").replace("draw 1", "draw 2"),
+        words_of("1").replace(" ∷ []", ""),
+        words_of("4294967296"),
+        plan_of(2, 1).replace("Graph 9", "Graph 8"),
+        plan_of(2, 1).replace("9 2 1)", "9 1 2)"),
+        plan_of(2, 1).replace("77", "4294967296"),
+        plan_of(2, 1).replace("plan-9-2-1", "plan-9-2"),
+        plan_of(2, 1).replace("adler32", "crc32"),
+    ] {
+        assert!(parse(&wrong).is_err(), "{wrong}");
+    }
 }

@@ -147,6 +147,7 @@ fn the_measure_sees_a_large_frame() {
 #[test]
 fn every_call_stays_within_the_limit() {
     let fresh = most(|mut lent, _| lent.fresh(MAX_STATES));
+    let generate = most(|mut lent, _| lent.generate(1, MAX_STATES, MAX_TRANSITIONS));
     let mark = most(|mut lent, _| lent.mark(0, 7));
     let team = most(|mut lent, _| lent.team(0, 31));
     let unjoin = most(|mut lent, _| lent.unjoin(0));
@@ -177,6 +178,7 @@ fn every_call_stays_within_the_limit() {
     #[cfg_attr(not(feature = "quotations"), allow(unused_mut))]
     let mut depths = vec![
         ("fresh", fresh),
+        ("generate", generate),
         ("mark", mark),
         ("team", team),
         ("join", join),

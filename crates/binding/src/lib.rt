@@ -5,7 +5,7 @@
 // these or for a walk are 11. One call takes no plan: an image in, its four figures out. Another takes a list of calls, and answers 254 where the slices are none.
 ghost use mathlib.Core.Path.{_≡_};
 ghost use Rattle.arrays.specs.Tables.{transition};
-ghost use Rattle.edits.specs.Lent.{LentFresh, LentHeld, LentTurn};
+ghost use Rattle.edits.specs.Lent.{LentFresh, LentGenerate, LentHeld, LentTurn};
 ghost use Rattle.graph.specs.declared.Asked.the-variants.{One, LeastCountFor, GreatestCountFor};
 ghost use Rattle.graph.specs.declared.Which.the-variants.{LeastDelay, GreatestDelay, LeastCount, GreatestCount};
 ghost use Rattle.lent.specs.declared.Content.the-variants.{Image, Record, Text};
@@ -22,9 +22,9 @@ use rules::Format;
 // The version of the archive: 10,000 times the first number, 100 times the second, and the third.
 #[no_mangle]
 pub extern "C" fn callplan_lent_version() -> u32
-    ensures { λ r. ⌜ r ≡ 701 ⌝ }
+    ensures { λ r. ⌜ r ≡ 800 ⌝ }
 {
-    701
+    800
 }
 
 // A fresh plan with n states.
@@ -40,6 +40,23 @@ pub extern "C" fn callplan_lent_fresh(
         (slices (now (counts .exit)) (now (states .exit)) (now (fields .exit))) r ⌝ }
 {
     edits::fresh(n, counts, states, fields)
+}
+
+// The plan of n states and m transitions that a seed makes.
+#[no_mangle]
+pub extern "C" fn callplan_lent_generate(
+    seed: u32,
+    n: usize,
+    m: usize,
+    counts: &mut [usize],
+    states: &mut [u8],
+    fields: &mut [u16],
+) -> u32
+    ensures { λ r. ⌜ LentGenerate seed n m
+        (slices (now (counts .entry)) (now (states .entry)) (now (fields .entry)))
+        (slices (now (counts .exit)) (now (states .exit)) (now (fields .exit))) r ⌝ }
+{
+    edits::generate(seed, n, m, counts, states, fields)
 }
 
 // The plan that an image holds, whatever the slices held before.

@@ -1,5 +1,5 @@
--- What octets hold is put in the other form: the octets' grounds refuse first, and past them the plan is theirs and within the limits, so that the other call's
--- rows past 0 decide. Assumes nothing.
+-- What octets hold, or a seed makes, is put in the other form: the octets' or the numbers' grounds refuse first, and past them the plan is theirs and within the limits, so that the other
+-- call's rows past 0 decide. Assumes nothing.
 use mathlib.Core.Bool.{true}
 use mathlib.Core.List.{List, _++_}
 use mathlib.Core.Path.{_≡_, refl, sym, ap, _∙_}
@@ -26,7 +26,9 @@ use Rattle.plan.specs.declared.Edited.{Edited}
 use Rattle.plan.specs.declared.Plan.{Plan}
 use Rattle.plan.specs.Promise.{Edit, Held}
 use Rattle.plan.specs.View.{view, noPlan}
-use Rattle.conversion.specs.Rules.{pastLimits, imageRule, textRule}
+use Rattle.generated.specs.Generated.{generatedGraph, generateRows, generateRule}
+use Rattle.generated.proofs.Limits.{rule-within}
+use Rattle.conversion.specs.Rules.{pastLimits, imageRule, textRule, seedRule}
 
 -- ---- octets that hold a plan by their rows, and a call that puts some of it
 
@@ -55,6 +57,16 @@ module _ (rows last : List Row) (g : Graph) (p : Plan) (e : Edited) (x : Edit p 
     puts : (n : ℕ) {octets before after : List ℕ} {w : Written} → Write octets (byTable last n) before after w → Write octets (byTable (rows ++ last) n) before after w
     puts n y = rw (after-none rows last n none) y
 
+-- ---- its image written, where the plan is within the limits
+
+module _ (rows : List Row) (g : Graph) (p : Plan) (e : Edited) (x : Edit p (byTable rows g) e) (before : List ℕ) where
+  image-of : e .answer ≡ Answer.Accepted → within g ≡ true → (after : List ℕ) (w : Written) → Write (image (view (e .plan))) (writeRule (view (e .plan)) before) before after w
+      → Write (image g) (byTable (rows ++ pastLimits (writeRows g before)) (imageLength (states g) (count g))) before after w
+  unfolding writeRule
+  image-of a i after w z =
+      let z′ : Write (image g) (writeRule g before) before after w = rw (← holds rows (pastLimits (writeRows g before)) g p e x a) z in
+      puts rows (pastLimits (writeRows g before)) g p e x a (imageLength (states g) (count g)) (rw i at z′)
+
 -- ---- an image for a text
 
 module _ (text before : List ℕ) (f : Edited) (y : Edit noPlan (freshRule 1) f) (e : Edited) (x : Edit (f .plan) (step (view (f .plan)) (import text)) e) where
@@ -71,13 +83,10 @@ module _ (text before : List ℕ) (f : Edited) (y : Edit noPlan (freshRule 1) f)
 
   pub image-put : e .answer ≡ Answer.Accepted → (after : List ℕ) (w : Written) → Write (image (view (e .plan))) (writeRule (view (e .plan)) before) before after w
       → Write (image (graphInText text)) (imageRule text before) before after w
-  unfolding imageRule writeRule importText
-  image-put a after w z =
+  unfolding imageRule importText
+  image-put a =
       let g : Graph = graphInText text in
-      let h = holds (textRows text) (pastLimits (writeRows g before)) g (f .plan) e alone a in
-      let i : within g ≡ true = import-within text g (accepts (textRows text) (pastLimits (writeRows g before)) g (f .plan) e alone a) in
-      let z′ : Write (image g) (writeRule g before) before after w = rw (← h) z in
-      puts (textRows text) (pastLimits (writeRows g before)) g (f .plan) e alone a (imageLength (states g) (count g)) (rw i at z′)
+      image-of (textRows text) g (f .plan) e alone before a (import-within text g (accepts (textRows text) (pastLimits (writeRows g before)) g (f .plan) e alone a))
 
 -- ---- a text for an image
 
@@ -99,3 +108,21 @@ module _ (octets before : List ℕ) (e : Edited) (x : Held octets e) where
       let i : within g ≡ true = read-within octets g (accepts (imageRows octets) (pastLimits (exportRows g before)) g noPlan e read a) in
       let z′ : Write (exportText g) (exportRule g before) before after w = rw (← h) z in
       puts (imageRows octets) (pastLimits (exportRows g before)) g noPlan e read a (length (exportText g)) (rw i at z′)
+
+-- ---- an image for a seed
+
+module _ (seed n m : ℕ) (before : List ℕ) (e : Edited) (x : Edit noPlan (generateRule seed n m) e) where
+  made : Edit noPlan (byTable (generateRows n m) (generatedGraph seed n m)) e
+  unfolding generateRule
+  made = x
+
+  pub seed-refused : (k : Refusal) → e .answer ≡ Answer.Refused k → Write (image (generatedGraph seed n m)) (seedRule seed n m before) before before (Written.Refused k)
+  unfolding seedRule
+  seed-refused k a = stays (generateRows n m) (pastLimits (writeRows (generatedGraph seed n m) before)) (generatedGraph seed n m) noPlan e made k a _ before _
+
+  pub seed-put : e .answer ≡ Answer.Accepted → (after : List ℕ) (w : Written) → Write (image (view (e .plan))) (writeRule (view (e .plan)) before) before after w
+      → Write (image (generatedGraph seed n m)) (seedRule seed n m before) before after w
+  unfolding seedRule generateRule
+  seed-put a =
+      let g : Graph = generatedGraph seed n m in
+      image-of (generateRows n m) g noPlan e made before a (rule-within seed n m g (accepts (generateRows n m) (pastLimits (writeRows g before)) g noPlan e made a))

@@ -1,8 +1,9 @@
-// A plan from one form to the other: the image of the plan that a text holds, and the text of the plan that an image holds.
+// A plan from one form to the other: the image of the plan that a text holds or that a seed makes, and the text of the plan that an image holds.
+ghost use Rattle.generated.specs.Generated.{generatedGraph};
 ghost use Rattle.rules.specs.Aldebaran.{graphInText, exportText};
 ghost use Rattle.rules.specs.Image.{image, graphIn};
 ghost use Rattle.rules.specs.Quotations.{Write};
-ghost use Rattle.conversion.specs.Rules.{imageRule, textRule};
+ghost use Rattle.conversion.specs.Rules.{imageRule, textRule, seedRule};
 use rules::Answer;
 use rules::Format;
 use rules::Written;
@@ -37,5 +38,18 @@ pub fn to_text(image: &[u8], buffer: &mut [u8]) -> Written
     match answer {
         Answer::Accepted => plan::export(held.plan, buffer),
         Answer::Refused(ground) => Written::Refused(ground),
+    }
+}
+
+// Puts the image of the plan of n states and m transitions that a seed makes at the front of the buffer, and returns its length.
+pub fn of_seed(seed: u32, n: usize, m: usize, buffer: &mut [u8]) -> Written
+    ensures { λ r. ⌜ Write (image (generatedGraph seed n m)) (seedRule seed n m (now (buffer .entry)))
+        (now (buffer .entry)) (now (buffer .exit)) r ⌝ }
+{
+    let made = generation::generate(seed, n, m);
+    let answer = made.answer;
+    match answer {
+        Answer::Accepted => plan::write(made.plan, buffer),
+        Answer::Refused(refusal) => Written::Refused(refusal),
     }
 }

@@ -9,6 +9,7 @@ use borrow.Author.Tests.{ltb-false}
 use native.Mathlib.Omega.{arith}
 use lib.ListN.{length, take, drop, length-append, length-drop}
 use lib.Seq.{length-take-le, drop-drop, take-at, drop-at}
+use Rattle.generated.specs.Generated.{generateRule}
 use Rattle.graph.specs.declared.Asked.{Asked}
 use Rattle.graph.specs.declared.Which.{Which}
 use Rattle.graph.specs.declared.Which.the-variants.{LeastDelay, GreatestDelay, LeastCount, GreatestCount}
@@ -56,6 +57,7 @@ use Rattle.demands.proofs.Demands.{demand-1, demand-2, demand-3}
 pub published : Calculator
 published = record {
   freshes = λ n e. Edit noPlan (freshRule n) e;
+  generates = λ s n m e. Edit noPlan (generateRule s n m) e;
   helds = λ octets e. Edit noPlan (readImage octets) e;
   edits = λ p call e. Edit p (step (view p) call) e;
   writes = λ p before after w. Write (image (view p)) (writeRule (view p) before) before after w;
@@ -68,7 +70,7 @@ published = record {
 
 pub published-keeps : Promises published
 unfolding published
-published-keeps = record { freshes = λ x. x; helds = λ x. x; edits = λ x. x; writes = λ x. x; exports = λ x. x; records = λ x. x; quotes = λ x. x; quotes-all = λ x. x; quotes-image = λ x. x }
+published-keeps = record { freshes = λ x. x; generates = λ x. x; helds = λ x. x; edits = λ x. x; writes = λ x. x; exports = λ x. x; records = λ x. x; quotes = λ x. x; quotes-all = λ x. x; quotes-image = λ x. x }
 
 -- ---- edits
 
@@ -291,6 +293,7 @@ pub published-answers : Answers published
 unfolding published
 published-answers = record {
   freshes = λ n. edit-of noPlan (freshRule n);
+  generates = λ s n m. edit-of noPlan (generateRule s n m);
   helds = λ octets. edit-of noPlan (readImage octets);
   edits = λ p call. edit-of p (step (view p) call);
   writes = λ p before. write-of (image (view p)) before (writeRule (view p) before);

@@ -10,6 +10,7 @@ use mathlib.Core.Path.{_≡_, refl, sym, ap, _∙_, subst}
 use Prim.Native.Nat.{ℕ}
 use borrow.Author.Tests.{le-ltb}
 use lib.ListN.{length}
+use Rattle.generated.specs.Generated.{generatedGraph, generateRows, generateRule}
 use Rattle.graph.specs.declared.Asked.{Asked}
 use Rattle.graph.specs.Compute.{figureFor}
 use Rattle.graph.specs.Graph.{Graph, states}
@@ -41,7 +42,7 @@ use Rattle.plan.proofs.Promises.{no-plan, refused-keeps, fresh-run, accepted-wr
 use Rattle.demands.specs.Calculator.{Calculator, Promises, Answers, Listed}
 use Rattle.demands.specs.Calculator.{none as no-call, more as one-more}
 use Rattle.demands.specs.Demands.{Called, Given, Lent, Made, Demand1, Demand2, Demand3}
-use Rattle.demands.specs.Demands.{fresh, held, edit, write, export, recording, quote, all-four, all-of-image}
+use Rattle.demands.specs.Demands.{fresh, generate, held, edit, write, export, recording, quote, all-four, all-of-image}
 use Rattle.demands.proofs.Agreement.{report-figures}
 
 -- a refused call that fills a lent buffer leaves it
@@ -49,7 +50,7 @@ kept-buffer : {octets before after : List ℕ} {o : Result ℕ} {w : Written} (k
 kept-buffer {octets} {before} {after} {o} k x e = x .buffer ∙ ap (written octets before) (refused-as o k (sym e ∙ ap answerOf (x .answer)))
 
 -- a quotation that answers that it was accepted quotes
-was-quoted : (q : Quotation) → saidQuotation q ≡ accepted tt → (x : Quote) × (q ≡ Quoted x)
+pub was-quoted : (q : Quotation) → saidQuotation q ≡ accepted tt → (x : Quote) × (q ≡ Quoted x)
 was-quoted (Quoted x) e = (x, refl)
 was-quoted (Refused r) e = absurd (never tt r e)
 
@@ -62,8 +63,9 @@ module _ (c : Calculator) (keeps : Promises c) where
   -- ---- demand 1
 
   by-rows : {rows : List Row} {a : Result (Unit {0})} → Called c rows a → a ≡ first rows
-  unfolding freshRule readImage writeRule exportRule recordRule quoteRule allRule heldRule
+  unfolding freshRule generateRule readImage writeRule exportRule recordRule quoteRule allRule heldRule
   by-rows (fresh {n} x) = keeps .freshes x .answer ∙ answer-first (freshRows n) (freshGraph n)
+  by-rows (generate {s} {n} {m} x) = keeps .generates x .answer ∙ answer-first (generateRows n m) (generatedGraph s n m)
   by-rows (held {octets} x) = keeps .helds x .answer ∙ answer-first (imageRows octets) (graphIn octets)
   by-rows (edit {p} {call} x) = keeps .edits x .answer ∙ answer-first (rowsOf (view p) call) (effectOf (view p) call)
   by-rows (write {p} {before} x) = ap answerOf (keeps .writes x .answer) ∙ answer-first (writeRows (view p) before) _
@@ -92,6 +94,8 @@ module _ (c : Calculator) (keeps : Promises c) where
 
   none-made : {e : Edited} (k : Refusal) → Made c e → said (e .answer) ≡ refused k → e .plan ≡ noPlan
   none-made {e} k (fresh {n} x) r = refused-keeps noPlan (freshRule n) e k (keeps .freshes x) (refused-as (freshRule n) k (sym r ∙ keeps .freshes x .answer))
+  none-made {e} k (generate {s} {n} {m} x) r =
+      refused-keeps noPlan (generateRule s n m) e k (keeps .generates x) (refused-as (generateRule s n m) k (sym r ∙ keeps .generates x .answer))
   none-made {e} k (held {octets} x) r = refused-keeps noPlan (readImage octets) e k (keeps .helds x) (refused-as (readImage octets) k (sym r ∙ keeps .helds x .answer))
 
   stays : {before after : List ℕ} {a : Result (Unit {0})} (k : Refusal) → Lent c before after a → a ≡ refused k → after ≡ before
@@ -152,7 +156,7 @@ module _ (c : Calculator) (keeps : Promises c) where
 
   -- ---- demand 3
 
-  obeyed : {p q : Plan} {calls : List Call} {answers : List Answer} → Listed c p calls answers q → Obeyed p calls answers q
+  pub obeyed : {p q : Plan} {calls : List Call} {answers : List Answer} → Listed c p calls answers q → Obeyed p calls answers q
   obeyed no-call = none
   obeyed (one-more e x rest) = more e (keeps .edits x) (obeyed rest)
 

@@ -14,3 +14,5 @@ pub mod Record
 pub mod Exchange
 -- One pass over the image.
 pub mod OnePass
+-- Reproducible test plans.
+pub mod Generate

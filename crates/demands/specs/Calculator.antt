@@ -1,10 +1,12 @@
 -- A calculator as its callers see it, and what is published of it.
 --
 -- What ties `Promises` to the code: each of its fields is, word for word, the `ensures` of public functions, all without a `requires`: of plan/src/lib.rt
--- `fresh`, `held`, `mark`, `team`, `join`, `unjoin`, `replace` (read and import), `write` and `export`, of quotation/src/lib.rt `record`, `quote` with the six that hand on to it, `all` and `held`.
+-- `fresh`, `held`, `mark`, `team`, `join`, `unjoin`, `replace` (read and import), `write` and `export`, of generation/src/lib.rt `generate`, of quotation/src/lib.rt `record`, `quote` with
+-- the six that hand on to it, `all` and `held`.
 -- That each function meets its `ensures` is what the check of its crate proves; here it is the hypothesis. Assumes nothing.
 use mathlib.Core.List.{List, [], _∷_}
 use Prim.Native.Nat.{ℕ}
+use Rattle.generated.specs.Generated.{generateRule}
 use Rattle.graph.specs.declared.Asked.{Asked}
 use Rattle.rules.specs.declared.Answer.{Answer}
 use Rattle.rules.specs.declared.Quotation.{Quotation}
@@ -21,10 +23,12 @@ use Rattle.plan.specs.Promise.{Edit}
 use Rattle.plan.specs.View.{view, noPlan}
 
 -- a calculator: what comes back of what it is given. Lent places are seen as they stand before the call and after it. Each call is a relation, so
--- that nothing is taken for granted: neither that something comes back, nor that it is always the same. Three calls are ours and not 01's: `helds` makes
--- the plan that an image holds, from nothing; `quotes-all` quotes all four figures of a plan, and `quotes-image` those of the plan that an image holds
+-- that nothing is taken for granted: neither that something comes back, nor that it is always the same. `generates` is 02's E7: a seed, n and m. Three calls are
+-- ours and not 01's: `helds` makes the plan that an image holds, from nothing; `quotes-all` quotes all four figures of a plan, and `quotes-image` those of the
+-- plan that an image holds
 pub record Calculator : Type 1 where
   pub freshes : ℕ → Edited → Type 0
+  pub generates : ℕ → ℕ → ℕ → Edited → Type 0
   pub helds : List ℕ → Edited → Type 0
   pub edits : Plan → Call → Edited → Type 0
   pub writes : Plan → List ℕ → List ℕ → Written → Type 0
@@ -34,9 +38,10 @@ pub record Calculator : Type 1 where
   pub quotes-all : Plan → List ℕ → List ℕ → Quotations → Type 0
   pub quotes-image : List ℕ → List ℕ → List ℕ → Quotations → Type 0
 
--- it keeps what is published: the `ensures` of each public call of plan and quotation, none of which has a `requires`
+-- it keeps what is published: the `ensures` of each public call of plan, generation and quotation, none of which has a `requires`
 pub record Promises (c : Calculator) : Type 0 where
   pub freshes : {n : ℕ} {e : Edited} → c .freshes n e → Edit noPlan (freshRule n) e
+  pub generates : {s n m : ℕ} {e : Edited} → c .generates s n m e → Edit noPlan (generateRule s n m) e
   pub helds : {octets : List ℕ} {e : Edited} → c .helds octets e → Edit noPlan (readImage octets) e
   pub edits : {p : Plan} {call : Call} {e : Edited} → c .edits p call e → Edit p (step (view p) call) e
   pub writes : {p : Plan} {before after : List ℕ} {w : Written} → c .writes p before after w
@@ -53,6 +58,7 @@ pub record Promises (c : Calculator) : Type 0 where
 -- it answers whatever it is given. (Of the code the check of each function says so, for all that a machine can hold.)
 pub record Answers (c : Calculator) : Type 0 where
   pub freshes : (n : ℕ) → (e : Edited) × c .freshes n e
+  pub generates : (s n m : ℕ) → (e : Edited) × c .generates s n m e
   pub helds : (octets : List ℕ) → (e : Edited) × c .helds octets e
   pub edits : (p : Plan) (call : Call) → (e : Edited) × c .edits p call e
   pub writes : (p : Plan) (before : List ℕ) → (after : List ℕ) × (w : Written) × c .writes p before after w

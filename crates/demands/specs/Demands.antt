@@ -11,6 +11,7 @@ use mathlib.Core.Path.{_≡_}
 use Prim.Native.Nat.{ℕ, _≤_, _<_}
 use lib.ListN.{length, take, drop}
 use Rattle.field.specs.Field.{Octets}
+use Rattle.generated.specs.Generated.{generateRows}
 use Rattle.graph.specs.declared.Asked.{Asked}
 use Rattle.graph.specs.declared.Asked.the-variants.{One}
 use Rattle.graph.specs.declared.Which.the-variants.{LeastDelay, GreatestDelay, LeastCount, GreatestCount}
@@ -48,6 +49,7 @@ module _ (c : Calculator) where
   -- a call of the calculator: the table's rows for it, and what it answered. Every public call has its rows
   pub data Called : List Row → Result (Unit {0}) → Type 0 where
     fresh : {n : ℕ} {e : Edited} → c .freshes n e → Called (freshRows n) (said (e .answer))
+    generate : {s n m : ℕ} {e : Edited} → c .generates s n m e → Called (generateRows n m) (said (e .answer))
     held : {octets : List ℕ} {e : Edited} → c .helds octets e → Called (imageRows octets) (said (e .answer))
     edit : {p : Plan} {call : Call} {e : Edited} → c .edits p call e → Called (rowsOf (view p) call) (said (e .answer))
     write : {p : Plan} {before after : List ℕ} {w : Written} → c .writes p before after w → Called (writeRows (view p) before) (answerOf (wrote w))
@@ -83,6 +85,7 @@ module _ (c : Calculator) where
   -- one that makes a plan from nothing, and what came back
   pub data Made : Edited → Type 0 where
     fresh : {n : ℕ} {e : Edited} → c .freshes n e → Made e
+    generate : {s n m : ℕ} {e : Edited} → c .generates s n m e → Made e
     held : {octets : List ℕ} {e : Edited} → c .helds octets e → Made e
 
   -- DEMAND 1

@@ -5,3 +5,4 @@ pub mod Record
 -- Document 02.
 pub mod Exchange
 pub mod OnePass
+pub mod Generate

@@ -4,6 +4,7 @@ use mathlib.Core.List.{List}
 use mathlib.Core.Path.{_≡_}
 use Prim.Native.Nat.{ℕ}
 use Rattle.graph.specs.Graph.{Graph}
+use Rattle.generated.specs.Generated.{generateRule}
 use Rattle.rules.specs.Refusal.{Result, accepted, refused, code}
 use Rattle.rules.specs.Image.{readImage}
 use Rattle.rules.specs.Calls.{Call, step}
@@ -26,9 +27,12 @@ pub record LentEdit (p : Plan) (before after : Slices) (o : Result Graph) (r : �
   pub plan : hasRoom before ≡ true → view (planIn after) ≡ next (view (planIn before)) o
   pub whole : hasRoom before ≡ true → after ≡ nextSlices p before o
 
--- a call that makes a plan from nothing: a fresh one, or the one that an image holds
+-- a call that makes a plan from nothing: a fresh one, a test plan, or the one that an image holds
 abbrev pub LentFresh : ℕ → Slices → Slices → ℕ → Type 0
 LentFresh n before after r = LentEdit noPlan before after (freshRule n) r
+
+abbrev pub LentGenerate : ℕ → ℕ → ℕ → Slices → Slices → ℕ → Type 0
+LentGenerate seed n m before after r = LentEdit noPlan before after (generateRule seed n m) r
 
 abbrev pub LentHeld : List ℕ → Slices → Slices → ℕ → Type 0
 LentHeld image before after r = LentEdit noPlan before after (readImage image) r

@@ -3,7 +3,7 @@
 ghost use Rattle.arrays.specs.Tables.{transition};
 ghost use Rattle.rules.specs.Calls.{mark, team, join, unjoin, replacing};
 ghost use Rattle.slices.specs.Lent.{slices};
-ghost use Rattle.edits.specs.Lent.{LentFresh, LentHeld, LentTurn};
+ghost use Rattle.edits.specs.Lent.{LentFresh, LentGenerate, LentHeld, LentTurn};
 use rules::Format;
 
 // A fresh plan with n states.
@@ -16,6 +16,25 @@ pub fn fresh(n: usize, counts: &mut [usize], states: &mut [u8], fields: &mut [u1
         return 255;
     }
     slices::finish(plan::fresh(n), counts, states, fields)
+}
+
+// The plan of n states and m transitions that a seed makes.
+pub fn generate(
+    seed: u32,
+    n: usize,
+    m: usize,
+    counts: &mut [usize],
+    states: &mut [u8],
+    fields: &mut [u16],
+) -> u32
+    ensures { λ r. ⌜ LentGenerate seed n m
+        (slices (now (counts .entry)) (now (states .entry)) (now (fields .entry)))
+        (slices (now (counts .exit)) (now (states .exit)) (now (fields .exit))) r ⌝ }
+{
+    if !slices::has_room(counts.len(), states.len(), fields.len()) {
+        return 255;
+    }
+    slices::finish(generation::generate(seed, n, m), counts, states, fields)
 }
 
 // The plan that an image holds, whatever the slices held before.

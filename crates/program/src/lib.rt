@@ -11,11 +11,13 @@ use libc::STDOUT_FILENO;
 use rules::Refusal;
 use rules::Written;
 
-// How a program ends: its answer printed; refused, where the answer is an image or a text; or its input not read or its output not written.
+// How a program ends: its answer printed; refused, where the answer is an image or a text; its input not read or its output not written; or its arguments none
+// of those that it takes, and then the launcher says how it is used.
 pub enum Status {
     Answered,
     Refused,
     Faulty,
+    Misused,
 }
 
 // The launcher's descriptor for the status. Where nobody launched the program it is closed, and the status is lost.
@@ -27,6 +29,7 @@ pub fn end(status: Status) {
         Status::Answered => io::write_all(STATUS_FILENO, b"0"),
         Status::Refused => io::write_all(STATUS_FILENO, b"1"),
         Status::Faulty => io::write_all(STATUS_FILENO, b"2"),
+        Status::Misused => io::write_all(STATUS_FILENO, b"3"),
     }
     ;
 }

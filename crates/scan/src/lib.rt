@@ -85,7 +85,7 @@ fn more(value: usize, digit: u8) -> usize
 }
 
 // The digits from a place on: the number that they stand for, and where they end.
-fn digits(text: &[u8], at: usize) -> Taken
+pub fn digits(text: &[u8], at: usize) -> Taken
     requires { ⌜ at ≤ length (now text) ⌝ }
     ensures { λ r. ⌜ DigitsAt (now (text .entry)) at r ⌝ }
 {

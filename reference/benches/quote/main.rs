@@ -15,11 +15,11 @@ use reference::image::encode;
 #[cfg(feature = "quotations")]
 use reference::proved::{self, LentPlan, ACCEPTED, OUT, WALKS};
 use reference::rng::Case;
-#[cfg(feature = "quotations")]
-use reference::Figure;
 use reference::MAX_STATES;
+#[cfg(feature = "quotations")]
+use reference::{Figure, Plan};
 
-use shapes::SHAPES;
+use shapes::{LOOPS_SEED, SHAPES};
 
 const SEED: u64 = 0x0000_BE7C;
 /// The sizes: a ward's, a hospital's, and the largest.
@@ -43,7 +43,9 @@ fn main() {
         "ones from each to the next. Open rings are those to the final state: the greatest delay"
     );
     println!("is ENDLESS, the greatest count a number. Where calls begin answered, starts are final: one in");
-    println!("a ring that is the one route, or many. Growth is from the second size to the third.");
+    println!("a ring that is the one route, or many. The plan with loops is the one that seed {LOOPS_SEED} makes,");
+    println!("with counted states and teams. Growth is from the second size to the third.");
+    assert_same_plans();
     print_table(time_proved, time_baseline);
     println!();
     println!("The least and the greatest count for a class, team {TEAM}: the proved library makes a plan");
@@ -87,6 +89,19 @@ fn print_table(proved: fn(&[u8]) -> Option<f64>, baseline: fn(&[u8]) -> f64) {
         );
     }
 }
+
+/// The library makes the same plans with loops from their seed.
+#[cfg(feature = "quotations")]
+fn assert_same_plans() {
+    for (n, m) in SIZES {
+        let mut lent = LentPlan::zeroed();
+        assert_eq!(lent.generate(LOOPS_SEED, n, m), ACCEPTED);
+        assert!(Ok(lent.plan()) == Plan::generate(LOOPS_SEED, n, m));
+    }
+}
+
+#[cfg(not(feature = "quotations"))]
+fn assert_same_plans() {}
 
 impl Times {
     fn ratio(&self) -> Option<f64> {

@@ -3,57 +3,75 @@
 use reference::rng::Rng;
 use reference::{Plan, Transition, MAX_CLOSED_HIGH, OPEN_HIGH};
 
+use Made::{Drawn, Seeded};
+
+/// The seed of the plan with loops: the least one whose plans, of every size that is timed or tested, lead
+/// from the start to the answer and round a loop.
+pub const LOOPS_SEED: u32 = 3;
+
 pub struct Shape {
     pub name: &'static str,
-    /// A plan of `n` states, n a multiple of 16, and `m` transitions, at least 2 for each state.
-    pub plan: fn(&mut Rng, usize, usize) -> Plan,
+    /// A plan of `n` states, n a multiple of 16, and `m` transitions, at least 2 for each state. Without
+    /// random numbers it is made from a seed.
+    plan: Made,
+}
+
+enum Made {
+    Drawn(fn(&mut Rng, usize, usize) -> Plan),
+    Seeded(fn(usize, usize) -> Plan),
 }
 
 pub const SHAPES: [Shape; 9] = [
     Shape {
         name: "chain",
-        plan: chain,
+        plan: Drawn(chain),
     },
     Shape {
         name: "layers",
-        plan: layers,
+        plan: Drawn(layers),
     },
     Shape {
         name: "random acyclic",
-        plan: acyclic,
+        plan: Drawn(acyclic),
     },
     Shape {
         name: "random with loops",
-        plan: loops,
+        plan: Seeded(loops),
     },
     Shape {
         name: "many starts, finals",
-        plan: many,
+        plan: Drawn(many),
     },
     Shape {
         name: "cheap chain, shortcuts",
-        plan: shortcuts,
+        plan: Drawn(shortcuts),
     },
     Shape {
         name: "acyclic, open rings",
-        plan: open_rings,
+        plan: Drawn(open_rings),
     },
     Shape {
         name: "ring, begun answered",
-        plan: answered_ring,
+        plan: Drawn(answered_ring),
     },
     Shape {
         name: "many, begun answered",
-        plan: answered_many,
+        plan: Drawn(answered_many),
     },
 ];
 
 impl Shape {
-    /// The shape's plan with its transitions in a random order.
+    /// The shape's plan with its transitions in a random order. Those that a seed makes are, as they stand.
     pub fn draw(&self, rng: &mut Rng, n: usize, m: usize) -> Plan {
-        let mut plan = (self.plan)(rng, n, m);
+        let plan = match self.plan {
+            Drawn(plan) => {
+                let mut plan = plan(rng, n, m);
+                rng.shuffle(&mut plan.transitions);
+                plan
+            }
+            Seeded(plan) => plan(n, m),
+        };
         assert_eq!((plan.states.len(), plan.transitions.len()), (n, m));
-        rng.shuffle(&mut plan.transitions);
         plan
     }
 }
@@ -92,10 +110,15 @@ fn plan(
         from = if from + 1 < n { from + 1 } else { 0 };
     }
     let mut plan = Plan::of(marks.collect(), transitions);
+    give_teams(&mut plan);
+    plan
+}
+
+/// Gives the states every team in turn.
+fn give_teams(plan: &mut Plan) {
     for (number, state) in plan.states.iter_mut().enumerate() {
         state.team = (number % 32) as u8;
     }
-    plan
 }
 
 /// A chain has n - 1 transitions by nature. The rest are further ones between its neighbours.
@@ -169,16 +192,15 @@ fn answered_many(rng: &mut Rng, n: usize, m: usize) -> Plan {
     )
 }
 
-/// From each state to any.
-fn loops(rng: &mut Rng, n: usize, m: usize) -> Plan {
-    let next = |rng: &mut Rng, _: usize| Some(rng.below(n));
-    plan(
-        rng,
-        (n, m),
-        |state| state == 0,
-        |state| state == n - 1,
-        next,
-    )
+/// From any state to any: the plan that a seed makes (document 02, E7), every other state counted and
+/// teams in turn as in the others.
+fn loops(n: usize, m: usize) -> Plan {
+    let mut plan = Plan::generate(LOOPS_SEED, n, m).expect("the counts are within the limits");
+    for state in plan.states.iter_mut().skip(1).step_by(2) {
+        state.marks += 1;
+    }
+    give_teams(&mut plan);
+    plan
 }
 
 /// From each state to later ones. One state in four is a start and one in four final.

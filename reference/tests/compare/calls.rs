@@ -13,8 +13,8 @@ const SEED: u64 = 0x0001_CA11;
 const LISTS: u64 = 24_000;
 
 /// The calls that a list may hold.
-pub const CALLS: [&str; 9] = [
-    "fresh", "mark", "team", "join", "unjoin", "read", "import", "write", "export",
+pub const CALLS: [&str; 10] = [
+    "fresh", "generate", "mark", "team", "join", "unjoin", "read", "import", "write", "export",
 ];
 
 #[test]

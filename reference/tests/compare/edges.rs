@@ -207,9 +207,11 @@ fn teams() {
         assert_eq!(pair.run(&Call::Mark(1, 7 - marks)), ACCEPTED);
         assert_eq!(pair.plan().teams(), kept);
     }
-    // A fresh plan in its place has none, and so has one that a version 1 image or a text puts there.
+    // A fresh plan in its place has none, and so has one that a seed makes or that a version 1 image or a
+    // text puts there.
     for call in [
         Call::Fresh(2),
+        Call::Generate(7, 2, 2),
         Call::Read(P1.to_vec()),
         Call::FromImage(P1.to_vec()),
         Call::Import(P1_TEXT.into()),
@@ -319,9 +321,14 @@ fn plans_that_break_a_limit() {
             ] {
                 assert_eq!(pair.run(&call), 0, "{name}");
             }
-            // Fresh is given no plan, so the broken one is no ground.
+            // Fresh and generate are given no plan, so the broken one is no ground.
             assert_eq!(pair.run(&Call::Fresh(0)), 4, "{name}");
             assert_eq!(pair.run(&Call::Fresh(513)), 4, "{name}");
+            assert_eq!(pair.run(&Call::Generate(7, 0, 2049)), 4, "{name}");
+            assert_eq!(pair.run(&Call::Generate(7, 513, 0)), 4, "{name}");
+            assert_eq!(pair.run(&Call::Generate(7, 5, 2049)), 5, "{name}");
+            let made = Call::Generate(7, 5, 6);
+            assert_eq!(pair.clone().run(&made), ACCEPTED, "{name}");
             assert_eq!(pair.run(&Call::Fresh(5)), ACCEPTED, "{name}");
         }
     }
@@ -407,6 +414,9 @@ fn short_lent_slices() {
         let answers = [
             after.fresh(1),
             after.fresh(0),
+            after.generate(1, 1, 1),
+            after.generate(1, 0, 2049),
+            after.generate(1, 1, 2049),
             after.mark(0, 1),
             after.mark(1, 8),
             after.team(0, 1),
@@ -423,7 +433,7 @@ fn short_lent_slices() {
             after.export(&mut buffer),
             after.export(&mut buffer[..0]),
         ];
-        assert_eq!(answers, [SHORT_SLICE; 17], "{counts} {states} {fields}");
+        assert_eq!(answers, [SHORT_SLICE; 20], "{counts} {states} {fields}");
         assert!(after == lent, "{counts} {states} {fields}");
         assert_eq!(buffer, [0xAA; 100]);
     }
@@ -444,8 +454,8 @@ fn unjoin_at_every_place() {
     }
 }
 
-/// The version of the archive, 0.7.1.
+/// The version of the archive, 0.8.0.
 #[test]
 fn the_library_says_its_version() {
-    assert_eq!(reference::proved::version(), 701);
+    assert_eq!(reference::proved::version(), 800);
 }

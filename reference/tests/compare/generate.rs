@@ -467,8 +467,9 @@ fn about_32(rng: &mut Rng, bound: usize) -> u32 {
 pub fn call(rng: &mut Rng, pair: &Pair) -> Call {
     let n = pair.plan().states.len();
     let m = pair.plan().transitions.len();
-    match rng.below(42) {
+    match rng.below(43) {
         0 => Call::Fresh(rng.pick(&[0, 1, 2, 5, 511, 512, 513, 1024, usize::MAX])),
+        42 => generated(rng),
         1..=8 => Call::Mark(about(rng, n), about_32(rng, 8)),
         9..=19 => Call::Join(join(rng, n)),
         20..=24 => Call::Unjoin(about(rng, m)),
@@ -477,6 +478,28 @@ pub fn call(rng: &mut Rng, pair: &Pair) -> Call {
         36..=41 => Call::Team(about(rng, n), about_team(rng)),
         31..=33 => Call::Write(buffer(rng, pair.image_length())),
         _ => Call::Export(buffer(rng, pair.text_length())),
+    }
+}
+
+/// A plan made from a seed, mostly a small one, or counts that are refused, one of them or both.
+pub fn generated(rng: &mut Rng) -> Call {
+    let (mut n, mut m) = size(rng);
+    let wrong = rng.below(8);
+    if [0, 2].contains(&wrong) {
+        let above = past(rng, MAX_STATES + 1);
+        n = rng.pick(&[0, above]);
+    }
+    if [1, 2].contains(&wrong) {
+        m = past(rng, MAX_TRANSITIONS + 1);
+    }
+    Call::Generate(seed(rng), n, m)
+}
+
+/// A seed of 32 bits, often at an edge.
+pub fn seed(rng: &mut Rng) -> u32 {
+    match rng.below(4) {
+        0 => rng.pick(&[0, 1, 0x61C8_8647, 1 << 31, u32::MAX - 1, u32::MAX]),
+        _ => rng.next() as u32,
     }
 }
 

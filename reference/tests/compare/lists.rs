@@ -75,7 +75,10 @@ fn make(rng: &mut Rng, n: usize, tally: &mut Tally) -> Made {
     let mut answers = Vec::new();
     for _ in 0..rng.below(30) {
         let call = generate::call(rng, &pair);
-        if matches!(call, Call::Fresh(_) | Call::Write(_) | Call::Export(_)) {
+        if matches!(
+            call,
+            Call::Fresh(_) | Call::Generate(..) | Call::Write(_) | Call::Export(_)
+        ) {
             continue;
         }
         push(rng, &mut calls, &call);

@@ -5,6 +5,7 @@ mod edges;
 #[path = "../ends/mod.rs"]
 mod ends;
 mod generate;
+mod generated;
 mod images;
 #[cfg(feature = "quotations")]
 #[path = "../figures/library.rs"]
@@ -14,6 +15,8 @@ mod lists;
 mod pair;
 #[cfg(feature = "quotations")]
 mod quotations;
+#[path = "../seeds/mod.rs"]
+mod seeds;
 mod taken;
 mod tally;
 mod text;

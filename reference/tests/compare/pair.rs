@@ -11,6 +11,8 @@ use reference::rng::Rng;
 #[derive(Clone, Debug)]
 pub enum Call {
     Fresh(usize),
+    /// A plan made from a seed, with so many states and transitions.
+    Generate(u32, usize, usize),
     /// A plan made from an image alone.
     FromImage(Vec<u8>),
     Mark(usize, u32),
@@ -29,6 +31,7 @@ impl Call {
     pub fn name(&self) -> &'static str {
         match self {
             Call::Fresh(_) => "fresh",
+            Call::Generate(..) => "generate",
             Call::FromImage(_) => "from_image",
             Call::Mark(..) => "mark",
             Call::Team(..) => "team",
@@ -122,6 +125,10 @@ impl Pair {
                 let fresh = Plan::fresh(*n).map(|plan| self.plan = plan);
                 (number(fresh), self.lent.fresh(*n))
             }
+            Call::Generate(seed, n, m) => {
+                let made = Plan::generate(*seed, *n, *m).map(|plan| self.plan = plan);
+                (number(made), self.lent.generate(*seed, *n, *m))
+            }
             Call::FromImage(octets) => {
                 let made = decode(octets).map(|plan| self.plan = plan);
                 (number(made), self.lent.make(octets))
@@ -180,7 +187,7 @@ impl Pair {
         } else {
             assert!(self.lent.plan() == self.plan, "plans after {call:?}");
             let mut expected = before;
-            if let Call::Fresh(_) | Call::FromImage(_) = call {
+            if let Call::Fresh(_) | Call::Generate(..) | Call::FromImage(_) = call {
                 expected.states[..STATES].fill(0);
                 expected.fields[..FIELDS].fill(0);
             }

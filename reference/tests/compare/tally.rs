@@ -11,8 +11,9 @@ use crate::wrong::{self, Wrong, WAYS};
 
 /// The numbers by which the table lets each call be refused; of replay also those of what is no
 /// list of calls, and no plan.
-const TABLE: [(&str, &[u32]); 13] = [
+const TABLE: [(&str, &[u32]); 14] = [
     ("fresh", &[4]),
+    ("generate", &[4, 5]),
     ("from_image", &[1, 2, 3, 4, 5, 6, 8, 16, 17]),
     ("mark", &[0, 7, 12]),
     ("team", &[0, 7, 18]),

@@ -13,6 +13,18 @@ extern "C" {
         fields_len: usize,
     ) -> u32;
 
+    pub fn callplan_lent_generate(
+        seed: u32,
+        n: usize,
+        m: usize,
+        counts: *mut usize,
+        counts_len: usize,
+        states: *mut u8,
+        states_len: usize,
+        fields: *mut u16,
+        fields_len: usize,
+    ) -> u32;
+
     pub fn callplan_lent_from_image(
         octets: *const u8,
         octets_len: usize,

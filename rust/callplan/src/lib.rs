@@ -1,5 +1,5 @@
 //! The call plan calculator: a call plan is edited, read and written as an image, imported and
-//! exported as Aldebaran text, and quoted.
+//! exported as Aldebaran text, made from a seed, and quoted.
 //!
 //! The calls are those of the proved archive, `libcallplan.a`, and each answers as `callplan.h`
 //! says. No call keeps anything when it has returned, so plans may be used from any thread. The
@@ -63,7 +63,7 @@ pub const COUNTED: u32 = 1;
 
 /// The version of the archive that this crate is for: 10,000 times the first number, 100 times the
 /// second, and the third.
-pub const VERSION_NUMBER: u32 = 701;
+pub const VERSION_NUMBER: u32 = 800;
 
 /// What the archive answers for accepted. Write, export and record add the octets' number.
 const ACCEPTED: u32 = 256;
@@ -236,6 +236,50 @@ impl Plan {
         let answer = unsafe {
             archive::callplan_lent_fresh(
                 n,
+                plan.counts.as_mut_ptr(),
+                plan.counts.len(),
+                plan.states.as_mut_ptr(),
+                plan.states.len(),
+                plan.fields.as_mut_ptr(),
+                plan.fields.len(),
+            )
+        };
+        accepted(answer)?;
+        Ok(plan)
+    }
+
+    /// The plan with n states and m transitions that a seed makes. The same seed and counts make the same
+    /// plan everywhere, and a smaller m the first m of its transitions. State 0 is marked [`START`] and
+    /// state n - 1 [`FINAL`], no other mark is set, and all teams are 0. Transitions lead from any state to
+    /// any, and a high may come out as [`OPEN_HIGH`].
+    ///
+    /// The first 55 words of 32 bits are the seed, then each the one before plus 9E3779B9 hex; each later
+    /// word is the word 24 back plus the word 55 back, modulo 4,294,967,296. Words are drawn from the 56th
+    /// on, four a transition: from and to are a draw modulo n, low a draw modulo 2,048, and high is low
+    /// plus a draw modulo (2,048 - low).
+    ///
+    /// ```
+    /// use callplan::{Plan, Refusal, Transition, FINAL, START};
+    ///
+    /// let plan = Plan::generate(1, 2, 1)?;
+    /// assert_eq!((plan.marks(0), plan.marks(1)), (Some(START), Some(FINAL)));
+    /// let made = Transition { from: 1, to: 1, low: 1101, high: 1368 };
+    /// assert_eq!(plan.transition(0), Some(made));
+    /// assert_eq!(Plan::generate(1, 513, 2049), Err(Refusal::StateCount));
+    /// # Ok::<(), Refusal>(())
+    /// ```
+    ///
+    /// # Errors
+    ///
+    /// [`Refusal::StateCount`], [`Refusal::TransitionCount`].
+    pub fn generate(seed: u32, n: usize, m: usize) -> Result<Plan, Refusal> {
+        check_version();
+        let mut plan = NO_PLAN;
+        let answer = unsafe {
+            archive::callplan_lent_generate(
+                seed,
+                n,
+                m,
                 plan.counts.as_mut_ptr(),
                 plan.counts.len(),
                 plan.states.as_mut_ptr(),

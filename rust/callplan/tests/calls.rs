@@ -80,6 +80,15 @@ fn edits_are_refused_and_change_nothing() {
     let mut plan = p1().unwrap();
     assert_eq!(Plan::fresh(0).unwrap_err(), Refusal::StateCount);
     assert_eq!(Plan::fresh(513).unwrap_err(), Refusal::StateCount);
+    for m in [0, 2048, 2049, usize::MAX] {
+        for n in [0, 513, 1 << 16, (1 << 32) + 1, usize::MAX] {
+            assert_eq!(Plan::generate(7, n, m), Err(Refusal::StateCount));
+        }
+    }
+    for m in [2049, 1 << 16, (1 << 32) + 1, usize::MAX] {
+        assert_eq!(Plan::generate(7, 1, m), Err(Refusal::TransitionCount));
+        assert_eq!(Plan::generate(7, 512, m), Err(Refusal::TransitionCount));
+    }
     assert_eq!(plan.mark(4, 8), Err(Refusal::StateNumber));
     assert_eq!(plan.mark(3, 8), Err(Refusal::MarksValue));
     assert_eq!(plan.team(4, MAX_TEAM + 1), Err(Refusal::StateNumber));
@@ -162,6 +171,53 @@ fn images_are_written_and_read() {
         assert_eq!(plan.read(&octets), Err(refusal));
         assert_eq!(plan, Plan::fresh(1).unwrap());
     }
+}
+
+/// The draws of a seed, modulo 4,294,967,296: words 56 on.
+fn draws(seed: u32, count: usize) -> Vec<u64> {
+    let mut words = vec![u64::from(seed)];
+    while words.len() < 55 + count {
+        let back = |k: usize| words[words.len() - k];
+        let sum = match words.len() {
+            0..55 => back(1) + 0x9E37_79B9,
+            _ => back(24) + back(55),
+        };
+        words.push(sum % (1 << 32));
+    }
+    words.split_off(55)
+}
+
+/// The same plan from the same seed, by the draws; it is edited, written and read as any.
+#[test]
+fn plans_are_made_from_seeds() {
+    for seed in [0, 1, 305_419_896, 1 << 31, u32::MAX] {
+        for (n, m) in [(1, 0), (1, 3), (2, 1), (3, 100), (512, 0), (512, 2048)] {
+            let plan = Plan::generate(seed, n, m).unwrap();
+            assert_eq!((plan.states(), plan.transitions()), (n, m));
+            for state in 0..n {
+                let start = if state == 0 { START } else { 0 };
+                let last = if state == n - 1 { FINAL } else { 0 };
+                assert_eq!(plan.marks(state), Some(start + last));
+                assert_eq!(plan.team_of(state), Some(0));
+            }
+            for (number, four) in draws(seed, 4 * m).chunks(4).enumerate() {
+                let state = |draw: u64| (draw % n as u64) as usize;
+                let low = four[2] % 2048;
+                let high = low + four[3] % (2048 - low);
+                let drawn = transition(state(four[0]), state(four[1]), low as u32, high as u32);
+                assert_eq!(plan.transition(number), Some(drawn));
+            }
+            assert_eq!(Plan::generate(seed, n, m).unwrap(), plan);
+            assert_eq!(Plan::from_image(&image(&plan)).unwrap(), plan);
+        }
+        assert_ne!(Plan::generate(seed, 9, 9), Plan::generate(seed ^ 1, 9, 9));
+    }
+    let mut plan = Plan::generate(1, 2, 1).unwrap();
+    assert_eq!(plan.transition(0), Some(transition(1, 1, 1101, 1368)));
+    assert_eq!(plan.greatest_delay().figure(), Figure::Stranded);
+    plan.join(transition(0, 1, 5, OPEN_HIGH)).unwrap();
+    assert_eq!(plan.least_delay().figure(), Figure::Number(5));
+    assert_eq!(plan.greatest_delay().figure(), Figure::Endless { j: 1 });
 }
 
 /// A team is set by its own call, and is in images of version 2 alone.

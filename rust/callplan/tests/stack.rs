@@ -103,6 +103,10 @@ fn every_call_stays_within_what_is_said() {
     let mut buffer = vec![0; MAX_IMAGE_OCTETS];
     tell("fresh", used(|| assert!(Plan::fresh(MAX_STATES).is_ok())));
     tell(
+        "generate",
+        used(|| assert!(black_box(Plan::generate(1, MAX_STATES, MAX_TRANSITIONS)).is_ok())),
+    );
+    tell(
         "from_image",
         used(|| assert!(black_box(Plan::from_image(&image)).is_ok())),
     );
