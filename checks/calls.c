@@ -569,6 +569,7 @@ static void open_highs(void)
 static void begun_answered(void)
 {
     static const uint8_t p2_record[CALLPLAN_RECORD_OCTETS] = {0x40, 0x00, 0x02, 0x00, 0x00, 0x04, 0x00, 0x00, 0x20, 0x00, 0x00};
+    static const uint8_t ring_record[CALLPLAN_RECORD_OCTETS] = {0x3F, 0xF8, 0x03, 0x00, 0x00, 0x00, 0x00, 0x80, 0x40, 0x02, 0x01};
     callplan_plan plan;
     callplan_figure figure;
     uint8_t buffer[CALLPLAN_RECORD_OCTETS];
@@ -617,7 +618,10 @@ static void begun_answered(void)
     CHECK(callplan_least_count(&plan, &figure) == CALLPLAN_ACCEPTED && is_figure(&figure, CALLPLAN_NUMBER, 513, 512, 0));
     CHECK(callplan_greatest_count(&plan, &figure) == CALLPLAN_ACCEPTED && is_figure(&figure, CALLPLAN_NUMBER, 513, 512, 0));
     CHECK(callplan_greatest_delay(&plan, &figure) == CALLPLAN_ACCEPTED && figure.kind == CALLPLAN_ENDLESS && figure.j == figure.k);
+    /* The record holds them, 1,048,064 as the 20 bits FFE00 hex. */
+    CHECK(callplan_record(&plan, buffer, sizeof ring_record - 1, NULL) == CALLPLAN_REFUSED_BUFFER_LENGTH);
     CHECK(callplan_record(&plan, buffer, sizeof buffer, NULL) == CALLPLAN_ACCEPTED);
+    CHECK(memcmp(buffer, ring_record, sizeof ring_record) == 0);
 }
 
 static void quotations_of_an_image(void)
@@ -862,6 +866,12 @@ static void words(void)
     CHECK(strcmp(callplan_answer_text(CALLPLAN_REFUSED_FROM_STATE), "a transition's from is not below the state count") == 0);
     CHECK(strcmp(callplan_answer_text(CALLPLAN_REFUSED_TO_STATE), "a transition's to is not below the state count") == 0);
     CHECK(strcmp(callplan_answer_text(CALLPLAN_ACCEPTED), "accepted") == 0);
+    /* 0 to 18, but 13 is no answer; then 254 to 256. */
+    int known = 0;
+    for (int number = 0; number < 300; number++) {
+        known += strcmp(callplan_answer_text((callplan_answer)number), "an unknown answer") != 0;
+    }
+    CHECK(known == 18 + 3 && strcmp(callplan_answer_text((callplan_answer)13), "an unknown answer") == 0);
 }
 
 int main(void)

@@ -49,8 +49,8 @@
 extern "C" {
 #endif
 
-#define CALLPLAN_VERSION "0.8.0"
-#define CALLPLAN_VERSION_NUMBER 800 /* 10,000 times the first number, 100 times the second, and the third */
+#define CALLPLAN_VERSION "0.9.0"
+#define CALLPLAN_VERSION_NUMBER 900 /* 10,000 times the first number, 100 times the second, and the third */
 
 #define CALLPLAN_MAX_STATES 512
 #define CALLPLAN_MAX_TRANSITIONS 2048
@@ -61,7 +61,7 @@ extern "C" {
 #define CALLPLAN_MAX_TEXT_OCTETS 51221  /* of a text that is exported or accepted: 21, and 25 for each transition */
 #define CALLPLAN_RECORD_OCTETS 11
 
-/* What a call answers. */
+/* What a call answers. No answer is 13, and none will be. */
 typedef enum callplan_answer {
     CALLPLAN_REFUSED_PLAN_LIMITS = 0,        /* the plan that was lent breaks a limit, as one filled in by hand may */
     CALLPLAN_REFUSED_IMAGE_SHORT = 1,        /* fewer than 4 octets, or fewer than the counts give */
@@ -76,7 +76,6 @@ typedef enum callplan_answer {
     CALLPLAN_REFUSED_TRANSITION_NUMBER = 10, /* not below the transition count */
     CALLPLAN_REFUSED_BUFFER_LENGTH = 11,     /* less than what is to be put there */
     CALLPLAN_REFUSED_MARKS_VALUE = 12,       /* above 7 */
-    CALLPLAN_REFUSED_FIGURE_SIZE = 13,       /* above 1,048,575: no plan within the limits has such a figure */
     CALLPLAN_REFUSED_START_COUNT = 14,       /* not exactly one state is marked start */
     CALLPLAN_REFUSED_TEXT_FORM = 15,         /* the text is off the form of Aldebaran text */
     CALLPLAN_REFUSED_FROM_STATE = 16,        /* a transition's from is not below the state count */
@@ -249,7 +248,6 @@ static inline const char *callplan_answer_text(callplan_answer answer)
     case CALLPLAN_REFUSED_TRANSITION_NUMBER: return "a transition number is not below the transition count";
     case CALLPLAN_REFUSED_BUFFER_LENGTH: return "a lent buffer is shorter than what is to be put there";
     case CALLPLAN_REFUSED_MARKS_VALUE: return "the marks value is above 7";
-    case CALLPLAN_REFUSED_FIGURE_SIZE: return "a figure of the record is above 1,048,575";
     case CALLPLAN_REFUSED_START_COUNT: return "not exactly one state is marked start";
     case CALLPLAN_REFUSED_TEXT_FORM: return "the text is off the form of Aldebaran text";
     case CALLPLAN_REFUSED_FROM_STATE: return "a transition's from is not below the state count";
@@ -519,7 +517,7 @@ CALLPLAN_ANSWERS callplan_greatest_count_for(const callplan_plan *plan, uint32_t
 
 /* Puts the record of the four figures at the front of buffer; later octets stay. The number of its octets, CALLPLAN_RECORD_OCTETS,
  * goes to *written unless written is null.
- * Refused: PLAN_LIMITS, BUFFER_LENGTH, FIGURE_SIZE. */
+ * Refused: PLAN_LIMITS, BUFFER_LENGTH. The record holds every figure. */
 CALLPLAN_ANSWERS callplan_record(const callplan_plan *plan, uint8_t *buffer, size_t length, size_t *written)
 {
     uint8_t none = 0;

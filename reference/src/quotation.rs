@@ -7,8 +7,6 @@ use crate::refusal::{require, Refusal};
 use crate::rounds;
 
 pub const RECORD_OCTETS: usize = 11;
-/// The largest figure that the record's field of 20 bits holds.
-const MAX_FIGURE: u32 = 1_048_575;
 
 impl Plan {
     /// Quotes a figure, or a count for a class, and puts the walk at the front of the buffer. Later
@@ -31,8 +29,6 @@ impl Plan {
         self.require_limits()?;
         require(buffer.len() >= RECORD_OCTETS, Refusal::BufferTooShort)?;
         let values = FIGURES.map(|figure| rounds::quote(self, figure).value);
-        let fits = values.iter().all(|value| value.figure() <= MAX_FIGURE);
-        require(fits, Refusal::FigureSize)?;
         let mut bits = BitWriter::with_capacity(RECORD_OCTETS);
         for value in values {
             bits.put(2, value.kind());

@@ -1,6 +1,7 @@
 //! The table of refused calls.
 
-/// Why a call is refused. The value of each case is the number that the table gives it.
+/// Why a call is refused. The value of each case is the number that the table gives it; 13 is no
+/// case's (document 02, E8).
 #[derive(Clone, Copy, Debug, PartialEq, Eq)]
 pub enum Refusal {
     /// The plan handed to the call breaks a limit.
@@ -29,8 +30,6 @@ pub enum Refusal {
     BufferTooShort = 11,
     /// The marks value is above 7.
     MarksValue = 12,
-    /// A figure of the record is above 1,048,575.
-    FigureSize = 13,
     /// The plan has not exactly one start.
     StartCount = 14,
     /// The text is off the form of Aldebaran text.

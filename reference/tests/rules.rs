@@ -113,14 +113,15 @@ fn numbers_are_those_of_the_table() {
         Refusal::TransitionNumber,
         Refusal::BufferTooShort,
         Refusal::MarksValue,
-        Refusal::FigureSize,
         Refusal::StartCount,
         Refusal::TextForm,
         Refusal::FromState,
         Refusal::ToState,
         Refusal::TeamNumber,
     ];
-    for (number, refusal) in (0..).zip(table) {
+    // "Thirteen can go" (document 02, E8): no row has that number.
+    let numbers = (0..).filter(|&number| number != 13);
+    for (number, refusal) in numbers.zip(table) {
         assert_eq!(refusal.number(), number);
     }
 }

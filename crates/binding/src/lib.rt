@@ -22,9 +22,9 @@ use rules::Format;
 // The version of the archive: 10,000 times the first number, 100 times the second, and the third.
 #[no_mangle]
 pub extern "C" fn callplan_lent_version() -> u32
-    ensures { λ r. ⌜ r ≡ 800 ⌝ }
+    ensures { λ r. ⌜ r ≡ 900 ⌝ }
 {
-    800
+    900
 }
 
 // A fresh plan with n states.

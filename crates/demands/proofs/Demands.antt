@@ -122,11 +122,11 @@ module _ (c : Calculator) (keeps : Promises c) where
   -- ---- demand 2
 
   -- what an accepted quotation says, and that its plan is within the limits
-  said-of : {asked : Asked} {p : Plan} {before after : List ℕ} (q : Quote) → c .quotes asked p before after (Quoted q)
+  pub said-of : {asked : Asked} {p : Plan} {before after : List ℕ} (q : Quote) → c .quotes asked p before after (Quoted q)
       → Stated (saysAsked asked (view p)) q before after
   said-of q x = keeps .quotes x .quoted q refl
 
-  quoted-within : {asked : Asked} {p : Plan} {before after : List ℕ} (q : Quote) → c .quotes asked p before after (Quoted q) → within (view p) ≡ true
+  pub quoted-within : {asked : Asked} {p : Plan} {before after : List ℕ} (q : Quote) → c .quotes asked p before after (Quoted q) → within (view p) ≡ true
   unfolding quoteRule
   quoted-within {asked} {p} {before} q x =
       not-false (within (view p)) (accepted-only (quoteRows asked (view p) before) tt tt (sym (keeps .quotes x .answer)) .0 .0)

@@ -16,3 +16,5 @@ pub mod Exchange
 pub mod OnePass
 -- Reproducible test plans.
 pub mod Generate
+-- No figure is too large for the record.
+pub mod FigureSize

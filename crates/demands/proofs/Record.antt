@@ -41,9 +41,10 @@ recorded c keeps {p} {before} {after} n x =
     let g : Graph = view p in
     let a : recordRule g before ≡ accepted n = sym (keeps .records x .answer) in
     let e : after ≡ recordOctets g ++ drop n before = keeps .records x .buffer ∙ ap (written (recordOctets g) before) a in
-    let f : fields after ≡ recordFields g = ap (λ (os : List ℕ). fields os) e ∙ record-read g before n a (drop n before) in
+    let (w, long) = accepted-record g before n a in
+    let f : fields after ≡ recordFields g = ap (λ (os : List ℕ). fields os) e ∙ record-read g w (drop n before) in
     record {
-      octets = e ∙ ap {B = List ℕ} (λ (k : ℕ). recordOctets g ++ drop k before) (accepted-record g before n a .0);
+      octets = e ∙ ap {B = List ℕ} (λ (k : ℕ). recordOctets g ++ drop k before) long;
       long = length-record g;
       each = at g after f;
     }

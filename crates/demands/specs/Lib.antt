@@ -6,3 +6,4 @@ pub mod Record
 pub mod Exchange
 pub mod OnePass
 pub mod Generate
+pub mod FigureSize

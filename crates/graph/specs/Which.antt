@@ -1,7 +1,7 @@
 -- What is said of the four figures together, in the record's order: "least delay, greatest delay, least count, greatest count in turn".
 -- Assumes nothing.
 use Prim.Native.Nat.{ℕ}
-use mathlib.Core.Bool.{Bool, true, false, _&&_, _||_}
+use mathlib.Core.Bool.{Bool, true, false, _&&_}
 use mathlib.Core.List.{List, _++_}
 use Rattle.graph.specs.declared.Which.{Which}
 use Rattle.graph.specs.declared.Which.the-variants.{LeastDelay, GreatestDelay, LeastCount, GreatestCount}
@@ -24,12 +24,9 @@ four a b c d GreatestCount = d
 abbrev pub inTurn : {A : Type 0} → (Which → List A) → List A
 inTurn f = f LeastDelay ++ f GreatestDelay ++ f LeastCount ++ f GreatestCount
 
--- a test of every figure, and of some figure
+-- a test of every figure
 abbrev pub every : (Which → Bool) → Bool
 every p = p LeastDelay && (p GreatestDelay && (p LeastCount && p GreatestCount))
-
-abbrev pub some : (Which → Bool) → Bool
-some p = p LeastDelay || (p GreatestDelay || (p LeastCount || p GreatestCount))
 
 -- whether it is a least figure
 abbrev pub isLeast : Which → Bool

@@ -11,8 +11,8 @@ use Rattle.rules.specs.Image.{graphIn, imageRows}
 use Rattle.rules.specs.Quotations.{AllStated, QuotesHeld, heldRows, heldRule, lentHeldRule, saidQuotations}
 use Rattle.rules.specs.Refusal.{Result, code}
 use Rattle.rules.proofs.Results.{never}
-use Rattle.quotation.proofs.Small.{four-small}
-use Rattle.quotation.proofs.Kept.{held-within-limits}
+use Rattle.rules.proofs.Small.{four-small}
+use Rattle.rules.proofs.Kept.{held-within-limits}
 use Rattle.answers.specs.Answered.{AllSmall, AllFit, allNumbersIn, Answered}
 use Rattle.answers.specs.Handed.{Handed}
 use Rattle.lent.specs.Quoted.{LentQuotes}

@@ -21,7 +21,7 @@ use Rattle.rules.proofs.Results.{never, not-false}
 use Rattle.rules.proofs.Tables.{accepted-only}
 use Rattle.plan.specs.declared.Plan.{Plan}
 use Rattle.plan.specs.View.{view}
-use Rattle.quotation.proofs.Small.{small-quote}
+use Rattle.rules.proofs.Small.{small-quote}
 use Rattle.slices.specs.Lent.{Slices, hasRoom, planIn}
 use Rattle.answers.specs.Answered.{Small, Fits, numbersIn, Answered}
 use Rattle.answers.specs.Handed.{Handed}

@@ -48,7 +48,6 @@ pub fn number(refusal: Refusal) -> u32
         Refusal::TransitionNumber => 10,
         Refusal::BufferLength => 11,
         Refusal::MarksValue => 12,
-        Refusal::FigureSize => 13,
         Refusal::StartCount => 14,
         Refusal::TextForm => 15,
         Refusal::FromState => 16,

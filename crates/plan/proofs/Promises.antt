@@ -99,7 +99,7 @@ fresh-run n {q} {calls} {answers} e h x o =
 
 -- ---- octets put into a buffer, and octets that replace a plan
 
-length-answer : (w : Written) (n : ℕ) → wrote w ≡ accepted n → w ≡ Length n
+pub length-answer : (w : Written) (n : ℕ) → wrote w ≡ accepted n → w ≡ Length n
 length-answer (Length m) n e = let s : m ≡ n = cc in rw s
 length-answer (NotWritten r) n e = absurd (never n r e)
 

@@ -19,11 +19,10 @@ use Rattle.rules.specs.declared.Quotations.the-variants.{Quoted as AllQuoted, R
 use Rattle.rules.specs.Limits.{within}
 use Rattle.rules.specs.declared.Answer.{Answer}
 use Rattle.rules.specs.Image.{readImage, imageRows, graphIn}
-use Rattle.rules.specs.Quotations.{saysAsked, Stated, Quotes, nameRows, quoteRows, quoteRule, AllStated, QuotesAll, QuotesHeld, allRows, allRule, heldRows, heldRule, saidQuotations}
+use Rattle.rules.specs.Quotations.{saysAsked, Stated, Quotes, nameRows, quoteRows, quoteRule, AllStated, QuotesAll, QuotesHeld, allRows, allRule, heldRule, saidQuotations}
 use Rattle.rules.specs.Refusal.{accepted, refused, said}
 use Rattle.rules.specs.Rules.{bufferRow}
 use Rattle.rules.specs.Table.{first, NoneHolds}
-use Rattle.rules.proofs.ReadWrite.{read-within}
 use Rattle.rules.proofs.Results.{never, not-false}
 use Rattle.plan.specs.declared.Edited.{Edited}
 use Rattle.plan.specs.Promise.{Held}
@@ -141,11 +140,3 @@ module _ (image before : List ℕ) (f : Edited) (e : Held image f) where
               let same : q ≡ r = cc in
               rw (← same) (subst (λ (x : Graph). AllStated x q before after) read-plan s);
         }
-
--- where it quotes, the octets hold a plan within the limits
-pub held-within-limits : (image before after : List ℕ) (r : Quotations) → QuotesHeld image before after r → (q : FourQuotes) → r ≡ AllQuoted q
-    → within (graphIn image) ≡ true
-unfolding heldRule readImage
-held-within-limits image before after r x q e =
-    let n = none-append (imageRows image) (bufferRow before 2048 ∷ []) (accepted-only (heldRows image before) tt tt (sym (x .answer) ∙ ap saidQuotations e) .0) in
-    read-within image (graphIn image) (accepted-where (imageRows image) (graphIn image) (n .0))

@@ -10,7 +10,7 @@ use Rattle.field.specs.Field.{Field, Octets, widthOfAll, putAll}
 use Rattle.field.proofs.Pack.{putAll-pack}
 use Rattle.graph.specs.declared.Which.{Which}
 use Rattle.graph.specs.declared.Which.the-variants.{LeastDelay, GreatestDelay, LeastCount, GreatestCount}
-use Rattle.graph.specs.Graph.{Graph}
+use Rattle.graph.specs.Graph.{Graph, counted}
 use Rattle.graph.specs.Compute.{figureFor}
 use Rattle.graph.specs.Figure.{value}
 use Rattle.rules.specs.declared.Refusal.{Refusal}
@@ -37,7 +37,7 @@ module _ (g : Graph) (q : FourQuotes) (before after : List ℕ) (s : AllStated g
 
   -- and each fits into its 20 bits
   pub quotes-fit : within g ≡ true → (which : Which) → value (meant (quoteOf q which .figure)) < 1048576
-  quotes-fit w which = omega (arith, quoted-fits g w which _ _ _ _ _ (s .each which))
+  quotes-fit w which = omega (arith, quoted-fits g w which (counted g) _ _ _ _ _ (s .each which))
 
 module _ (g : Graph) where
   pub record-refusal : (before : List ℕ) (r : Refusal) → recordRule g before ≡ refused r

@@ -32,7 +32,7 @@ use Rattle.plan.specs.declared.Plan.{Plan}
 use Rattle.plan.specs.Promise.{Edit, nextValue}
 use Rattle.plan.specs.View.{view, noPlan}
 use Rattle.quotation.proofs.Kept.{all-done, all-not-refused}
-use Rattle.quotation.proofs.Small.{four-small}
+use Rattle.rules.proofs.Small.{four-small}
 use Rattle.answers.specs.Answered.{AllSmall, AllFit, allNumbersIn, Answered}
 use Rattle.calls.specs.Rows.{replayRows, replayRule, asked}
 use Rattle.calls.specs.Slices.{itemAt, isCall, areCalls, callsIn}

@@ -1,13 +1,14 @@
 -- Facts that the definitions give at once; proof files are checked in the order of their names, so a wrong definition is refused here first.
--- The known octets are the version 1 image of their plan, and the known record is that plan's. Then what each event does, on small plans; the table on small calls in
+-- No row is numbered 13. The known octets are the version 1 image of their plan, and the known record is that plan's. Then what each event does, on small plans; the table on small calls in
 -- which more than one row holds, where the first one answers, by its number; and what a promise rules out. Last, what callers cite of single calls.
 -- Assumes nothing.
 use mathlib.Core.Bool.{true, false, true≢false}
 use mathlib.Core.List.{List, [], _∷_, map}
 use mathlib.Core.Path.{_≡_, refl, ap}
-use Prim.Native.Nat.{ℕ}
+use Prim.Native.Nat.{ℕ, _<_}
 use Prim.Native.String.{String}
 use native.Mathlib.Omega.{arith}
+use borrow.Author.Tests.{eqb-false}
 use lib.Dec.{ltb, lit<}
 use lib.ListN.{length, getD, drop, replicate}
 use Rattle.field.specs.Field.{pack, octetsOf, bits, bitsOf, bitsOfAll, widthOfAll, number, fieldAt}
@@ -20,10 +21,11 @@ use Rattle.graph.specs.declared.Which.the-variants.{LeastDelay}
 use Rattle.graph.specs.Class.{nameOk}
 use Rattle.graph.specs.Figure.{Figure, NONE, costFor}
 use Rattle.graph.specs.Known.{P1, P3, P4, P6, open-and-stranded, plan, join as to-join}
-use Rattle.graph.specs.Which.{some}
 use Rattle.graph.specs.Compute.{any, figureFor}
 use Rattle.graph.specs.Graph.{Graph, Transition, stateWith, states, marksOf, start, final, counted, transition, from, to, low, high}
-use Rattle.rules.specs.declared.Refusal.the-variants.{PlanLimits, StateCount, BufferLength, TeamNumber}
+use Rattle.rules.specs.declared.Refusal.{Refusal}
+use Rattle.rules.specs.declared.Refusal.the-variants.{PlanLimits, ImageShort, ImageLong, Version, StateCount, TransitionCount, SpareBits, StateNumber, Duration, ListFull}
+use Rattle.rules.specs.declared.Refusal.the-variants.{TransitionNumber, BufferLength, MarksValue, StartCount, TextForm, FromState, ToState, TeamNumber}
 use Rattle.rules.specs.declared.Quotation.the-variants.{Refused}
 use Rattle.rules.specs.declared.Format.{Format}
 use Rattle.rules.specs.declared.Format.the-variants.{Image, Text}
@@ -31,11 +33,39 @@ use Rattle.rules.specs.Aldebaran.{planOf, holdingRows, textRows, graphIn
 use Rattle.rules.specs.Calls.{Call, mark, team, join, unjoin, read, import, replacing, step, rowsOf, run, runFresh}
 use Rattle.rules.specs.Image.{imageBy, image, imageFields, fieldsOfEach, headerRows, imageRows, readImage, graphIn, tabulate}
 use Rattle.rules.specs.Limits.{within, all, stateCountOk}
-use Rattle.rules.specs.Quotations.{recordOctets, recordFields, recordRows, tooLarge, quoteRows, quoteRule, recordRule, allRows, heldRows, lentQuoteRows, lentHeldRows}
+use Rattle.rules.specs.Quotations.{recordOctets, recordFields, recordRows, quoteRows, quoteRule, recordRule, allRows, heldRows, lentQuoteRows, lentHeldRows}
 use Rattle.rules.specs.Quotations.{Shows, Quotes, LeastQuoted}
-use Rattle.rules.specs.Refusal.{accepted, refused, code}
+use Rattle.rules.specs.Refusal.{Result, accepted, refused, code, number as numberOf}
 use Rattle.rules.specs.Rules.{freshRows, writeRows, freshRule, writeRule, freshGraph, withMark, withTeam, withTransition, without, written}
 use Rattle.rules.specs.Table.{first, byNumber, each}
+
+-- ---- the numbers of the table
+
+-- "take it out of the table" (document 02, E8): no row is numbered 13; and none above 18
+pub numbered : (r : Refusal) → (numberOf r < 19) × (numberOf r ≡ 13 → ⊥)
+numbered PlanLimits = (lit< tt, eqb-false _ 13 refl)
+numbered ImageShort = (lit< tt, eqb-false _ 13 refl)
+numbered ImageLong = (lit< tt, eqb-false _ 13 refl)
+numbered Version = (lit< tt, eqb-false _ 13 refl)
+numbered StateCount = (lit< tt, eqb-false _ 13 refl)
+numbered TransitionCount = (lit< tt, eqb-false _ 13 refl)
+numbered SpareBits = (lit< tt, eqb-false _ 13 refl)
+numbered StateNumber = (lit< tt, eqb-false _ 13 refl)
+numbered Duration = (lit< tt, eqb-false _ 13 refl)
+numbered ListFull = (lit< tt, eqb-false _ 13 refl)
+numbered TransitionNumber = (lit< tt, eqb-false _ 13 refl)
+numbered BufferLength = (lit< tt, eqb-false _ 13 refl)
+numbered MarksValue = (lit< tt, eqb-false _ 13 refl)
+numbered StartCount = (lit< tt, eqb-false _ 13 refl)
+numbered TextForm = (lit< tt, eqb-false _ 13 refl)
+numbered FromState = (lit< tt, eqb-false _ 13 refl)
+numbered ToState = (lit< tt, eqb-false _ 13 refl)
+numbered TeamNumber = (lit< tt, eqb-false _ 13 refl)
+
+-- so no call answers 13
+pub not-13 : {A : Type 0} (o : Result A) → code o ≡ 13 → ⊥
+not-13 (accepted a) e = omega arith
+not-13 (refused r) e = numbered r .1 e
 
 -- ---- P1 and the 28 octets of "Plans with known figures"
 
@@ -367,7 +397,7 @@ unfolding within all
 quote-3 = (refl, refl)
 
 pub record-10 : (code (first (recordRows (P1 .plan) (replicate 10 0))) ≡ 11) × (code (first (recordRows (P1 .plan) (replicate 11 0))) ≡ 256)
-unfolding within all figureFor any marksOf start final counted transition from to low high
+unfolding within all
 record-10 = (refl, refl)
 
 -- the answer's places, after the walk's: one too few, just enough, and 0 before both
@@ -456,6 +486,6 @@ module _ (g : Graph) (b : List ℕ) where
   unfolding recordRule
   record-short w h = rw (w, h)
 
-  pub record-done : within g ≡ true → ltb (length b) 11 ≡ false → some (λ which. tooLarge (figureFor which g)) ≡ false → recordRule g b ≡ accepted 11
+  pub record-done : within g ≡ true → ltb (length b) 11 ≡ false → recordRule g b ≡ accepted 11
   unfolding recordRule
-  record-done w h l = rw (w, h, l)
+  record-done w h = rw (w, h)

@@ -1,5 +1,5 @@
 -- Every call keeps a plan within the limits: fresh makes one, each event that is accepted leaves one, and a refused one leaves the plan. So
--- every plan that a list of calls from a fresh plan comes to is within the limits.
+-- every plan that a list of calls from a fresh plan comes to is within the limits. So is the plan of an image whose four figures were quoted.
 -- Assumes nothing.
 use mathlib.Core.Bool.{true, false}
 use mathlib.Core.List.{List, [], _∷_, _++_}
@@ -11,11 +11,15 @@ use lib.ListN.{length, take, drop, set, replicate, length-append, length-take, l
 use borrow.Author.Tests.{leb-true, leb-false}
 use Rattle.graph.specs.Class.{teamOk}
 use Rattle.graph.specs.Graph.{Graph, State, Transition, stateWith, marked, states, count, state}
+use Rattle.rules.specs.declared.FourQuotes.{FourQuotes}
+use Rattle.rules.specs.declared.Quotations.{Quotations}
+use Rattle.rules.specs.declared.Quotations.the-variants.{Quoted as AllQuoted}
 use Rattle.rules.specs.declared.Refusal.the-variants.{ListFull}
 use Rattle.rules.specs.Refusal.{Result, accepted, refused}
 use Rattle.rules.specs.Limits.{all, within, stateCountOk, marksOk, stateOk, transitionOk}
 use Rattle.rules.specs.Image.{transitionRows, imageRows, graphIn, readImage}
-use Rattle.rules.specs.Rules.{freshGraph, withTransition, without, next}
+use Rattle.rules.specs.Rules.{freshGraph, withTransition, without, next, bufferRow}
+use Rattle.rules.specs.Quotations.{saidQuotations, QuotesHeld, heldRows, heldRule}
 use Rattle.rules.specs.Table.{NoneHolds}
 use Rattle.rules.specs.Aldebaran.{textRows, graphInText, importText}
 use Rattle.rules.specs.Calls.{Call, mark, team, join, unjoin, read, import, rowsOf, effectOf, step, run}
@@ -119,3 +123,13 @@ pub run-within : (calls : List Call) (g : Graph) → within g ≡ true → withi
 unfolding run
 run-within [] g h = h
 run-within (call ∷ calls) g h = run-within calls (next g (step g call)) (next-within g call (step g call) refl h)
+
+-- ---- a plan that an image holds
+
+-- where all four of it are quoted, it is within the limits
+pub held-within-limits : (image before after : List ℕ) (r : Quotations) → QuotesHeld image before after r → (q : FourQuotes) → r ≡ AllQuoted q
+    → within (graphIn image) ≡ true
+unfolding heldRule readImage
+held-within-limits image before after r x q e =
+    let n = none-append (imageRows image) (bufferRow before 2048 ∷ []) (accepted-only (heldRows image before) tt tt (sym (x .answer) ∙ ap saidQuotations e) .0) in
+    read-within image (graphIn image) (accepted-where (imageRows image) (graphIn image) (n .0))

@@ -12,8 +12,9 @@ pub mod Vectors
 pub mod ImportExport
 -- The grounds of a transition, and the numbers that calls given transitions can answer.
 pub mod Grounds
--- What every call keeps, the figures of a plan within the limits, and the record.
+-- What every call keeps, the figures of a plan within the limits, how large they, their k and their j can be, and the record.
 pub mod Kept
 pub mod Figures
 pub mod Sizes
+pub mod Small
 pub mod Record

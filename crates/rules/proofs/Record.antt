@@ -1,32 +1,30 @@
 -- The quotation record: 88 bits, 11 octets, and its fields read back give the four kinds and figures. The record is a list of fields packed by the
--- image's law (field's `unpack-of-bits`): where no figure is above 1,048,575 each value is one of its width's, so the fields come back, and a
--- kind and a figure determine what was quoted.
+-- image's law (field's `unpack-of-bits`): no figure of a plan within the limits is above 1,048,064, and 20 bits hold up to 1,048,575, so each value is one of its
+-- width's, the fields come back, and a kind and a figure determine what was quoted.
 -- Assumes nothing.
-use mathlib.Core.Bool.{Bool, true, false, _||_}
+use mathlib.Core.Bool.{Bool, true}
 use mathlib.Core.List.{List, [], _∷_, _++_}
 use mathlib.Core.Path.{_≡_, refl, sym, ap, ap₂, _∙_}
 use Prim.Native.Nat.{ℕ, _+_, _*_, _^_, _<_}
 use native.Mathlib.Omega.{arith}
-use borrow.Author.Tests.{ltb-false}
 use lib.ListN.{length, getD}
 use Rattle.field.specs.Field.{Field, AllFit, Octets, bits, widthOfAll, unpack, fieldAt}
 use Rattle.field.proofs.Bits.{bits-append}
 use Rattle.field.proofs.Pack.{length-pack, bits-pack, pack-octets, unpack-of-bits}
 use Rattle.graph.specs.declared.Which.{Which}
 use Rattle.graph.specs.declared.Which.the-variants.{LeastDelay, GreatestDelay, LeastCount, GreatestCount}
-use Rattle.graph.specs.Which.{place, some}
+use Rattle.graph.specs.Which.{place}
 use Rattle.graph.specs.Compute.{figureFor}
 use Rattle.graph.specs.Figure.{Figure, number, NONE, STRANDED, ENDLESS, kind, value}
 use Rattle.graph.specs.Graph.{Graph}
 use Rattle.graph.proofs.Known.{figure-of, figure-same}
 use Rattle.rules.specs.Image.{field}
-use Rattle.rules.specs.Quotations.{recordFields, recordOctets, recordRows, recordRule, tooLarge}
+use Rattle.rules.specs.Limits.{within}
+use Rattle.rules.specs.Quotations.{recordFields, recordOctets, recordRows, recordRule}
 use Rattle.rules.specs.Refusal.{accepted}
+use Rattle.rules.proofs.Results.{not-false}
+use Rattle.rules.proofs.Sizes.{figure-fits}
 use Rattle.rules.proofs.Tables.{accepted-only}
-
-or-true : (b : Bool) → b || true ≡ true
-or-true true = refl
-or-true false = refl
 
 -- "88 bits, 11 octets"
 pub record-width : (g : Graph) → widthOfAll (recordFields g) ≡ 8 * 11
@@ -49,41 +47,22 @@ kind-fits NONE = omega arith
 kind-fits STRANDED = omega arith
 kind-fits ENDLESS = omega arith
 
-value-fits : (f : Figure) → tooLarge f ≡ false → value f < 2 ^ 20
-value-fits f h = omega (arith, ltb-false 1048575 (value f) h)
+-- what an accepted record says of the plan and of the length
+pub accepted-record : (g : Graph) (buffer : List ℕ) (n : ℕ) → recordRule g buffer ≡ accepted n → (within g ≡ true) × (n ≡ 11)
+unfolding recordRule
+accepted-record g buffer n e =
+    let ((w, b), same) = accepted-only (recordRows g buffer) 11 n e in
+    (not-false (within g) w, sym same)
 
--- none of the four is above
-none-of : (p : Which → Bool) → some p ≡ false → (which : Which) → p which ≡ false
-none-of p e which = go (p which) refl
-  where
-    yes : (which : Which) → p which ≡ true → some p ≡ true
-    yes LeastDelay h = rw h refl
-    yes GreatestDelay h = rw h (or-true (p LeastDelay))
-    yes LeastCount h = rw h (ap (λ (b : Bool). p LeastDelay || b) (or-true (p GreatestDelay)) ∙ or-true (p LeastDelay))
-    yes GreatestCount h =
-        rw h
-        (ap (λ (b : Bool). p LeastDelay || (p GreatestDelay || b)) (or-true (p LeastCount))
-        ∙ ap (λ (b : Bool). p LeastDelay || b) (or-true (p GreatestDelay)) ∙ or-true (p LeastDelay))
-
-    go : (b : Bool) → p which ≡ b → b ≡ false
-    go true h = sym (yes which h) ∙ e
-    go false h = refl
-
-module _ (g : Graph) (buffer : List ℕ) (n : ℕ) (e : recordRule g buffer ≡ accepted n) where
-  -- what an accepted record says of the length and of the figures
-  pub accepted-record : (n ≡ 11) × ((which : Which) → tooLarge (figureFor which g) ≡ false)
-  unfolding recordRule
-  accepted-record =
-      let ((w, (b, (l, u))), same) = accepted-only (recordRows g buffer) 11 n e in
-      (sym same, none-of (λ which. tooLarge (figureFor which g)) l)
-
+module _ (g : Graph) (w : within g ≡ true) where
   fits : (which : Which) → value (figureFor which g) < 2 ^ 20
-  fits which = value-fits (figureFor which g) (accepted-record .1 which)
+  fits which = omega (arith, figure-fits g w which)
 
   kinds : (which : Which) → kind (figureFor which g) < 2 ^ 2
   kinds which = kind-fits (figureFor which g)
 
-  record-fits : AllFit (recordFields g)
+  -- "no figure passes 1,048,064" (document 02, E8), which 20 bits hold
+  pub record-fits : AllFit (recordFields g)
   unfolding recordFields AllFit
   record-fits = (
     kinds LeastDelay,

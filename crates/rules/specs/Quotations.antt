@@ -1,18 +1,17 @@
 -- The quotations and the record: their rules, and what an accepted quotation says. Document 01, "Routes and figures", from "Least delay" on, "The
--- quotation record", and rows 0, 11 and 13 of the table. Assumes nothing.
+-- quotation record", and rows 0, 11 and 18 of the table. Assumes nothing.
 use mathlib.Core.Bool.{Bool}
 use mathlib.Core.List.{List, [], _∷_, _++_}
 use mathlib.Core.Logic.{_↔_}
 use mathlib.Core.Path.{_≡_}
 use Prim.Native.Nat.{ℕ, _*_, _≤_}
-use lib.Dec.{ltb}
 use lib.ListN.{length, take, drop}
 use Rattle.graph.specs.Class.{figureOf, counting}
 use Rattle.graph.specs.Graph.{Graph, states, counted}
 use Rattle.graph.specs.Route.{Cost, Route, GoesOnForever, EndsUnanswered, total}
 use Rattle.graph.specs.Figure.{Figure, number, NONE, STRANDED, ENDLESS, kind, value, NoStart, Shown, costOver}
 use Rattle.graph.specs.Compute.{least, greatest, figureFor}
-use Rattle.graph.specs.Which.{place, four, inTurn, some}
+use Rattle.graph.specs.Which.{place, four, inTurn}
 use Rattle.graph.specs.declared.Asked.{Asked}
 use Rattle.graph.specs.declared.Asked.the-variants.{One, LeastCountFor, GreatestCountFor}
 use Rattle.graph.specs.declared.Which.{Which}
@@ -26,7 +25,6 @@ use Rattle.rules.specs.declared.Quotation.the-variants.{Quoted, Refused}
 use Rattle.rules.specs.declared.FourQuotes.{FourQuotes}
 use Rattle.rules.specs.declared.Quotations.{Quotations}
 use Rattle.rules.specs.declared.Quotations.the-variants.{Quoted as AllQuoted, Refused as NoneQuoted}
-use Rattle.rules.specs.declared.Refusal.the-variants.{FigureSize}
 use Rattle.rules.specs.Image.{field, graphIn, imageRows}
 use Rattle.rules.specs.declared.Refusal.{Refusal}
 use Rattle.rules.specs.declared.Written.{Written}
@@ -79,13 +77,9 @@ recordFields g = inTurn (λ which. figureFields (figureFor which g))
 unfoldable pub recordOctets : Graph → List ℕ
 recordOctets g = pack (recordFields g)
 
--- "a figure above 1,048,575"
-abbrev pub tooLarge : Figure → Bool
-tooLarge f = ltb 1048575 (value f)
-
--- "In record: 11, 13"
+-- "In record: 11, 13.", after 0, and 13 is out: "take it out of the table." (document 02, E8), since 20 bits hold every figure (`record-fits` of proofs/Record.antt)
 abbrev pub recordRows : Graph → List ℕ → List Row
-recordRows g buffer = limitRow g ∷ bufferRow buffer 11 ∷ (FigureSize, some (λ which. tooLarge (figureFor which g))) ∷ []
+recordRows g buffer = limitRow g ∷ bufferRow buffer 11 ∷ []
 
 unfoldable pub recordRule : Graph → List ℕ → Result ℕ
 recordRule g buffer = byTable (recordRows g buffer) 11

@@ -7,9 +7,10 @@ use Rattle.rules.specs.declared.Refusal.{Refusal}
 use Rattle.rules.specs.declared.Written.{Written}
 use Rattle.rules.specs.declared.Refusal.the-variants.{PlanLimits, ImageShort, ImageLong, Version, StateCount, TransitionCount}
 use Rattle.rules.specs.declared.Refusal.the-variants.{SpareBits, StateNumber, Duration, ListFull, TransitionNumber, BufferLength}
-use Rattle.rules.specs.declared.Refusal.the-variants.{MarksValue, FigureSize, StartCount, TextForm, FromState, ToState, TeamNumber}
+use Rattle.rules.specs.declared.Refusal.the-variants.{MarksValue, StartCount, TextForm, FromState, ToState, TeamNumber}
 
--- the column "returned" of the table; 14 and 15 by document 02, E1, 16 and 17 by E3, 18 by E4
+-- the column "returned" of the table; 14 and 15 by document 02, E1, 16 and 17 by E3, 18 by E4. "Thirteen can go .. take it out of the table." (E8): it stays
+-- unused
 abbrev pub number : Refusal → ℕ
 number PlanLimits = 0
 number ImageShort = 1
@@ -24,7 +25,6 @@ number ListFull = 9
 number TransitionNumber = 10
 number BufferLength = 11
 number MarksValue = 12
-number FigureSize = 13
 number StartCount = 14
 number TextForm = 15
 number FromState = 16

@@ -1,6 +1,6 @@
 // The grounds on which a call is refused, and the answers of calls that edit a plan or fill a lent buffer. The rules themselves are definitions, in specs/.
 
-// A row of document 01's table of refused calls. specs/Refusal.antt gives the number of each.
+// A row of document 01's table of refused calls, as document 02 has changed it. specs/Refusal.antt gives the number of each.
 pub enum Refusal {
     // the plan value breaks a limit of a plan
     PlanLimits,
@@ -28,8 +28,6 @@ pub enum Refusal {
     BufferLength,
     // value above 7
     MarksValue,
-    // a figure above 1,048,575
-    FigureSize,
     // not exactly one start
     StartCount,
     // text off the form

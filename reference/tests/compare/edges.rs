@@ -454,8 +454,8 @@ fn unjoin_at_every_place() {
     }
 }
 
-/// The version of the archive, 0.8.0.
+/// The version of the archive, 0.9.0.
 #[test]
 fn the_library_says_its_version() {
-    assert_eq!(reference::proved::version(), 800);
+    assert_eq!(reference::proved::version(), 900);
 }

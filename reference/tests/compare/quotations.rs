@@ -25,6 +25,7 @@ const SEED: u64 = 0x0000_0C0D;
 const LISTS: u64 = 8_000;
 const IMAGES: u64 = 40_000;
 const CLASS_PLANS: u64 = 20_000;
+const RECORD_PLANS: u64 = 20_000;
 
 fn quotations(plan: &Plan) -> [Quotation; 4] {
     FIGURES.map(|figure| rounds::quote(plan, figure))
@@ -108,6 +109,29 @@ fn counts_for_classes() {
     assert!(kinds
         .into_iter()
         .eq(greatest_kinds.into_iter().chain(least_kinds)));
+}
+
+/// The records of random plans, altered by hand too, into buffers that are long enough or too short: 0,
+/// then 11, and no other number (document 02, E8).
+#[test]
+fn records() {
+    let mut rng = Rng::of_test("records", SEED);
+    let mut tally = Tally::default();
+    for _ in 0..RECORD_PLANS {
+        let n = rng.between(1, 12);
+        let m = rng.below(3 * n);
+        let mut pair = random(&mut rng, n, m);
+        for altered in [false, true] {
+            if altered {
+                generate::alter(&mut rng, &mut pair);
+            }
+            let octets = rng.pick(&[0, 10, 11, 12, 40]);
+            let answer = library::record(&mut rng, pair.lent(), pair.plan(), octets);
+            tally.add("record", answer);
+        }
+    }
+    tally.print(&format!("records: {RECORD_PLANS} plans"));
+    tally.assert_covers(&["record"]);
 }
 
 /// P1 with teams: each of the 32 numbers, and the numbers past them.

@@ -11,7 +11,7 @@ use crate::wrong::{self, Wrong, WAYS};
 
 /// The numbers by which the table lets each call be refused; of replay also those of what is no
 /// list of calls, and no plan.
-const TABLE: [(&str, &[u32]); 14] = [
+const TABLE: [(&str, &[u32]); 15] = [
     ("fresh", &[4]),
     ("generate", &[4, 5]),
     ("from_image", &[1, 2, 3, 4, 5, 6, 8, 16, 17]),
@@ -24,6 +24,7 @@ const TABLE: [(&str, &[u32]); 14] = [
     ("write", &[0, 11]),
     ("export", &[0, 11, 14]),
     ("count_for", &[0, 11, 18]),
+    ("record", &[0, 11]),
     ("quote", &[1, 2, 3, 4, 5, 6, 8, 16, 17]),
     ("replay", &[4, 11, 254, 255]),
 ];

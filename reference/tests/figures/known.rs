@@ -5,6 +5,7 @@ use std::fs;
 use std::ops::RangeInclusive;
 use std::path::Path;
 
+use reference::bits::BitReader;
 use reference::check::check;
 use reference::image::{decode, encode};
 use reference::quotation::RECORD_OCTETS;
@@ -545,8 +546,16 @@ fn the_ring_of_512_states() {
             assert_eq!(quotation.walk, (0..k).collect::<Vec<_>>());
             assert_eq!(quotation.j, if value == Endless { 1 } else { 0 });
         }
-        // The record's 20 bits hold them.
-        assert_eq!(plan.record(&mut [0; 11]), Ok(11));
+        // The record's 20 bits hold them: 1,048,064 is FFE00 hex.
+        let mut record = [0; 11];
+        assert_eq!(plan.record(&mut record), Ok(11));
+        let mut bits = BitReader::new(&record);
+        for value in figures {
+            assert_eq!(
+                (bits.take(2), bits.take(20)),
+                (value.kind(), value.figure())
+            );
+        }
     }
     // Its last transition alone open: the longest walk that shows one.
     let mut plan = ring(2046);

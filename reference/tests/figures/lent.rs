@@ -28,7 +28,9 @@ pub fn compare_some(rng: &mut Rng, lent: &LentPlan, plan: &Plan, values: &[Value
     library::quote_image(rng, &encode(plan), Ok((plan, values)));
     let places = plan.states.len();
     match rng.below(FIGURES.len() + 3) {
-        0 => library::record(rng, lent, plan, RECORD_OCTETS),
+        0 => {
+            library::record(rng, lent, plan, RECORD_OCTETS);
+        }
         choice @ 1..=4 => {
             let figure = FIGURES[choice - 1];
             let value = values[figure as usize];

@@ -65,8 +65,8 @@ pub fn quote(
     assert!(*lent == lent_before, "the plan slices changed");
 }
 
-/// The record into a buffer of so many octets.
-pub fn record(rng: &mut Rng, lent: &LentPlan, plan: &Plan, octets: usize) {
+/// The record into a buffer of so many octets, and its answer.
+pub fn record(rng: &mut Rng, lent: &LentPlan, plan: &Plan, octets: usize) -> u32 {
     let lent_before = lent.clone();
     let mut buffer = rng.octets(octets);
     let mut expected_buffer = buffer.clone();
@@ -77,6 +77,7 @@ pub fn record(rng: &mut Rng, lent: &LentPlan, plan: &Plan, octets: usize) {
     assert_eq!(lent.record(&mut buffer), expected, "the record of {plan:?}");
     assert_eq!(buffer, expected_buffer, "the record of {plan:?}");
     assert!(*lent == lent_before, "the plan slices changed");
+    expected
 }
 
 /// All four figures of an image, or the refusal that is expected.

@@ -63,7 +63,7 @@ pub const COUNTED: u32 = 1;
 
 /// The version of the archive that this crate is for: 10,000 times the first number, 100 times the
 /// second, and the third.
-pub const VERSION_NUMBER: u32 = 800;
+pub const VERSION_NUMBER: u32 = 900;
 
 /// What the archive answers for accepted. Write, export and record add the octets' number.
 const ACCEPTED: u32 = 256;

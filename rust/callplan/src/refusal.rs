@@ -3,7 +3,8 @@
 use core::error::Error;
 use core::fmt;
 
-/// Why a call was refused. A refused call changes nothing. Later versions may have more.
+/// Why a call was refused. A refused call changes nothing. Later versions may have more. None has
+/// the number 13.
 #[derive(Clone, Copy, Debug, PartialEq, Eq, Hash)]
 #[non_exhaustive]
 pub enum Refusal {
@@ -35,8 +36,6 @@ pub enum Refusal {
     BufferLength,
     /// The marks value is above 7.
     MarksValue,
-    /// A figure of the record is above 1,048,575. No plan has one, so this never comes back.
-    FigureSize,
     /// Not exactly one state is marked start.
     StartCount,
     /// The text is off the form of Aldebaran text.
@@ -54,7 +53,7 @@ pub enum Refusal {
 }
 
 /// Each refusal with its number, and what it says.
-const REFUSALS: [(Refusal, u32, &str); 19] = [
+const REFUSALS: [(Refusal, u32, &str); 18] = [
     (Refusal::PlanLimits, 0, "the plan breaks a limit of a plan"),
     (
         Refusal::ImageShort,
@@ -108,11 +107,6 @@ const REFUSALS: [(Refusal, u32, &str); 19] = [
         "a lent buffer is shorter than what is to be put there",
     ),
     (Refusal::MarksValue, 12, "the marks value is above 7"),
-    (
-        Refusal::FigureSize,
-        13,
-        "a figure of the record is above 1,048,575",
-    ),
     (
         Refusal::StartCount,
         14,
@@ -194,5 +188,14 @@ mod tests {
             "a transition's to is not below the state count"
         );
         assert_eq!(Refusal::of(255).to_string(), "an unknown answer");
+    }
+
+    #[test]
+    fn no_refusal_is_13() {
+        assert_eq!(Refusal::of(13), Refusal::Other(13));
+        let numbers = REFUSALS.map(|row| row.1);
+        assert!(numbers
+            .into_iter()
+            .eq((0..19).filter(|&number| number != 13)));
     }
 }

@@ -1,9 +1,9 @@
 -- `lines::answer`: a short buffer is refused, a refused image gets its number, and any other its four lines (proofs/Prints.antt). Assumes nothing.
 use native.Mathlib.Nat.{le-refl}
 use native.Mathlib.Omega.{arith}
-use Rattle.quotation.proofs.Kept.{held-within-limits}
+use Rattle.rules.proofs.Kept.{held-within-limits}
 use Rattle.quotation.proofs.Recorded.{quotes-fit}
-use Rattle.quotation.proofs.Small.{four-small}
+use Rattle.rules.proofs.Small.{four-small}
 use Rattle.wording.proofs.Lengths.{refused-room}
 use Rattle.lines.proofs.Prints.{prints-nothing, prints-figures, prints-refusal}
 use borrow.Author.Needs.{needs}

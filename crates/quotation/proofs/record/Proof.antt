@@ -1,12 +1,11 @@
--- `quotation::record`: each test is the next row of the rule; no figure is too large, so what is put is the record (proofs/Recorded.antt). Assumes nothing.
+-- `quotation::record`: each test is the next row of the rule; 20 bits hold every figure, so what is put is the record (proofs/Recorded.antt). Assumes nothing.
 use mathlib.Core.Path.{sym, _∙_}
 use native.Mathlib.Nat.{le-refl}
 use native.Mathlib.Omega.{arith}
 use borrow.Author.Tests.{lt-ltb, le-ltb, not-true, not-false}
 use Rattle.plan.specs.View.{view}
 use Rattle.rules.specs.declared.Refusal.the-variants.{PlanLimits, BufferLength}
-use Rattle.rules.proofs.Basic.{record-limits, record-short}
-use Rattle.rules.proofs.Sizes.{record-made}
+use Rattle.rules.proofs.Basic.{record-limits, record-short, record-done}
 use Rattle.quotation.proofs.Recorded.{put-record, quotes-fit, record-refusal, record-acceptance}
 use borrow.Author.Needs.{needs}
 use Rattle.quotation.proofs.record.Statement.{statement}
@@ -41,7 +40,7 @@ same-length c = search needs
 returns-3 : tie.Need-returns-3
 returns-3 c =
     let w = (sym (c .before .before .before .before .before .before .before .before .before .before .before .before .before .before .before .before .within .ensures) ∙ not-false _ (c .before .before .before .before .before .before .before .before .before .before .before .before .before .before .before .if1 .left)) in
-    record-acceptance (view (c .before .before .before .before .before .before .before .before .before .before .before .before .before .before .before .before .before .before .args .t1)) _ _ (record-made (view (c .before .before .before .before .before .before .before .before .before .before .before .before .before .before .before .before .before .before .args .t1)) _ w (le-ltb _ 11 (c .before .before .before .before .before .before .before .before .before .before .before .before .before .before .if2 .left)))
+    record-acceptance (view (c .before .before .before .before .before .before .before .before .before .before .before .before .before .before .before .before .before .before .args .t1)) _ _ (record-done (view (c .before .before .before .before .before .before .before .before .before .before .before .before .before .before .before .before .before .before .args .t1)) _ w (le-ltb _ 11 (c .before .before .before .before .before .before .before .before .before .before .before .before .before .before .if2 .left)))
     (c .before .before .put-record .ensures ∙ put-record (view (c .before .before .before .before .before .before .before .before .before .before .before .before .before .before .before .before .before .before .args .t1)) _ _ _ (c .before .before .before .before .before .show-all .ensures) _ (λ i. omega (arith, c .before .before .before .before .before .before .before .before .before .before .before .before .before .before .before .before .before .slice-known .given i)) (c .before .before .before .before .before .before .before .before .before .before .before .before .before .before .if2 .left))
 
 pub record-spec : {M : Type 1} → statement M

@@ -1,0 +1,2 @@
+-- The ring, transition by transition, and its least delay.
+pub mod Attained
