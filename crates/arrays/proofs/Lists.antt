@@ -50,6 +50,10 @@ map-tabulate {A} {B} h (suc n) f =
 pub later-none : (n : ℕ) (l : List ℕ) → n ≤ length l → Later n l l
 later-none n l h = record { room = h; same = refl }
 
+-- as many places as there were
+pub later-long : (k n : ℕ) (before after : List ℕ) → Later k before after → k ≤ n → n ≤ length before → n ≤ length after
+later-long k n before after l h room = omega (arith, l .room, ap length (l .same), length-drop k after, length-drop k before)
+
 pub later-set : (n : ℕ) (before after : List ℕ) (i v : ℕ) → i < n → Later n before after → Later n before (set after i v)
 later-set n before after i v h l =
     record { room = rw (length-set after i v) (l .room); same = drop-set-lt n after i v h ∙ l .same }

@@ -22,9 +22,10 @@ use Rattle.rules.proofs.Basic.{fresh-done, import-given}
 use Rattle.rules.proofs.Kept.{fresh-within}
 use Rattle.rules.proofs.ReadWrite.{read-within}
 use Rattle.rules.proofs.Tables.{accepted-only, accepted-where, answer-first, after-none, after-refused}
+use Rattle.taken.specs.Taken.{bitsTaken}
 use Rattle.plan.specs.declared.Edited.{Edited}
 use Rattle.plan.specs.declared.Plan.{Plan}
-use Rattle.plan.specs.Promise.{Edit, Held}
+use Rattle.plan.specs.Promise.{Edit, Turn, Held}
 use Rattle.plan.specs.View.{view, noPlan}
 use Rattle.generated.specs.Generated.{generatedGraph, generateRows, generateRule}
 use Rattle.generated.proofs.Limits.{rule-within}
@@ -32,7 +33,7 @@ use Rattle.conversion.specs.Rules.{pastLimits, imageRule, textRule, seed
 
 -- ---- octets that hold a plan by their rows, and a call that puts some of it
 
-module _ (rows last : List Row) (g : Graph) (p : Plan) (e : Edited) (x : Edit p (byTable rows g) e) where
+module _ (rows last : List Row) (g : Graph) (p : Plan) (e : Edited) {bits : ℕ} (x : Edit p (byTable rows g) bits e) where
   by-rows : said (e .answer) ≡ first rows
   by-rows = x .answer ∙ answer-first rows g
 
@@ -59,7 +60,7 @@ module _ (rows last : List Row) (g : Graph) (p : Plan) (e : Edited) (x : Edit p 
 
 -- ---- its image written, where the plan is within the limits
 
-module _ (rows : List Row) (g : Graph) (p : Plan) (e : Edited) (x : Edit p (byTable rows g) e) (before : List ℕ) where
+module _ (rows : List Row) (g : Graph) (p : Plan) (e : Edited) {bits : ℕ} (x : Edit p (byTable rows g) bits e) (before : List ℕ) where
   image-of : e .answer ≡ Answer.Accepted → within g ≡ true → (after : List ℕ) (w : Written) → Write (image (view (e .plan))) (writeRule (view (e .plan)) before) before after w
       → Write (image g) (byTable (rows ++ pastLimits (writeRows g before)) (imageLength (states g) (count g))) before after w
   unfolding writeRule
@@ -69,9 +70,9 @@ module _ (rows : List Row) (g : Graph) (p : Plan) (e : Edited) (x : Edit p (byTa
 
 -- ---- an image for a text
 
-module _ (text before : List ℕ) (f : Edited) (y : Edit noPlan (freshRule 1) f) (e : Edited) (x : Edit (f .plan) (step (view (f .plan)) (import text)) e) where
+module _ (text before : List ℕ) (f : Edited) (y : Edit noPlan (freshRule 1) 0 f) (e : Edited) (x : Turn (f .plan) (import text) e) where
   -- the text is imported over a plan of one state, which is within the limits: the text alone decides
-  alone : Edit (f .plan) (byTable (textRows text) (graphInText text)) e
+  alone : Edit (f .plan) (byTable (textRows text) (graphInText text)) 0 e
   unfolding importText
   alone =
       let v : view (f .plan) ≡ freshGraph 1 = y .plan ∙ ap (next (view noPlan)) (fresh-done 1 refl) in
@@ -91,7 +92,7 @@ module _ (text before : List ℕ) (f : Edited) (y : Edit noPlan (freshRule 1) f)
 -- ---- a text for an image
 
 module _ (octets before : List ℕ) (e : Edited) (x : Held octets e) where
-  read : Edit noPlan (byTable (imageRows octets) (graphIn octets)) e
+  read : Edit noPlan (byTable (imageRows octets) (graphIn octets)) (bitsTaken octets) e
   unfolding readImage
   read = x
 
@@ -111,8 +112,8 @@ module _ (octets before : List ℕ) (e : Edited) (x : Held octets e) where
 
 -- ---- an image for a seed
 
-module _ (seed n m : ℕ) (before : List ℕ) (e : Edited) (x : Edit noPlan (generateRule seed n m) e) where
-  made : Edit noPlan (byTable (generateRows n m) (generatedGraph seed n m)) e
+module _ (seed n m : ℕ) (before : List ℕ) (e : Edited) (x : Edit noPlan (generateRule seed n m) 0 e) where
+  made : Edit noPlan (byTable (generateRows n m) (generatedGraph seed n m)) 0 e
   unfolding generateRule
   made = x
 

@@ -8,6 +8,7 @@ use mathlib.Core.Bool.{true}
 use mathlib.Core.List.{List, [], _∷_}
 use mathlib.Core.Path.{_≡_, refl}
 use Prim.Native.Nat.{ℕ}
+use native.Mathlib.Omega.{arith}
 use Rattle.graph.specs.declared.Which.the-variants.{LeastDelay, GreatestDelay, LeastCount, GreatestCount}
 use Rattle.graph.specs.Graph.{Graph, marksOf, start, final, counted, transition, from, to, low, high}
 use Rattle.graph.specs.Figure.{number, costFor}
@@ -25,7 +26,7 @@ use Rattle.demands.proofs.Basic.{steps}
 module _ (g : Graph) (w : within g ≡ true) (p : Premises g) where
   agrees : Agreement g
   agrees =
-      let total : TotalPlan g = record { closed = within-closed g w; started = p .started; leaves = p .leaves; apart = p .apart } in
+      let total : TotalPlan g = record { closed = within-closed g w; started = p .started; leaves = λ s l u. p .leaves s (omega (arith, l)) u; apart = p .apart } in
       agreement g (record { total = total; lows-one = p .lows-one; highs-one = p .highs-one })
 
   pub report-figures : ReportFigures g
@@ -70,6 +71,6 @@ steps-premises =
       lows-one = q .lows-one;
       highs-one = q .highs-one;
       started = q .total .started;
-      leaves = q .total .leaves;
+      leaves = λ s l u. q .total .leaves s (omega (arith, l)) u;
       apart = q .total .apart;
     }

@@ -1,4 +1,5 @@
--- The promises can be kept, whatever a calculator is given: one that may do whatever they allow answers every call, and so meets the demands. A
+-- The promises can be kept, whatever a calculator is given: one that may do whatever they allow answers every call, and so meets the demands. (What its arguments can hold is no matter
+-- to it: it answers all else too.) A
 -- refusal hands back what it was given; an accepted edit lays the rule's plan over the arrays; an accepted write puts the octets; and each figure
 -- of a plan within the limits exists and can be shown within n places; of all four at once each within its own 512. Assumes nothing.
 use mathlib.Core.Bool.{Bool, true}
@@ -21,11 +22,13 @@ use Rattle.graph.specs.Class.{figureOf, counting}
 use Rattle.graph.specs.Which.{four}
 use Rattle.graph.proofs.Figures.{each-of}
 use Rattle.costs.proofs.Quoted.{least-quoted, greatest-quoted}
+use Rattle.rules.specs.declared.Answer.the-variants.{Accepted, Refused as NotEdited}
 use Rattle.rules.specs.declared.Figure.{Figure as Answered}
 use Rattle.rules.specs.declared.Figure.the-variants.{Number, None, Stranded, Endless}
 use Rattle.rules.specs.declared.Quotation.{Quotation}
 use Rattle.rules.specs.declared.Quotation.the-variants.{Quoted, Refused as NotQuoted}
 use Rattle.rules.specs.declared.FourQuotes.{FourQuotes}
+use Rattle.rules.specs.declared.HeldQuotations.{HeldQuotations}
 use Rattle.rules.specs.declared.Quotations.{Quotations}
 use Rattle.rules.specs.declared.Quotations.the-variants.{Quoted as AllQuoted, Refused as NoneQuoted}
 use Rattle.rules.specs.declared.Quote.{Quote}
@@ -35,7 +38,7 @@ use Rattle.rules.specs.Aldebaran.{exportText, exportRule}
 use Rattle.rules.specs.Calls.{step}
 use Rattle.rules.specs.Image.{image, imageRows, graphIn, readImage}
 use Rattle.rules.specs.Limits.{within}
-use Rattle.rules.specs.Quotations.{Says, saysOver, saysAsked, says, Stated, Quotes, AllStated, QuotesAll, QuotesHeld, Write, LeastQuoted, GreatestQuoted, meant, part, quoteOf}
+use Rattle.rules.specs.Quotations.{Says, saysOver, saysAsked, says, Stated, Quotes, AllStated, QuotesAll, Write, LeastQuoted, GreatestQuoted, meant, part, quoteOf}
 use Rattle.rules.specs.Quotations.{saidQuotations, nameRows, quoteRows, quoteRule, allRows, allRule, heldRows, heldRule, recordOctets, recordRule}
 use Rattle.rules.specs.declared.Refusal.{Refusal}
 use Rattle.rules.specs.Refusal.{Result, accepted, refused}
@@ -46,7 +49,8 @@ use Rattle.rules.proofs.Results.{never, not-false}
 use Rattle.rules.proofs.Tables.{accepted-only, accepted-where, none-append}
 use Rattle.plan.specs.declared.Edited.{Edited}
 use Rattle.plan.specs.declared.Plan.{Plan}
-use Rattle.plan.specs.Promise.{Edit, refusing, accepting}
+use Rattle.taken.specs.Taken.{bitsTaken, bitsOf, QuotesImage}
+use Rattle.plan.specs.Promise.{Edit, Turn, Held}
 use Rattle.plan.specs.View.{view, laid, noPlan}
 use Rattle.plan.proofs.Values.{view-laid}
 use Rattle.demands.specs.Calculator.{Calculator, Promises, Answers}
@@ -56,16 +60,16 @@ use Rattle.demands.proofs.Demands.{demand-1, demand-2, demand-3}
 -- the calculator that may do whatever the promises allow
 pub published : Calculator
 published = record {
-  freshes = λ n e. Edit noPlan (freshRule n) e;
-  generates = λ s n m e. Edit noPlan (generateRule s n m) e;
-  helds = λ octets e. Edit noPlan (readImage octets) e;
-  edits = λ p call e. Edit p (step (view p) call) e;
+  freshes = λ n e. Edit noPlan (freshRule n) 0 e;
+  generates = λ s n m e. Edit noPlan (generateRule s n m) 0 e;
+  helds = λ octets e. Held octets e;
+  edits = λ p call e. Turn p call e;
   writes = λ p before after w. Write (image (view p)) (writeRule (view p) before) before after w;
   exports = λ p before after w. Write (exportText (view p)) (exportRule (view p) before) before after w;
   records = λ p before after w. Write (recordOctets (view p)) (recordRule (view p) before) before after w;
   quotes = λ which p before after q. Quotes which (view p) before after q;
   quotes-all = λ p before after q. QuotesAll (view p) before after q;
-  quotes-image = λ octets before after q. QuotesHeld octets before after q;
+  quotes-image = λ octets before after q. QuotesImage octets before after q;
 }
 
 pub published-keeps : Promises published
@@ -74,9 +78,9 @@ published-keeps = record { freshes = λ x. x; generates = λ x. x; helds = λ x.
 
 -- ---- edits
 
-edit-of : (p : Plan) (o : Result Graph) → (e : Edited) × Edit p o e
-edit-of p (accepted g) = (accepting (laid p g), record { answer = refl; plan = view-laid p g; whole = refl })
-edit-of p (refused r) = (refusing p r, record { answer = refl; plan = refl; whole = refl })
+edit-of : (p : Plan) (o : Result Graph) (bits : ℕ) → (e : Edited) × Edit p o bits e
+edit-of p (accepted g) bits = (record { answer = Accepted; plan = laid p g; taken = bits }, record { answer = refl; plan = view-laid p g; whole = refl; taken = refl })
+edit-of p (refused r) bits = (record { answer = NotEdited r; plan = p; taken = bits }, record { answer = refl; plan = refl; whole = refl; taken = refl })
 
 -- ---- lent buffers
 
@@ -278,30 +282,30 @@ all-of g before =
     (λ e. let ((w, (short, u)), same) = accepted-only (allRows g before) tt tt e in (not-false (within g) w, ltb-false (length before) 2048 short)) in
     (after, q, record { answer = answer; kept = kept; quoted = quoted })
 
-image-of : (octets before : List ℕ) → (after : List ℕ) × (q : Quotations) × QuotesHeld octets before after q
+image-of : (octets before : List ℕ) → (after : List ℕ) × (q : HeldQuotations) × QuotesImage octets before after q
 unfolding heldRule readImage
 image-of octets before =
     let (after, q, answer, kept, quoted) = four-by (graphIn octets) before (heldRule octets before)
     (λ e. let (none, same) = accepted-only (heldRows octets before) tt tt e in
     let (image, (short, u)) = none-append (imageRows octets) (bufferRow before 2048 ∷ []) none in
     (read-within octets (graphIn octets) (accepted-where (imageRows octets) (graphIn octets) image), ltb-false (length before) 2048 short)) in
-    (after, q, record { answer = answer; kept = kept; quoted = quoted })
+    (after, record { quotations = q; taken = bitsTaken octets }, (record { answer = answer; kept = kept; quoted = quoted }, refl))
 
 -- ---- so it is
 
 pub published-answers : Answers published
 unfolding published
 published-answers = record {
-  freshes = λ n. edit-of noPlan (freshRule n);
-  generates = λ s n m. edit-of noPlan (generateRule s n m);
-  helds = λ octets. edit-of noPlan (readImage octets);
-  edits = λ p call. edit-of p (step (view p) call);
-  writes = λ p before. write-of (image (view p)) before (writeRule (view p) before);
-  exports = λ p before. write-of (exportText (view p)) before (exportRule (view p) before);
-  records = λ p before. write-of (recordOctets (view p)) before (recordRule (view p) before);
-  quotes = λ asked p before. quote-of asked (view p) before;
-  quotes-all = λ p before. all-of (view p) before;
-  quotes-image = λ octets before. image-of octets before;
+  freshes = λ n u. edit-of noPlan (freshRule n) 0;
+  generates = λ s n m u v w. edit-of noPlan (generateRule s n m) 0;
+  helds = λ octets u. edit-of noPlan (readImage octets) (bitsTaken octets);
+  edits = λ p call u v. edit-of p (step (view p) call) (bitsOf (view p) call);
+  writes = λ p before u v. write-of (image (view p)) before (writeRule (view p) before);
+  exports = λ p before u v. write-of (exportText (view p)) before (exportRule (view p) before);
+  records = λ p before u v. write-of (recordOctets (view p)) before (recordRule (view p) before);
+  quotes = λ asked p before u v w. quote-of asked (view p) before;
+  quotes-all = λ p before u v. all-of (view p) before;
+  quotes-image = λ octets before u v. image-of octets before;
 }
 
 pub published-demands : Demand1 published × Demand2 published × Demand3 published

@@ -3,7 +3,7 @@
 -- promise rules out: one that refuses the ring, and one that cuts its figure to 19 bits. Assumes nothing.
 use mathlib.Core.Bool.{true}
 use mathlib.Core.List.{List, [], _∷_}
-use mathlib.Core.Path.{_≡_, refl, sym, ap, _∙_, subst}
+use mathlib.Core.Path.{_≡_, refl, ap, _∙_, subst}
 use Prim.Native.Nat.{ℕ, _≤_}
 use borrow.Author.Tests.{lt-ltb, le-ltb}
 use native.Mathlib.Omega.{arith}
@@ -15,24 +15,23 @@ use Rattle.graph.specs.declared.Which.the-variants.{LeastDelay}
 use Rattle.graph.specs.Class.{figureOf, counting}
 use Rattle.graph.specs.Compute.{figureFor}
 use Rattle.graph.specs.Figure.{number, value}
-use Rattle.graph.specs.Graph.{Graph, counted}
+use Rattle.graph.specs.Graph.{Graph}
 use Rattle.rules.specs.declared.FourQuotes.{FourQuotes}
-use Rattle.rules.specs.declared.Quotations.{Quotations}
-use Rattle.rules.specs.declared.Quotations.the-variants.{Quoted as AllQuoted, Refused as NoneQuoted}
+use Rattle.rules.specs.declared.HeldQuotations.{HeldQuotations}
+use Rattle.rules.specs.declared.Quotations.the-variants.{Quoted as AllQuoted}
 use Rattle.rules.specs.declared.Refusal.{Refusal}
 use Rattle.rules.specs.declared.Written.{Written}
 use Rattle.rules.specs.declared.Written.the-variants.{Length, Refused}
 use Rattle.rules.specs.Limits.{within}
 use Rattle.rules.specs.Image.{image, graphIn, imageRows, readImage}
-use Rattle.rules.specs.Quotations.{meant, saidQuotations, quoteOf, allRows, allRule, heldRule}
-use Rattle.rules.specs.Refusal.{accepted, wrote}
+use Rattle.rules.specs.Quotations.{meant, quoteOf, heldRule}
+use Rattle.rules.specs.Refusal.{wrote}
 use Rattle.rules.specs.Rules.{bufferRow}
 use Rattle.rules.proofs.Basic.{not-13, record-limits, record-short, record-done}
 use Rattle.rules.proofs.Figures.{within-lows, within-highs}
-use Rattle.rules.proofs.Kept.{held-within-limits}
 use Rattle.rules.proofs.ReadWrite.{read-image}
-use Rattle.rules.proofs.Results.{never, not-false}
-use Rattle.rules.proofs.Sizes.{figure-said, quoted-fits}
+use Rattle.rules.proofs.Results.{never}
+use Rattle.rules.proofs.Sizes.{figure-said, quoted-fits, figure-fits}
 use Rattle.rules.proofs.Small.{small-quote}
 use Rattle.rules.proofs.Tables.{accepted-only, after-none}
 use Rattle.plan.specs.declared.Plan.{Plan}
@@ -41,35 +40,25 @@ use Rattle.plan.proofs.Promises.{length-answer}
 use Rattle.demands.specs.Calculator.{Calculator, Promises}
 use Rattle.demands.specs.FigureSize.{FiguresFit}
 use Rattle.demands.specs.Record.{Recorded}
-use Rattle.demands.proofs.Demands.{said-of, quoted-within}
+use Rattle.demands.proofs.Demands.{were-quoted, said-of, quoted-within, told}
 use Rattle.demands.proofs.Record.{recorded}
 
--- a quotation of all four that answers that it was accepted quotes
-were-quoted : (r : Quotations) → saidQuotations r ≡ accepted tt → (q : FourQuotes) × (r ≡ AllQuoted q)
-were-quoted (AllQuoted q) e = (q, refl)
-were-quoted (NoneQuoted k) e = absurd (never tt k e)
-
 module _ (c : Calculator) (keeps : Promises c) where
-  -- all four at once were quoted of a plan within the limits
-  four-within : {p : Plan} {before after : List ℕ} (q : FourQuotes) → c .quotes-all p before after (AllQuoted q) → within (view p) ≡ true
-  unfolding allRule
-  four-within {p} {before} q x = not-false (within (view p)) (accepted-only (allRows (view p) before) tt tt (sym (keeps .quotes-all x .answer)) .0 .0)
-
   -- the ring's image is one that holds the ring, and its four figures are quoted
-  ring-image : {before after : List ℕ} {r : Quotations} → 2048 ≤ length before → c .quotes-image (image ring) before after r
-      → (q : FourQuotes) × (r ≡ AllQuoted q) × (meant (quoteOf q LeastDelay .figure) ≡ number 1048064)
+  ring-image : {before after : List ℕ} {r : HeldQuotations} → 2048 ≤ length before → c .quotes-image (image ring) before after r
+      → (q : FourQuotes) × (r .quotations ≡ AllQuoted q) × (meant (quoteOf q LeastDelay .figure) ≡ number 1048064)
   unfolding readImage heldRule
   ring-image {before} {after} {r} room x =
       let (none, same) = accepted-only (imageRows (image ring)) (graphIn (image ring)) ring (read-image ring ring-within) in
-      let (q, is) = were-quoted r (keeps .quotes-image x .answer ∙ after-none (imageRows (image ring)) (bufferRow before 2048 ∷ []) tt none ∙ rw (le-ltb (length before) 2048 room) refl) in (
+      let (q, is) = were-quoted (r .quotations) (keeps .quotes-image x .0 .answer ∙ after-none (imageRows (image ring)) (bufferRow before 2048 ∷ []) tt none ∙ rw (le-ltb (length before) 2048 room) refl) in (
         q,
         is,
-        figure-said LeastDelay (graphIn (image ring)) _ _ _ _ _ (keeps .quotes-image x .quoted q is .each LeastDelay) ∙ ap (figureFor LeastDelay) same ∙ ring-figure,
+        figure-said LeastDelay (graphIn (image ring)) _ _ _ _ _ (keeps .quotes-image x .0 .quoted q is .each LeastDelay) ∙ ap (figureFor LeastDelay) same ∙ ring-figure,
       )
 
   -- record's answer, by its rule, and what it then holds
   recorded-there : {p : Plan} {before after : List ℕ} {w : Written} → within (view p) ≡ true → 11 ≤ length before → c .records p before after w
-      → (w ≡ Length 11) × Recorded (view p) before after
+      → (w ≡ Length 11) × Recorded c p before after
   recorded-there {p} {before} {after} {w} inside room x =
       let is : w ≡ Length 11 = length-answer w 11 (keeps .records x .answer ∙ record-done (view p) before inside (le-ltb (length before) 11 room)) in
       (is, recorded c keeps 11 (subst (λ (v : Written). c .records p before after v) is x))
@@ -86,12 +75,8 @@ module _ (c : Calculator) (keeps : Promises c) where
         (within-lows (view p) inside t h, within-highs (view p) inside t h);
     none-passes = λ {asked} {p} q x.
         quoted-fits (view p) (quoted-within c keeps q x) (figureOf asked) (counting asked (view p)) _ _ _ _ _ (said-of c keeps q x);
-    none-of-four-passes = λ {p} q x which.
-        quoted-fits (view p) (four-within q x) which (counted (view p)) _ _ _ _ _ (keeps .quotes-all x .quoted q refl .each which);
-    none-of-image-passes = λ {octets} q x which.
-        quoted-fits (graphIn octets) (held-within-limits octets _ _ _ (keeps .quotes-image x) q refl) which (counted (graphIn octets)) _ _ _ _ _ (keeps .quotes-image x .quoted q refl .each which);
-    attained = λ {p} q e x.
-        figure-said LeastDelay (view p) _ _ _ _ _ (said-of c keeps q x) ∙ ap (figureFor LeastDelay) e ∙ ring-figure;
+    none-told-passes = λ {which} {g} t. let (is, inside) = told c keeps t in omega (arith, ap value is, figure-fits g inside which);
+    attained = λ e t. told c keeps t .0 ∙ ap (figureFor LeastDelay) e ∙ ring-figure;
     attained-of-image = ring-image;
     never-returned = λ {rows} {a} x e. not-13 a e;
     by-limits = λ {p} {before} h x. keeps .records x .answer ∙ record-limits (view p) before h;

@@ -132,7 +132,8 @@ pub same-everywhere : (c c′ : Calculator) → Promises c → Promises c′ →
 same-everywhere c c′ keeps keeps′ s n m e e′ x y =
     let a : e .answer ≡ e′ .answer = same-answer (e .answer) (e′ .answer) (keeps .generates x .answer ∙ sym (keeps′ .generates y .answer)) in
     let p : e .plan ≡ e′ .plan = keeps .generates x .whole ∙ sym (keeps′ .generates y .whole) in
-    λ i. record { answer = a i; plan = p i }
+    let t : e .taken ≡ e′ .taken = keeps .generates x .taken ∙ sym (keeps′ .generates y .taken) in
+    λ i. record { answer = a i; plan = p i; taken = t i }
 
 -- 4 before 5, and the greatest counts
 pub generate-numbers : (code (first (generateRows 0 2049)) ≡ 4) × (code (first (generateRows 513 2049)) ≡ 4) × (code (first (generateRows 1 2049)) ≡ 5)

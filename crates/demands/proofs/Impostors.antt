@@ -11,7 +11,7 @@ use mathlib.Core.Path.{_≡_, refl, sym, ap, ap₂, _∙_, subst}
 use Prim.Native.Nat.{ℕ, suc, _≤_, _<_}
 use borrow.Author.Tests.{eqb-true, eqb-false}
 use native.Mathlib.Omega.{arith}
-use lib.Dec.{leb, eqb}
+use lib.Dec.{leb, eqb, lit<}
 use lib.ListN.{length, getD, take, drop, replicate}
 use lib.Seq.{take-at}
 use Rattle.field.specs.Field.{Octets}
@@ -51,6 +51,7 @@ use Rattle.rules.proofs.Tables.{after-refused}
 use Rattle.plan.specs.declared.Edited.{Edited}
 use Rattle.plan.specs.declared.Plan.{Plan}
 use Rattle.plan.specs.View.{view}
+use Rattle.demands.specs.Arguments.{AllGiven}
 use Rattle.demands.specs.Calculator.{Calculator}
 use Rattle.demands.specs.Demands.{Demand1, Demand2, OneClaim, Session, edit, quote}
 
@@ -63,7 +64,7 @@ other GreatestDelay = P2
 other LeastCount = P6
 other GreatestCount = P2
 
-first-known : (which : Which) → figureFor which (P1 .plan) ≡ P1 .figures which
+pub first-known : (which : Which) → figureFor which (P1 .plan) ≡ P1 .figures which
 unfolding figureFor any marksOf start final counted transition from to low high
 first-known LeastDelay = refl
 first-known GreatestDelay = refl
@@ -92,6 +93,12 @@ first-listable = record {
   calls = mark 0 4 ∷ mark 1 1 ∷ mark 2 1 ∷ mark 3 2 ∷ join (to-join 0 1 5 20) ∷ join (to-join 1 2 3 15) ∷ join (to-join 1 3 2 30) ∷ join (to-join 2 3 4 25) ∷ [];
   makes = refl;
 }
+
+-- calls whose arguments can be passed
+pub first-given : AllGiven (first-listable .calls)
+unfolding first-listable
+first-given =
+    ((lit< tt, lit< tt), ((lit< tt, lit< tt), ((lit< tt, lit< tt), ((lit< tt, lit< tt), ((lit< tt, lit< tt, lit< tt, lit< tt), ((lit< tt, lit< tt, lit< tt, lit< tt), ((lit< tt, lit< tt, lit< tt, lit< tt), ((lit< tt, lit< tt, lit< tt, lit< tt), tt))))))))
 
 one-state : Listable (P2 .plan)
 unfolding run within all
@@ -162,7 +169,9 @@ module _ (c : Calculator) where
     pub demand : OneClaim c session
     pub makes : runFresh (session .n) (session .calls) .last ≡ g
     pub quote : Quote
-    pub quoted : session .quotation (One which) ≡ Quoted quote
+    pub before : List ℕ
+    pub after : List ℕ
+    pub quoted : c .quotes (One which) (session .last) before after (Quoted quote)
     pub figure : meant (quote .figure) ≡ f
 
   -- then f is g's figure
@@ -170,7 +179,7 @@ module _ (c : Calculator) where
   heard g which f h =
       let s = h .session in
       sym (h .figure)
-      ∙ figure-said which (runFresh (s .n) (s .calls) .last) _ _ _ _ _ (h .demand .right (One which) (h .quote) (h .quoted))
+      ∙ figure-said which (runFresh (s .n) (s .calls) .last) _ _ _ _ _ (h .demand .right (h .quote) (h .quoted))
       ∙ ap (figureFor which) (h .makes)
 
   -- "a calculator that says NONE, STRANDED or ENDLESS before looking": P1 has none of the four
@@ -260,17 +269,17 @@ module _ (c : Calculator) where
 
     -- the walk shown beside a number, whatever the plan and what was asked: "a route has at least one transition .. no state between its first and last may be"
     -- final (E5)
-    module _ (asked : Asked) (q : Quote) (x : ℕ) (e : s .quotation asked ≡ Quoted q) (f : meant (q .figure) ≡ number x) where
+    module _ (asked : Asked) (before after : List ℕ) (q : Quote) (x : ℕ) (e : c .quotes asked (s .last) before after (Quoted q)) (f : meant (q .figure) ≡ number x) where
       abbrev cost : Cost
       cost = costOver (figureOf asked) (counting asked after-list) after-list
 
       abbrev walk : List ℕ
-      walk = take (q .k) (s .places-after asked)
+      walk = take (q .k) after
 
-      numbered : Shows after-list cost (number x) (q .k) (q .j) (s .places-before asked) (s .places-after asked)
+      numbered : Shows after-list cost (number x) (q .k) (q .j) before after
       numbered =
-          subst (λ (f : Figure). Shows after-list cost f (q .k) (q .j) (s .places-before asked) (s .places-after asked)) f
-          (shows-said (figureOf asked) (counting asked after-list) after-list _ _ _ _ _ (d .right asked q e))
+          subst (λ (f : Figure). Shows after-list cost f (q .k) (q .j) before after) f
+          (shows-said (figureOf asked) (counting asked after-list) after-list _ _ _ _ _ (d .right q e))
 
       -- one that shows a start alone
       pub shows-a-start-alone : q .k ≡ 0 → ⊥
@@ -299,25 +308,21 @@ module _ (c : Calculator) where
         lacks first r n
 
     -- a count that is quoted, with its figure x, and what its walk lacks
-    module _ (q : Quote) (x : ℕ) (f : meant (q .figure) ≡ number x) where
+    module _ (before after : List ℕ) (q : Quote) (x : ℕ) (f : meant (q .figure) ≡ number x) where
       abbrev Lacking : Asked → Type 0
-      Lacking asked = Lacks (counting asked after-list) (take (q .k) (s .places-after asked)) x
+      Lacking asked = c .quotes asked (s .last) before after (Quoted q) → Lacks (counting asked after-list) (take (q .k) after) x → ⊥
 
-      pub least-count-lacking : s .quotation (One LeastCount) ≡ Quoted q → Lacking (One LeastCount) → ⊥
-      least-count-lacking e =
-          counts-shown (counted after-list) _ x (q .k) (q .j) (s .places-after (One LeastCount)) f (d .right (One LeastCount) q e .shows .walk)
+      pub least-count-lacking : Lacking (One LeastCount)
+      least-count-lacking e = counts-shown (counted after-list) _ x (q .k) (q .j) after f (d .right q e .shows .walk)
 
-      pub greatest-count-lacking : s .quotation (One GreatestCount) ≡ Quoted q → Lacking (One GreatestCount) → ⊥
-      greatest-count-lacking e =
-          counts-shown (counted after-list) _ x (q .k) (q .j) (s .places-after (One GreatestCount)) f (d .right (One GreatestCount) q e .shows .walk)
+      pub greatest-count-lacking : Lacking (One GreatestCount)
+      greatest-count-lacking e = counts-shown (counted after-list) _ x (q .k) (q .j) after f (d .right q e .shows .walk)
 
-      pub least-class-lacking : (named : ℕ) → s .quotation (LeastCountFor named) ≡ Quoted q → Lacking (LeastCountFor named) → ⊥
-      least-class-lacking named e =
-          counts-shown (inClassOf after-list named) _ x (q .k) (q .j) (s .places-after (LeastCountFor named)) f (d .right (LeastCountFor named) q e .shows .walk)
+      pub least-class-lacking : (named : ℕ) → Lacking (LeastCountFor named)
+      least-class-lacking named e = counts-shown (inClassOf after-list named) _ x (q .k) (q .j) after f (d .right q e .shows .walk)
 
-      pub greatest-class-lacking : (named : ℕ) → s .quotation (GreatestCountFor named) ≡ Quoted q → Lacking (GreatestCountFor named) → ⊥
-      greatest-class-lacking named e =
-          counts-shown (inClassOf after-list named) _ x (q .k) (q .j) (s .places-after (GreatestCountFor named)) f (d .right (GreatestCountFor named) q e .shows .walk)
+      pub greatest-class-lacking : (named : ℕ) → Lacking (GreatestCountFor named)
+      greatest-class-lacking named e = counts-shown (inClassOf after-list named) _ x (q .k) (q .j) after f (d .right q e .shows .walk)
 
     -- one whose mark clears the team (E4)
     pub clears-the-team : s .n ≡ 1 → s .calls ≡ team 0 5 ∷ mark 0 4 ∷ [] → view (s .last) ≡ plan (4 ∷ []) [] → ⊥
@@ -339,10 +344,10 @@ module _ (c : Calculator) where
         omega arith
 
     -- and one that hides it, and quotes: after mark 0 4 and mark 0 0 no state is a start, and who obeyed only the first calls state 0 a dead end
-    pub quotes-the-first : s .n ≡ 1 → s .calls ≡ mark 0 4 ∷ mark 0 0 ∷ [] → (q : Quote) → s .quotation (One GreatestDelay) ≡ Quoted q
-        → meant (q .figure) ≡ STRANDED → ⊥
+    pub quotes-the-first : s .n ≡ 1 → s .calls ≡ mark 0 4 ∷ mark 0 0 ∷ [] → (before after : List ℕ) (q : Quote)
+        → c .quotes (One GreatestDelay) (s .last) before after (Quoted q) → meant (q .figure) ≡ STRANDED → ⊥
     unfolding run within all figureFor any marksOf start final counted transition from to low high
-    quotes-the-first n calls q e f =
+    quotes-the-first n calls before after q e f =
         let h : STRANDED ≡ NONE =
         heard (plan (0 ∷ []) []) GreatestDelay STRANDED
         (record {
@@ -350,6 +355,8 @@ module _ (c : Calculator) where
           demand = d;
           makes = ap₂ (λ (k : ℕ) (l : List Call). runFresh k l .last) n calls;
           quote = q;
+          before = before;
+          after = after;
           quoted = e;
           figure = f;
         }) in

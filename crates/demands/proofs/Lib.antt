@@ -6,6 +6,8 @@ pub mod Agreement
 pub mod Demands
 -- What breaks them.
 pub mod Impostors
+-- What meets the premises.
+pub mod Meets
 -- The promises can be kept.
 pub mod Answers
 -- What an accepted record holds.

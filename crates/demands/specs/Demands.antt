@@ -5,7 +5,7 @@
 -- To be read before: Calculator.antt (what is published). What it rests on: the rules of the calls and their rows of the table, rules/specs; routes
 -- and figures, graph/specs; the report's procedures, report/specs. Assumes nothing.
 use mathlib.Core.Bool.{true, false}
-use mathlib.Core.List.{List, _++_, map}
+use mathlib.Core.List.{List, [], _∷_, _++_, map}
 use mathlib.Core.Logic.{_⊎_}
 use mathlib.Core.Path.{_≡_}
 use Prim.Native.Nat.{ℕ, _≤_, _<_}
@@ -14,29 +14,34 @@ use Rattle.field.specs.Field.{Octets}
 use Rattle.generated.specs.Generated.{generateRows}
 use Rattle.graph.specs.declared.Asked.{Asked}
 use Rattle.graph.specs.declared.Asked.the-variants.{One}
+use Rattle.graph.specs.declared.Which.{Which}
 use Rattle.graph.specs.declared.Which.the-variants.{LeastDelay, GreatestDelay, LeastCount, GreatestCount}
 use Rattle.graph.specs.Class.{nameOk}
-use Rattle.graph.specs.Graph.{states, counted, teamOf}
+use Rattle.graph.specs.Figure.{Figure}
+use Rattle.graph.specs.Graph.{Graph, states, counted, teamOf}
 use Rattle.report.specs.Bounds.{finite, lower, upper}
 use Rattle.report.specs.Counts.{mincount, maxcount}
 use Rattle.report.specs.Procedure.{Returns}
 use Rattle.report.specs.Agreement.{leastFigure, greatestFigure}
 use Rattle.rules.specs.declared.Answer.{Answer}
 use Rattle.rules.specs.declared.Answer.the-variants.{Accepted}
+use Rattle.rules.specs.declared.FourQuotes.{FourQuotes}
+use Rattle.rules.specs.declared.HeldQuotations.{HeldQuotations}
 use Rattle.rules.specs.declared.Quotation.{Quotation}
 use Rattle.rules.specs.declared.Quotation.the-variants.{Quoted, Refused}
 use Rattle.rules.specs.declared.Quotations.{Quotations}
+use Rattle.rules.specs.declared.Quotations.the-variants.{Quoted as AllQuoted}
 use Rattle.rules.specs.declared.Quote.{Quote}
 use Rattle.rules.specs.declared.Written.{Written}
 use Rattle.rules.specs.declared.Written.the-variants.{Length}
 use Rattle.rules.specs.Aldebaran.{exportRows}
 use Rattle.rules.specs.Calls.{Call, read, rowsOf, runFresh}
-use Rattle.rules.specs.Image.{imageBy, image, imageRows, versionOf}
+use Rattle.rules.specs.Image.{imageBy, image, graphIn, imageRows, versionOf}
 use Rattle.rules.specs.Limits.{within, stateCountOk}
-use Rattle.rules.specs.Quotations.{meant, saidQuotation, saidQuotations, saysAsked, Stated, quoteRows, allRows, heldRows, recordRows}
+use Rattle.rules.specs.Quotations.{meant, saidQuotation, saidQuotations, saysAsked, Stated, quoteOf, AllStated, quoteRows, allRows, heldRows, recordRows}
 use Rattle.rules.specs.declared.Refusal.{Refusal}
 use Rattle.rules.specs.declared.Refusal.the-variants.{PlanLimits, TeamNumber}
-use Rattle.rules.specs.Refusal.{Result, accepted, refused, answerOf, said, wrote}
+use Rattle.rules.specs.Refusal.{Result, accepted, refused, answerOf, said, wrote, number, code}
 use Rattle.rules.specs.Rules.{freshRows, writeRows}
 use Rattle.rules.specs.Table.{Row, first, Holds, NoneHolds}
 use Rattle.plan.specs.declared.Edited.{Edited}
@@ -60,8 +65,8 @@ module _ (c : Calculator) where
         → Called (quoteRows asked (view p) before) (saidQuotation q)
     all-four : {p : Plan} {before after : List ℕ} {q : Quotations} → c .quotes-all p before after q
         → Called (allRows (view p) before) (saidQuotations q)
-    all-of-image : {octets before after : List ℕ} {q : Quotations} → c .quotes-image octets before after q
-        → Called (heldRows octets before) (saidQuotations q)
+    all-of-image : {octets before after : List ℕ} {q : HeldQuotations} → c .quotes-image octets before after q
+        → Called (heldRows octets before) (saidQuotations (q .quotations))
 
   -- one that was given a plan, and what it answered
   pub data Given : Plan → Result (Unit {0}) → Type 0 where
@@ -80,7 +85,8 @@ module _ (c : Calculator) where
     quote : {asked : Asked} {p : Plan} {before after : List ℕ} {q : Quotation} → c .quotes asked p before after q
         → Lent before after (saidQuotation q)
     all-four : {p : Plan} {before after : List ℕ} {q : Quotations} → c .quotes-all p before after q → Lent before after (saidQuotations q)
-    all-of-image : {octets before after : List ℕ} {q : Quotations} → c .quotes-image octets before after q → Lent before after (saidQuotations q)
+    all-of-image : {octets before after : List ℕ} {q : HeldQuotations} → c .quotes-image octets before after q
+        → Lent before after (saidQuotations (q .quotations))
 
   -- one that makes a plan from nothing, and what came back
   pub data Made : Edited → Type 0 where
@@ -88,12 +94,24 @@ module _ (c : Calculator) where
     generate : {s n m : ℕ} {e : Edited} → c .generates s n m e → Made e
     held : {octets : List ℕ} {e : Edited} → c .helds octets e → Made e
 
+  -- a figure that was told of a plan, by any of the three calls that quote one: by itself, with all four, or with those of an image
+  pub data Told (which : Which) : Graph → Figure → Type 0 where
+    quote : {p : Plan} {before after : List ℕ} {q : Quote} → c .quotes (One which) p before after (Quoted q) → Told which (view p) (meant (q .figure))
+    all-four : {p : Plan} {before after : List ℕ} {q : FourQuotes} → c .quotes-all p before after (AllQuoted q)
+        → Told which (view p) (meant (quoteOf q which .figure))
+    all-of-image : {octets before after : List ℕ} {r : HeldQuotations} {q : FourQuotes} → c .quotes-image octets before after r → r .quotations ≡ AllQuoted q
+        → Told which (graphIn octets) (meant (quoteOf q which .figure))
+
   -- DEMAND 1
   pub record Demand1 : Type 0 where
     -- "No plan image, edit or lent buffer stops the calculator, takes it outside memory or keeps it running for good."
     pub answers : Answers c
     -- "Bad input is refused by a number from the table in document 01,
     pub by-number : {rows : List Row} {a : Result (Unit {0})} → Called rows a → a ≡ first rows
+    -- (01) "Where an answer is an enum, a definition sets out this paper's number and values for each of its cases. The promises use that definition.": the number of the answer is
+    -- that of its row, and no two cases have the same
+    pub its-number : {rows : List Row} {a : Result (Unit {0})} (k : Refusal) → Called rows a → first rows ≡ refused k → code a ≡ number k
+    pub one-number : (j k : Refusal) → number j ≡ number k → j ≡ k
     -- and a refusal changes neither the plan
     pub plan-stays : {p : Plan} {call : Call} {e : Edited} (k : Refusal) → c .edits p call e → said (e .answer) ≡ refused k → e .plan ≡ p
     -- nor any lent buffer."
@@ -129,21 +147,21 @@ module _ (c : Calculator) where
     pub writes-version-2 : {old : Plan} {octets before after : List ℕ} {e : Edited} {w : Written} → Octets octets → c .edits old (read octets) e
         → e .answer ≡ Accepted → length octets ≤ length before → c .writes (e .plan) before after w
         → (w ≡ Length (length octets)) × (after ≡ image (view (e .plan)) ++ drop (length octets) before)
+    -- the same of the plan that an image holds, made from nothing
+    pub held-image : {octets : List ℕ} {e : Edited} → Octets octets → c .helds octets e → e .answer ≡ Accepted → imageBy (versionOf octets) (view (e .plan)) ≡ octets
+    pub holds-back : {p : Plan} {before after : List ℕ} {e : Edited} (n : ℕ) → c .writes p before after (Length n) → c .helds (take n after) e
+        → (e .answer ≡ Accepted) × (view (e .plan) ≡ view p)
     -- (02, E5) "The report's procedures are matched from then on for plans where no state is both start and final.":
     -- "Where all durations are 1, some state is marked start and every unfinished state has a transition out, the figures are those of the procedures
     -- lower, upper,
-    pub lower-is : {p : Plan} {before after : List ℕ} (q : Quote) → Premises (view p) → c .quotes (One LeastDelay) p before after (Quoted q)
-        → Gives (lower (view p)) leastFigure (meant (q .figure))
-    pub upper-is : {p : Plan} {before after : List ℕ} (q : Quote) → Premises (view p) → c .quotes (One GreatestDelay) p before after (Quoted q)
-        → Gives (upper (view p)) greatestFigure (meant (q .figure))
+    pub lower-is : {g : Graph} {f : Figure} → Premises g → Told LeastDelay g f → Gives (lower g) leastFigure f
+    pub upper-is : {g : Graph} {f : Figure} → Premises g → Told GreatestDelay g f → Gives (upper g) greatestFigure f
     -- mincount and maxcount of report CMU-CS-94-147, the last two wherever upper is finite."
-    pub mincount-is : {p : Plan} {before after : List ℕ} (q : Quote) → Premises (view p) → c .quotes (One LeastCount) p before after (Quoted q)
-        → (i : ℕ) → Returns (upper (view p)) (finite i) → GivesNumber (mincount (view p) (counted (view p))) (meant (q .figure))
-    pub maxcount-is : {p : Plan} {before after : List ℕ} (q : Quote) → Premises (view p) → c .quotes (One GreatestCount) p before after (Quoted q)
-        → (i : ℕ) → Returns (upper (view p)) (finite i) → GivesNumber (maxcount (view p) (counted (view p))) (meant (q .figure))
+    pub mincount-is : {g : Graph} {f : Figure} → Premises g → Told LeastCount g f → (i : ℕ) → Returns (upper g) (finite i) → GivesNumber (mincount g (counted g)) f
+    pub maxcount-is : {g : Graph} {f : Figure} → Premises g → Told GreatestCount g f → (i : ℕ) → Returns (upper g) (finite i)
+        → GivesNumber (maxcount g (counted g)) f
 
-  -- a list of calls from a fresh plan, what came back, and the quotations of the plan after it, the four and the counts for the class of each team number: what was
-  -- called, and what was heard
+  -- a list of calls from a fresh plan, and what came back: what was called, and what was heard
   pub record Session : Type 0 where
     pub n : ℕ
     pub n-ok : stateCountOk n ≡ true
@@ -151,12 +169,8 @@ module _ (c : Calculator) where
     pub made : Edited
     pub answers : List Answer
     pub last : Plan
-    pub places-before : Asked → List ℕ
-    pub places-after : Asked → List ℕ
-    pub quotation : Asked → Quotation
     pub freshly : c .freshes n made
     pub in-turn : Listed c (made .plan) calls answers last
-    pub quoted : (asked : Asked) → c .quotes asked last (places-before asked) (places-after asked) (quotation asked)
 
 -- DEMAND 3, (01) "one claim about the whole list, and not one for each call":
 -- (02, E1, of import) "demand 3's lists may hold it":
@@ -174,14 +188,36 @@ pub record OneClaim (c : Calculator) (s : Session c) : Type 0 where
   pub plan : view (s .last) ≡ runFresh (s .n) (s .calls) .last
   -- "That plan is then quoted into n or more places, n its state count." (02, E4) "The counts may be quoted for any one of these five classes, named by a team
   -- number in it"
-  pub accepted-where : (asked : Asked) → nameOk asked ≡ true → states (runFresh (s .n) (s .calls) .last) ≤ length (s .places-before asked)
-      → (q : Quote) × (s .quotation asked ≡ Quoted q)
+  pub accepted-where : {asked : Asked} {before after : List ℕ} {r : Quotation} → c .quotes asked (s .last) before after r → nameOk asked ≡ true
+      → states (runFresh (s .n) (s .calls) .last) ≤ length before → (q : Quote) × (r ≡ Quoted q)
   -- (02, E4) "A team above 31 returns 18 .. so that a count asked for it has no figure under demand 3"
-  pub no-figure : (asked : Asked) → nameOk asked ≡ false → s .quotation asked ≡ Refused TeamNumber
+  pub no-figure : {asked : Asked} {before after : List ℕ} {r : Quotation} → c .quotes asked (s .last) before after r → nameOk asked ≡ false → r ≡ Refused TeamNumber
   -- and its remaining sentences, from "A figure that is a number equals the delay or count of the route shown." to "A least figure is neither.": each stands
   -- above the field that carries it in rules/specs/Quotations.antt, `LeastQuoted` for a least figure and `GreatestQuoted` for a greatest one (`saysAsked`)
-  pub right : (asked : Asked) (q : Quote) → s .quotation asked ≡ Quoted q
-      → Stated (saysAsked asked (runFresh (s .n) (s .calls) .last)) q (s .places-before asked) (s .places-after asked)
+  pub right : {asked : Asked} {before after : List ℕ} (q : Quote) → c .quotes asked (s .last) before after (Quoted q)
+      → Stated (saysAsked asked (runFresh (s .n) (s .calls) .last)) q before after
+  -- the same of all four at once, into 512 places each
+  pub all-accepted : {before after : List ℕ} {r : Quotations} → c .quotes-all (s .last) before after r → 2048 ≤ length before → (q : FourQuotes) × (r ≡ AllQuoted q)
+  pub all-right : {before after : List ℕ} (q : FourQuotes) → c .quotes-all (s .last) before after (AllQuoted q)
+      → AllStated (runFresh (s .n) (s .calls) .last) q before after
 
-abbrev pub Demand3 : Calculator → Type 0
-Demand3 c = (s : Session c) → OneClaim c s
+-- the same of an image's plan, made from nothing: it is as if the image had been read over a fresh plan, whichever. So it is for the list whose first call is that read (n is the fresh
+-- plan's number of states)
+pub record ImageClaim (c : Calculator) (n : ℕ) (octets : List ℕ) : Type 0 where
+  -- "each call's answer
+  pub answer : {e : Edited} → c .helds octets e → said (e .answer) ∷ [] ≡ runFresh n (read octets ∷ []) .answers
+  pub answers : {e : Edited} {calls : List Call} {answers : List Answer} {last : Plan} → c .helds octets e → e .answer ≡ Accepted
+      → Listed c (e .plan) calls answers last → map said (e .answer ∷ answers) ≡ runFresh n (read octets ∷ calls) .answers
+  -- and the plan after the list are those that document 01's rules give."
+  pub plan : {e : Edited} {calls : List Call} {answers : List Answer} {last : Plan} → c .helds octets e → e .answer ≡ Accepted
+      → Listed c (e .plan) calls answers last → view last ≡ runFresh n (read octets ∷ calls) .last
+  -- "That plan is then quoted into n or more places": 512 for each figure. Where the read is accepted and there are as many places, the four are quoted,
+  pub accepted-where : {before after : List ℕ} {r : HeldQuotations} → c .quotes-image octets before after r → runFresh n (read octets ∷ []) .answers ≡ accepted tt ∷ []
+      → 2048 ≤ length before → (q : FourQuotes) × (r .quotations ≡ AllQuoted q)
+  -- and each sentence on figures and walks holds of each
+  pub right : {before after : List ℕ} {r : HeldQuotations} (q : FourQuotes) → c .quotes-image octets before after r → r .quotations ≡ AllQuoted q
+      → AllStated (runFresh n (read octets ∷ []) .last) q before after
+
+pub record Demand3 (c : Calculator) : Type 0 where
+  pub lists : (s : Session c) → OneClaim c s
+  pub images : (n : ℕ) → stateCountOk n ≡ true → (octets : List ℕ) → ImageClaim c n octets

@@ -1,3 +1,4 @@
+pub mod Arguments
 pub mod Calculator
 pub mod Report
 pub mod Demands

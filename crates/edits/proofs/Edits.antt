@@ -21,7 +21,7 @@ use Rattle.arrays.specs.Tables.{over}
 use Rattle.plan.specs.declared.Plan.{Plan}
 use Rattle.plan.specs.declared.Edited.{Edited}
 use Rattle.plan.specs.View.{view, laid}
-use Rattle.plan.specs.Promise.{Edit, nextValue}
+use Rattle.plan.specs.Promise.{Edit, Turn, nextValue}
 use Rattle.slices.specs.Lent.{Slices, hasRoom, planIn, storing, Finished, SameLater, Updates}
 use Rattle.slices.proofs.Stores.{true-false}
 use Rattle.edits.specs.Lent.{nextSlices, LentEdit, LentTurn}
@@ -60,7 +60,7 @@ by-answer (Refused k) p q s s′ o r room e v f =
     }
 
 -- a call of the plan's own whose answer was stored keeps its promise on the slices
-pub finished : (p : Plan) (s s′ : Slices) (o : Result Graph) (e : Edited) (r : ℕ) → hasRoom s ≡ true → Edit p o e → Finished (e .answer) (e .plan) s s′ r → LentEdit p s s′ o r
+pub finished : (p : Plan) (s s′ : Slices) (o : Result Graph) (e : Edited) (r : ℕ) {bits : ℕ} → hasRoom s ≡ true → Edit p o bits e → Finished (e .answer) (e .plan) s s′ r → LentEdit p s s′ o r
 finished p s s′ o e r room x f =
     by-answer (e .answer) p (e .plan) s s′ o r room (x .answer) (λ g h. (x .plan ∙ ap (next (view p)) h, x .whole ∙ ap (nextValue p) h)) f
 
@@ -74,11 +74,11 @@ value-of : (a : Answer) (q : Plan) (s t : Slices) (o : Result Graph) (r : ℕ) �
 value-of Accepted q s t o r e w f = f .2 ∙ w
 value-of (Refused k) q s t o r e w f = ap planIn (f .1) ∙ ap (nextValue (planIn s)) (sym (refused-as o k e))
 
-pub turned : (call : Call) (p : Plan) (s t : Slices) (e : Edited) (r : ℕ) → hasRoom s ≡ true → p ≡ planIn s → Edit p (step (view p) call) e
+pub turned : (call : Call) (p : Plan) (s t : Slices) (e : Edited) (r : ℕ) → hasRoom s ≡ true → p ≡ planIn s → Turn p call e
     → Finished (e .answer) (e .plan) s t r → LentTurn s t call r
 turned call p s t e r room h x f =
     let o : Result Graph = step (view (planIn s)) call in
-    let y : Edit (planIn s) o e = subst (λ (q : Plan). Edit q (step (view q) call) e) h x in
+    let y : Turn (planIn s) call e = subst (λ (q : Plan). Turn q call e) h x in
     record {
       edit = finished (planIn s) s t o e r room y f;
       value = λ _. value-of (e .answer) (e .plan) s t o r (y .answer) (y .whole) f;
@@ -109,9 +109,9 @@ later-laid s g w =
     }
 
 -- past its counts an accepted plan has what the slices have
-pub same-later : (call : Call) (p : Plan) (s : Slices) (e : Edited) → p ≡ planIn s → Edit p (step (view p) call) e → Updates (e .answer) (e .plan) s
+pub same-later : (call : Call) (p : Plan) (s : Slices) (e : Edited) → p ≡ planIn s → Turn p call e → Updates (e .answer) (e .plan) s
 same-later call p s e h x a =
     let o : Result Graph = step (view (planIn s)) call in
-    let y : Edit (planIn s) o e = subst (λ (q : Plan). Edit q (step (view q) call) e) h x in
+    let y : Turn (planIn s) call e = subst (λ (q : Plan). Turn q call e) h x in
     let (g, i) = accepted-as o (ap said (sym a) ∙ y .answer) in
     subst (λ (q : Plan). SameLater q s) (sym (y .whole ∙ ap (nextValue (planIn s)) i)) (later-laid s g (step-within (view (planIn s)) g call i))

@@ -28,7 +28,7 @@ use Rattle.generation.specs.Drawn.{Drawn}
 
 module _ (s n m : ℕ) (a : Answer) (rows : said a ≡ first (generateRows n m)) where
   -- beside a refusal stands what a refused fresh gives, which is no plan
-  pub none-made : (r : Refusal) → a ≡ Refused r → (e : Edited) → Edit noPlan (freshRule 0) e → Edit noPlan (generateRule s n m) (record { answer = a; plan = e .plan })
+  pub none-made : (r : Refusal) → a ≡ Refused r → (e : Edited) → Edit noPlan (freshRule 0) 0 e → Edit noPlan (generateRule s n m) 0 (record { answer = a; plan = e .plan; taken = 0 })
   unfolding generateRule freshRule
   none-made r e x h = rw (h .whole) (stays noPlan (generateRows n m) (generatedGraph s n m) a r e rows)
 
@@ -49,7 +49,7 @@ module _ (s n m : ℕ) (a : Answer) (rows : said a ≡ first (generateRows n m))
       transitions = tabulate-same m (transitionOf from to low high) (transitionDrawn s n) (y .each) i;
     }
 
-    pub made : a ≡ Accepted → Edit noPlan (generateRule s n m) (record { answer = a; plan = planOf n m marks (replicate 512 0) from to low high })
+    pub made : a ≡ Accepted → Edit noPlan (generateRule s n m) 0 (record { answer = a; plan = planOf n m marks (replicate 512 0) from to low high; taken = 0 })
     unfolding generateRule
     made e =
         let l : length {A = ℕ} (replicate 512 0) ≡ 512 = length-replicate {A = ℕ} 512 0 in

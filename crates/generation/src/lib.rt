@@ -58,13 +58,17 @@ fn transitions(
 
 // The plan of n states and m transitions that a seed makes. A refusal makes none: the plan value beside it has 0 states, all else zero.
 pub fn generate(seed: u32, n: usize, m: usize) -> Edited
-    ensures { λ r. ⌜ Edit noPlan (generateRule seed n m) r ⌝ }
+    ensures { λ r. ⌜ Edit noPlan (generateRule seed n m) 0 r ⌝ }
 {
     let answer = drawing::grounds(n, m);
     if let Answer::Refused(_) = answer {
         let none = plan::fresh(0); // refused, with no plan beside it
         let plan = none.plan;
-        return Edited { plan, answer };
+        return Edited {
+            plan,
+            answer,
+            taken: 0,
+        };
     }
     let marks = drawing::marks(n);
     let mut from = [0u16; 2048];
@@ -84,5 +88,6 @@ pub fn generate(seed: u32, n: usize, m: usize) -> Edited
             high,
         },
         answer,
+        taken: 0,
     }
 }

@@ -1,5 +1,6 @@
 // The header of an image: its four fields, read and tested.
 ghost use mathlib.Core.Path.{_≡_};
+ghost use Prim.Native.Nat.{_+_, _<_, _^_};
 ghost use Rattle.header.specs.Header.{HeaderRead};
 use rules::Answer;
 use rules::Refusal;
@@ -12,10 +13,10 @@ pub struct Heading {
     pub transitions: usize,
 }
 
-// Reads the header, 32 bits.
+// Reads the header, 32 bits, and adds what it takes to the count.
 pub fn header(octets: &[u8], at: &mut usize, taken: &mut usize) -> Heading
-    requires { ⌜ (now at ≡ 0) × (now taken ≡ 0) ⌝ }
-    ensures { λ r. ⌜ HeaderRead (now (octets .entry)) (now (at .exit)) (now (taken .exit)) r ⌝ }
+    requires { ⌜ (now at ≡ 0) × (now taken + 32 < 2 ^ 32) ⌝ }
+    ensures { λ r. ⌜ HeaderRead (now (octets .entry)) (now (at .exit)) (now (taken .entry)) (now (taken .exit)) r ⌝ }
 {
     if octets.len() < 4 {
         return Heading {

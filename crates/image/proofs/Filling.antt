@@ -3,11 +3,10 @@
 -- Assumes nothing.
 use mathlib.Core.List.{List, [], _++_, append-nil}
 use mathlib.Core.Path.{_≡_, refl, sym, ap, ap₂, _∙_}
-use Prim.Native.Nat.{ℕ, _*_}
+use Prim.Native.Nat.{ℕ}
 use native.Mathlib.Omega.{arith}
 use borrow.Author.Tests.{le-ltb}
 use lib.ListN.{length}
-use Rattle.graph.specs.Graph.{Graph}
 use Rattle.rules.specs.declared.Answer.{Answer}
 use Rattle.rules.specs.declared.Answer.the-variants.{Accepted, Refused}
 use Rattle.rules.specs.declared.Refusal.{Refusal}
@@ -17,7 +16,7 @@ use Rattle.taken.specs.Taken.{listedRows, pastHeader, pastStates, pastTransitio
 use Rattle.rules.specs.Refusal.{accepted, refused, said, came}
 use Rattle.rules.specs.Table.{Row, byTable, first, byNumber, NoneHolds}
 use Rattle.rules.proofs.ReadWrite.{Header, clear-header}
-use Rattle.taken.proofs.Taken.{items-all, at-states, at-transitions, accepted-taken}
+use Rattle.taken.proofs.Taken.{items-all, at-states, at-transitions}
 use Rattle.rules.proofs.Tables.{accepted-where, accepted-only, after-none, after-refused}
 use Rattle.arrays.specs.Tables.{statesOf, transitionsOf, graphOf}
 
@@ -111,7 +110,3 @@ module _ (os : List ℕ) (n m : ℕ) (h : Head os n m) where
         → came a (graphOf n m marks teams from to low high) ≡ readImage os
     by-answer Accepted marks teams from to low high t es et = sym (by-none marks teams from to low high (sym t) es (et refl))
     by-answer (Refused r) marks teams from to low high t es et = sym (by-transitions r (sym t))
-
--- what is taken of an accepted image
-pub accepted-count : (os : List ℕ) (a : Answer) (g : Graph) (taken : ℕ) → came a g ≡ readImage os → taken ≡ bitsTaken os → a ≡ Accepted → taken ≡ 8 * length os
-accepted-count os a g taken rule e f = e ∙ accepted-taken os g (sym rule ∙ ap (λ (x : Answer). came x g) f)

@@ -17,12 +17,11 @@ use field::Four;
 use rules::Answer;
 use rules::Refusal;
 
-// What came of an image: the answer, the counts of the states and transitions in the arrays, and how many bits were taken over the whole call.
+// What came of an image: the answer, and the counts of the states and transitions in the arrays.
 pub struct Filled {
     pub answer: Answer,
     pub states: usize,
     pub transitions: usize,
-    pub taken: usize,
 }
 
 // The marks value of three fields of one bit.
@@ -53,9 +52,10 @@ fn states(
     marks: &mut [u8; 512],
     teams: &mut [u8; 512],
 ) -> Answer
-    requires { ⌜ (n ≤ 512) × (n ≤ length (now marks)) × (n ≤ length (now teams)) × (4 + n ≤ length (now octets)) × (now at ≡ 32) × (now taken ≡ 32)
+    requires { ⌜ (n ≤ 512) × (n ≤ length (now marks)) × (n ≤ length (now teams)) × (4 + n ≤ length (now octets)) × (now at ≡ 32) × (now taken < 2 ^ 31)
         × (version ≡ versionOf (now octets)) ⌝ }
-    ensures { λ r. ⌜ StatesRead (now (octets .entry)) n (now (marks .entry)) (now (marks .exit)) (now (teams .entry)) (now (teams .exit)) (now (at .exit)) (now (taken .exit)) r ⌝ }
+    ensures { λ r. ⌜ StatesRead (now (octets .entry)) n (now (marks .entry)) (now (marks .exit)) (now (teams .entry)) (now (teams .exit)) (now (at .exit))
+        (now (taken .entry)) (now (taken .exit)) r ⌝ }
 {
     let mut i = 0;
     while i < n {
@@ -98,12 +98,12 @@ fn transitions(
     low: &mut [u16; 2048],
     high: &mut [u16; 2048],
 ) -> Answer
-    requires { ⌜ (n ≤ 512) × (m ≤ 2048) × (4 + n + 5 * m ≤ length (now octets)) × (now at ≡ 32 + 8 * n) × (now taken ≡ 32 + 8 * n) ⌝ }
+    requires { ⌜ (n ≤ 512) × (m ≤ 2048) × (4 + n + 5 * m ≤ length (now octets)) × (now at ≡ 32 + 8 * n) × (now taken < 2 ^ 31) ⌝ }
     requires { ⌜ (m ≤ length (now from)) × (m ≤ length (now to)) × (m ≤ length (now low)) × (m ≤ length (now high)) ⌝ }
     ensures { λ r. ⌜ TransitionsRead (now (octets .entry)) n m
         (fields (now (from .entry)) (now (to .entry)) (now (low .entry)) (now (high .entry)))
         (fields (now (from .exit)) (now (to .exit)) (now (low .exit)) (now (high .exit)))
-        (now (taken .exit)) r ⌝ }
+        (now (taken .entry)) (now (taken .exit)) r ⌝ }
 {
     let mut i = 0;
     while i < m {
@@ -121,9 +121,10 @@ fn transitions(
     Answer::Accepted
 }
 
-// Reads an image into arrays; places past the counts stay.
+// Reads an image into arrays, and adds the bits that it takes to the count; places past the counts stay.
 pub fn fill(
     octets: &[u8],
+    taken: &mut usize,
     marks: &mut [u8; 512],
     teams: &mut [u8; 512],
     from: &mut [u16; 2048],
@@ -131,16 +132,14 @@ pub fn fill(
     low: &mut [u16; 2048],
     high: &mut [u16; 2048],
 ) -> Filled
-    requires { ⌜ (512 ≤ length (now marks)) × (512 ≤ length (now teams)) × (2048 ≤ length (now from)) × (2048 ≤ length (now to))
+    requires { ⌜ (now taken < 2 ^ 30) × (512 ≤ length (now marks)) × (512 ≤ length (now teams)) × (2048 ≤ length (now from)) × (2048 ≤ length (now to))
         × (2048 ≤ length (now low)) × (2048 ≤ length (now high)) ⌝ }
-    ensures { λ r. ⌜ Fills (now (octets .entry)) (now (marks .entry)) (now (marks .exit)) (now (teams .entry)) (now (teams .exit))
+    ensures { λ r. ⌜ Fills (now (octets .entry)) (now (taken .entry)) (now (taken .exit)) (now (marks .entry)) (now (marks .exit)) (now (teams .entry)) (now (teams .exit))
         (fields (now (from .entry)) (now (to .entry)) (now (low .entry)) (now (high .entry)))
         (fields (now (from .exit)) (now (to .exit)) (now (low .exit)) (now (high .exit))) r ⌝ }
 {
     let mut position = 0;
-    let mut bits = 0;
     let at = &mut position;
-    let taken = &mut bits;
     let heading = header::header(octets, at, taken);
     let head = heading.answer;
     if let Answer::Refused(_) = head {
@@ -148,7 +147,6 @@ pub fn fill(
             answer: head,
             states: 0,
             transitions: 0,
-            taken: bits,
         };
     }
     let n = heading.states;
@@ -159,7 +157,6 @@ pub fn fill(
             answer: marked,
             states: n,
             transitions: m,
-            taken: bits,
         };
     }
     let listed = transitions(octets, at, taken, n, m, from, to, low, high);
@@ -167,6 +164,5 @@ pub fn fill(
         answer: listed,
         states: n,
         transitions: m,
-        taken: bits,
     }
 }

@@ -76,6 +76,7 @@ pub fn held(octets: &[u8], walks: &mut [u16], out: &mut [u32]) -> u32
     ensures { λ r. ⌜ LentQuotes (now (octets .entry)) (now (walks .entry)) (now (walks .exit)) (now (out .entry)) (now (out .exit)) r ⌝ }
 {
     let end = answers::handed(walks.len(), out.len(), 16);
-    let quotations = quotation::held(octets, &mut walks[..end]);
+    let held = quotation::held(octets, &mut walks[..end]);
+    let quotations = held.quotations;
     answers::four(quotations, out)
 }

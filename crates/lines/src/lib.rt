@@ -15,7 +15,8 @@ pub fn answer(octets: &[u8], buffer: &mut [u8]) -> Written
         return Written::Refused(Refusal::BufferLength);
     }
     let mut walks = [0u16; 2048];
-    let quotations = quotation::held(octets, &mut walks);
+    let held = quotation::held(octets, &mut walks);
+    let quotations = held.quotations;
     match quotations {
         Quotations::Quoted(quotes) => Written::Length(four_lines::four(quotes, &walks, buffer)),
         Quotations::Refused(r) => Written::Length(line::refused(buffer, 0, numbers::number(r))),

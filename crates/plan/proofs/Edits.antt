@@ -53,23 +53,25 @@ past-laid p q h =
       high = over-front (q .transitions) t (λ (x : Transition). x .high) (p .high) (q .high) (λ j. refl) (h .high) i;
     }
 
-pub refusal : (p : Plan) (o : Result Graph) (r : Refusal) → o ≡ refused r → Edit p o (record { answer = Refused r; plan = p })
-refusal p o r e = record { answer = rw e; plan = rw e; whole = rw e }
+pub refusal : (p : Plan) (o : Result Graph) (r : Refusal) (bits taken : ℕ) → o ≡ refused r → taken ≡ bits
+    → Edit p o bits (record { answer = Refused r; plan = p; taken = taken })
+refusal p o r bits taken e t = record { answer = rw e; plan = rw e; whole = rw e; taken = t }
 
-pub acceptance : (p q : Plan) (o : Result Graph) (g : Graph) → o ≡ accepted g → view q ≡ g → Past p q → Edit p o (record { answer = Accepted; plan = q })
-acceptance p q o g e v l = record { answer = rw e; plan = rw e v; whole = rw e (past-laid p q l ∙ ap (laid p) v) }
+pub acceptance : (p q : Plan) (o : Result Graph) (g : Graph) (bits taken : ℕ) → o ≡ accepted g → view q ≡ g → Past p q → taken ≡ bits
+    → Edit p o bits (record { answer = Accepted; plan = q; taken = taken })
+acceptance p q o g bits taken e v l t = record { answer = rw e; plan = rw e v; whole = rw e (past-laid p q l ∙ ap (laid p) v); taken = t }
 
--- the same by a call's rows, whose first one answers
+-- the same by a call's rows, whose first one answers, of a call that takes no bits
 pub stays : (p : Plan) (rows : List Row) (g : Graph) (a : Answer) (r : Refusal) → a ≡ Refused r → said a ≡ first rows
-    → Edit p (byTable rows g) (record { answer = a; plan = p })
-stays p rows g a r e s = rw e (refusal p (byTable rows g) r (refused-as (byTable rows g) r (sym (ap said e) ∙ s ∙ sym (answer-first rows g))))
+    → Edit p (byTable rows g) 0 (record { answer = a; plan = p; taken = 0 })
+stays p rows g a r e s = rw e (refusal p (byTable rows g) r 0 0 (refused-as (byTable rows g) r (sym (ap said e) ∙ s ∙ sym (answer-first rows g))) refl)
 
 pub none-holds : (rows : List Row) (a : Answer) → a ≡ Accepted → said a ≡ first rows → NoneHolds rows
 none-holds rows a e s = accepted-only rows tt tt (sym s ∙ ap said e) .0
 
 pub becomes : (p q : Plan) (rows : List Row) (g : Graph) (a : Answer) → a ≡ Accepted → said a ≡ first rows → view q ≡ g → Past p q
-    → Edit p (byTable rows g) (record { answer = a; plan = q })
-becomes p q rows g a e s v l = rw e (acceptance p q (byTable rows g) g (accepted-where rows g (none-holds rows a e s)) v l)
+    → Edit p (byTable rows g) 0 (record { answer = a; plan = q; taken = 0 })
+becomes p q rows g a e s v l = rw e (acceptance p q (byTable rows g) g 0 0 (accepted-where rows g (none-holds rows a e s)) v l refl)
 
 -- ---- plan values after the edits
 

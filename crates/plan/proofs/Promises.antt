@@ -38,7 +38,7 @@ use Rattle.rules.proofs.ReadWrite.{length-image-by, length-image, read-image, i
 use Rattle.arrays.specs.Tables.{over}
 use Rattle.plan.specs.declared.Edited.{Edited}
 use Rattle.plan.specs.declared.Plan.{Plan}
-use Rattle.plan.specs.Promise.{Edit, nextValue, Obeyed, none, more}
+use Rattle.plan.specs.Promise.{Edit, Turn, Held, nextValue, Obeyed, none, more}
 use Rattle.plan.specs.View.{view, laid, noPlan}
 use Rattle.plan_limits.proofs.Limits.{states-out}
 use Rattle.plan.proofs.Values.{limits-view}
@@ -46,15 +46,15 @@ use Rattle.plan.proofs.Values.{limits-view}
 -- ---- one call
 
 -- "Any refused event: the plan stays": the very value that was passed in
-pub refused-keeps : (p : Plan) (o : Result Graph) (r : Edited) (k : Refusal) → Edit p o r → o ≡ refused k → r .plan ≡ p
+pub refused-keeps : (p : Plan) (o : Result Graph) (r : Edited) (k : Refusal) {bits : ℕ} → Edit p o bits r → o ≡ refused k → r .plan ≡ p
 refused-keeps p o r k x e = x .whole ∙ ap (nextValue p) e
 
 -- two that keep the promise leave the same in every place, those past the counts too
-pub same-value : (p : Plan) (o : Result Graph) (r r′ : Edited) → Edit p o r → Edit p o r′ → r .plan ≡ r′ .plan
+pub same-value : (p : Plan) (o : Result Graph) (r r′ : Edited) {bits : ℕ} → Edit p o bits r → Edit p o bits r′ → r .plan ≡ r′ .plan
 same-value p o r r′ x y = x .whole ∙ sym (y .whole)
 
 -- after an accepted call every place past the counts of the new plan is as it was
-pub places-stay : (p : Plan) (o : Result Graph) (r : Edited) (g : Graph) → Edit p o r → o ≡ accepted g
+pub places-stay : (p : Plan) (o : Result Graph) (r : Edited) (g : Graph) {bits : ℕ} → Edit p o bits r → o ≡ accepted g
     → (drop (states g) (r .plan .marks) ≡ drop (states g) (p .marks)) × (drop (states g) (r .plan .teams) ≡ drop (states g) (p .teams)) × (drop (count g) (r .plan .from) ≡ drop (count g) (p .from))
     × (drop (count g) (r .plan .to) ≡ drop (count g) (p .to)) × (drop (count g) (r .plan .low) ≡ drop (count g) (p .low))
     × (drop (count g) (r .plan .high) ≡ drop (count g) (p .high))
@@ -85,7 +85,7 @@ obeyed-run (more {p} {q} {call} {calls} {answers} e x rest) =
     )
 
 -- "They start from the plan of a fresh with any n from 1 to 512": fresh is accepted, and the list is the run from its plan
-pub fresh-run : (n : ℕ) {q : Plan} {calls : List Call} {answers : List Answer} (e : Edited) → stateCountOk n ≡ true → Edit noPlan (freshRule n) e
+pub fresh-run : (n : ℕ) {q : Plan} {calls : List Call} {answers : List Answer} (e : Edited) → stateCountOk n ≡ true → Edit noPlan (freshRule n) 0 e
     → Obeyed (e .plan) calls answers q
     → (e .answer ≡ Accepted) × (map said answers ≡ runFresh n calls .answers) × (view q ≡ runFresh n calls .last)
 fresh-run n {q} {calls} {answers} e h x o =
@@ -117,10 +117,10 @@ puts octets known o before after w x e a = (
 )
 
 -- a call that is accepted comes to the rules' plan, and only there
-comes-to : (old : Plan) (o : Result Graph) (g : Graph) (e : Edited) → Edit old o e → o ≡ accepted g → (e .answer ≡ Accepted) × (view (e .plan) ≡ g)
+comes-to : (old : Plan) (o : Result Graph) (g : Graph) (e : Edited) {bits : ℕ} → Edit old o bits e → o ≡ accepted g → (e .answer ≡ Accepted) × (view (e .plan) ≡ g)
 comes-to old o g e x r = (accepted-answer (e .answer) (x .answer ∙ ap answerOf r), x .plan ∙ ap (next (view old)) r)
 
-came-to : (old : Plan) (o : Result Graph) (e : Edited) → Edit old o e → e .answer ≡ Accepted → o ≡ accepted (view (e .plan))
+came-to : (old : Plan) (o : Result Graph) (e : Edited) {bits : ℕ} → Edit old o bits e → e .answer ≡ Accepted → o ≡ accepted (view (e .plan))
 came-to old o e x a =
     let m = accepted-as o (ap said (sym a) ∙ x .answer) in
     m .1 ∙ ap accepted (sym (x .plan ∙ ap (next (view old)) (m .1)))
@@ -142,7 +142,7 @@ accepted-write g b n e =
 -- every plan written reads back as that plan, over any old plan that is within the limits
 pub write-then-read : (p old : Plan) (before after : List ℕ) (n : ℕ) (e : Edited) → within (view old) ≡ true
     → Write (image (view p)) (writeRule (view p) before) before after (Length n)
-    → Edit old (step (view old) (read (take n after))) e → (e .answer ≡ Accepted) × (view (e .plan) ≡ view p)
+    → Turn old (read (take n after)) e → (e .answer ≡ Accepted) × (view (e .plan) ≡ view p)
 write-then-read p old before after n e h w x =
     let g : Graph = view p in
     let a = accepted-write g before n (sym (w .answer)) in
@@ -150,14 +150,26 @@ write-then-read p old before after n e h w x =
     comes-to old (step (view old) (read (take n after))) g e x (read-given (view old) (take n after) h ∙ ap readImage o ∙ read-image g (a .0))
 
 -- what an accepted read says: the octets hold the new plan
-pub accepted-read : (old : Plan) (octets : List ℕ) (e : Edited) → Edit old (step (view old) (read octets)) e → e .answer ≡ Accepted
+pub accepted-read : (old : Plan) (octets : List ℕ) (e : Edited) → Turn old (read octets) e → e .answer ≡ Accepted
     → readImage octets ≡ accepted (view (e .plan))
 accepted-read old octets e x a =
     let m = came-to old (step (view old) (read octets)) e x a in
     sym (read-given (view old) octets (within-old old Image octets (view (e .plan)) m)) ∙ m
 
+-- the same of a plan that was made of an image from nothing, and of what was written
+pub accepted-held : (octets : List ℕ) (e : Edited) → Held octets e → e .answer ≡ Accepted → readImage octets ≡ accepted (view (e .plan))
+accepted-held octets e x a = came-to noPlan (readImage octets) e x a
+
+pub write-then-held : (p : Plan) (before after : List ℕ) (n : ℕ) (e : Edited) → Write (image (view p)) (writeRule (view p) before) before after (Length n)
+    → Held (take n after) e → (e .answer ≡ Accepted) × (view (e .plan) ≡ view p)
+write-then-held p before after n e w x =
+    let g : Graph = view p in
+    let a = accepted-write g before n (sym (w .answer)) in
+    let o : take n after ≡ image g = front-of (image g) (writeRule g before) before after n w (length-image g ∙ a .1) in
+    comes-to noPlan (readImage (take n after)) g e x (ap readImage o ∙ read-image g (a .0))
+
 -- every image read writes back as the version 2 image of its plan, into any buffer that has room
-pub read-then-image : (old : Plan) (octets : List ℕ) (e : Edited) (before after : List ℕ) (w : Written) → Octets octets → Edit old (step (view old) (read octets)) e
+pub read-then-image : (old : Plan) (octets : List ℕ) (e : Edited) (before after : List ℕ) (w : Written) → Octets octets → Turn old (read octets) e
     → e .answer ≡ Accepted → Write (image (view (e .plan))) (writeRule (view (e .plan)) before) before after w → length octets ≤ length before
     → (w ≡ Length (length octets)) × (after ≡ image (view (e .plan)) ++ drop (length octets) before)
 unfolding writeRule
@@ -172,7 +184,7 @@ read-then-image old octets e before after w ho x a y room =
 
 -- so one of version 2 writes back as those octets
 pub read-then-write : (old : Plan) (octets : List ℕ) (e : Edited) (before after : List ℕ) (w : Written) → Octets octets → versionOf octets ≡ 2
-    → Edit old (step (view old) (read octets)) e
+    → Turn old (read octets) e
     → e .answer ≡ Accepted → Write (image (view (e .plan))) (writeRule (view (e .plan)) before) before after w → length octets ≤ length before
     → (w ≡ Length (length octets)) × (after ≡ octets ++ drop (length octets) before)
 read-then-write old octets e before after w ho two x a y room =
@@ -194,7 +206,7 @@ accepted-export g b n e =
 -- "Exported text imports as the plan stripped of its final and counted marks", over any old plan that is within the limits
 pub export-then-import : (p old : Plan) (before after : List ℕ) (n : ℕ) (e : Edited) → within (view old) ≡ true
     → Write (exportText (view p)) (exportRule (view p) before) before after (Length n)
-    → Edit old (step (view old) (import (take n after))) e → (e .answer ≡ Accepted) × (view (e .plan) ≡ stripped (view p))
+    → Turn old (import (take n after)) e → (e .answer ≡ Accepted) × (view (e .plan) ≡ stripped (view p))
 export-then-import p old before after n e h w x =
     let g : Graph = view p in
     let (inside, one, long) = accepted-export g before n (sym (w .answer)) in
@@ -202,14 +214,14 @@ export-then-import p old before after n e h w x =
     comes-to old (step (view old) (import (take n after))) (stripped g) e x (import-given (view old) (take n after) h ∙ ap importText o ∙ export-import g inside one)
 
 -- what an accepted import says: the text holds the new plan
-pub accepted-import : (old : Plan) (text : List ℕ) (e : Edited) → Edit old (step (view old) (import text)) e → e .answer ≡ Accepted
+pub accepted-import : (old : Plan) (text : List ℕ) (e : Edited) → Turn old (import text) e → e .answer ≡ Accepted
     → importText text ≡ accepted (view (e .plan))
 accepted-import old text e x a =
     let m = came-to old (step (view old) (import text)) e x a in
     sym (import-given (view old) text (within-old old Text text (view (e .plan)) m)) ∙ m
 
 -- every text imported exports as those octets, into any buffer that has room
-pub import-then-export : (old : Plan) (text : List ℕ) (e : Edited) (before after : List ℕ) (w : Written) → Edit old (step (view old) (import text)) e
+pub import-then-export : (old : Plan) (text : List ℕ) (e : Edited) (before after : List ℕ) (w : Written) → Turn old (import text) e
     → e .answer ≡ Accepted → Write (exportText (view (e .plan))) (exportRule (view (e .plan)) before) before after w → length text ≤ length before
     → (w ≡ Length (length text)) × (after ≡ text ++ drop (length text) before)
 unfolding exportRule

@@ -4,12 +4,12 @@ ghost use mathlib.Core.Path.{_≡_};
 ghost use Rattle.rules.specs.Limits.{within as withinLimits};
 ghost use Rattle.rules.specs.Aldebaran.{exportText, exportRule};
 ghost use Rattle.rules.specs.Image.{image};
-ghost use Rattle.rules.specs.Calls.{step, mark, team, join, unjoin, replacing};
+ghost use Rattle.rules.specs.Calls.{mark, team, join, unjoin, replacing};
 ghost use Rattle.rules.specs.Quotations.{Write};
 ghost use Rattle.rules.specs.Rules.{freshRule, writeRule};
 ghost use Rattle.arrays.specs.Tables.{transition};
 ghost use Rattle.plan.specs.View.{view, blankPlan, noPlan};
-ghost use Rattle.plan.specs.Promise.{Edit, Held, refusing, accepting};
+ghost use Rattle.plan.specs.Promise.{Edit, Turn, Held, refusing, accepting};
 use arrays::limits;
 use image::reading;
 use rules::Answer;
@@ -29,11 +29,12 @@ pub struct Plan {
     pub high: [u16; 2048],
 }
 
-// The answer of a call that makes or changes a plan, and the plan afterwards. The plan comes first: it then lies there as it lies by itself, and one copy
-// is enough to hand it on.
+// The answer of a call that makes or changes a plan, the plan afterwards, and the bits of an image that the call took. The plan comes first: it then lies there as it
+// lies by itself, and one copy is enough to hand it on.
 pub struct Edited {
     pub plan: Plan,
     pub answer: Answer,
+    pub taken: usize,
 }
 
 // Whether a plan value is within the limits of a plan.
@@ -52,6 +53,7 @@ fn refuse(plan: Plan, refusal: Refusal) -> Edited
     Edited {
         plan,
         answer: Answer::Refused(refusal),
+        taken: 0,
     }
 }
 
@@ -62,6 +64,7 @@ fn accept(plan: Plan) -> Edited
     Edited {
         plan,
         answer: Answer::Accepted,
+        taken: 0,
     }
 }
 
@@ -83,7 +86,7 @@ fn blank(n: usize) -> Plan
 
 // A fresh plan with n states. A refusal makes none: the plan value beside it has 0 states, all else zero.
 pub fn fresh(n: usize) -> Edited
-    ensures { λ r. ⌜ Edit noPlan (freshRule n) r ⌝ }
+    ensures { λ r. ⌜ Edit noPlan (freshRule n) 0 r ⌝ }
 {
     if !limits::state_count_ok(n) {
         return refuse(blank(0), Refusal::StateCount);
@@ -93,7 +96,7 @@ pub fn fresh(n: usize) -> Edited
 
 // Makes a state's marks value the value given.
 pub fn mark(mut p: Plan, state: usize, value: usize) -> Edited
-    ensures { λ r. ⌜ Edit p (step (view p) (mark state value)) r ⌝ }
+    ensures { λ r. ⌜ Turn p (mark state value) r ⌝ }
 {
     let n = p.states;
     let m = p.transitions;
@@ -105,12 +108,16 @@ pub fn mark(mut p: Plan, state: usize, value: usize) -> Edited
         }
         Answer::Refused(_) => {}
     }
-    Edited { plan: p, answer }
+    Edited {
+        plan: p,
+        answer,
+        taken: 0,
+    }
 }
 
 // Makes a state's team the team given.
 pub fn team(mut p: Plan, state: usize, number: usize) -> Edited
-    ensures { λ r. ⌜ Edit p (step (view p) (team state number)) r ⌝ }
+    ensures { λ r. ⌜ Turn p (team state number) r ⌝ }
 {
     let n = p.states;
     let m = p.transitions;
@@ -122,12 +129,16 @@ pub fn team(mut p: Plan, state: usize, number: usize) -> Edited
         }
         Answer::Refused(_) => {}
     }
-    Edited { plan: p, answer }
+    Edited {
+        plan: p,
+        answer,
+        taken: 0,
+    }
 }
 
 // Puts a transition at the end of the list.
 pub fn join(mut p: Plan, from: usize, to: usize, low: usize, high: usize) -> Edited
-    ensures { λ r. ⌜ Edit p (step (view p) (join (transition from to low high))) r ⌝ }
+    ensures { λ r. ⌜ Turn p (join (transition from to low high)) r ⌝ }
 {
     let n = p.states;
     let m = p.transitions;
@@ -143,12 +154,16 @@ pub fn join(mut p: Plan, from: usize, to: usize, low: usize, high: usize) -> Edi
         }
         Answer::Refused(_) => {}
     }
-    Edited { plan: p, answer }
+    Edited {
+        plan: p,
+        answer,
+        taken: 0,
+    }
 }
 
 // Takes a transition out of the list; later ones move down by one.
 pub fn unjoin(mut p: Plan, number: usize) -> Edited
-    ensures { λ r. ⌜ Edit p (step (view p) (unjoin number)) r ⌝ }
+    ensures { λ r. ⌜ Turn p (unjoin number) r ⌝ }
 {
     let n = p.states;
     let m = p.transitions;
@@ -164,12 +179,17 @@ pub fn unjoin(mut p: Plan, number: usize) -> Edited
         }
         Answer::Refused(_) => {}
     }
-    Edited { plan: p, answer }
+    Edited {
+        plan: p,
+        answer,
+        taken: 0,
+    }
 }
 
-// Replaces the whole plan by the one that octets hold: reads an image, or imports a text. It is taken into arrays of its own, and laid over the plan's.
+// Replaces the whole plan by the one that octets hold: reads an image, or imports a text. It is taken into arrays of its own, and laid over the plan's;
+// the bits that were taken are counted.
 pub fn replace(mut p: Plan, format: Format, octets: &[u8]) -> Edited
-    ensures { λ r. ⌜ Edit p (step (view p) (replacing format (now (octets .entry)))) r ⌝ }
+    ensures { λ r. ⌜ Turn p (replacing format (now (octets .entry))) r ⌝ }
 {
     let n = p.states;
     let m = p.transitions;
@@ -180,10 +200,12 @@ pub fn replace(mut p: Plan, format: Format, octets: &[u8]) -> Edited
     let mut to = [0u16; 2048];
     let mut low = [0u16; 2048];
     let mut high = [0u16; 2048];
+    let mut bits = 0;
     let taken = replacement::take(
         format,
         limited,
         octets,
+        &mut bits,
         &mut marks, // not the plan's: a refusal leaves those
         &mut teams,
         &mut from,
@@ -207,7 +229,11 @@ pub fn replace(mut p: Plan, format: Format, octets: &[u8]) -> Edited
         }
         Answer::Refused(_) => {} // the old plan
     }
-    Edited { plan: p, answer }
+    Edited {
+        plan: p,
+        answer,
+        taken: bits,
+    }
 }
 
 // The plan that an image holds, or the refusal of it. A refusal makes none: the plan value beside it has 0 states, all else zero.
@@ -220,8 +246,10 @@ pub fn held(octets: &[u8]) -> Edited
     let mut to = [0u16; 2048];
     let mut low = [0u16; 2048];
     let mut high = [0u16; 2048];
+    let mut bits = 0;
     let filled = reading::fill(
         octets,
+        &mut bits,
         &mut marks,
         &mut teams,
         &mut from,
@@ -246,7 +274,11 @@ pub fn held(octets: &[u8]) -> Edited
             plan = blank(0); // no plan
         }
     }
-    Edited { plan, answer }
+    Edited {
+        plan,
+        answer,
+        taken: bits,
+    }
 }
 
 // Puts the image at the front of the buffer, and returns its length.

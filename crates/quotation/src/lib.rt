@@ -7,12 +7,14 @@ ghost use lib.ListN.{length};
 ghost use Rattle.graph.specs.declared.Asked.the-variants.{One, LeastCountFor, GreatestCountFor};
 ghost use Rattle.graph.specs.declared.Which.the-variants.{LeastDelay, GreatestDelay, LeastCount, GreatestCount};
 ghost use Rattle.plan.specs.View.{view};
-ghost use Rattle.rules.specs.Quotations.{recordOctets, recordRule, quoteRule, Quotes, QuotesAll, QuotesHeld, Write};
+ghost use Rattle.rules.specs.Quotations.{recordOctets, recordRule, quoteRule, Quotes, QuotesAll, Write};
 ghost use Rattle.rules.specs.Refusal.{said};
+ghost use Rattle.taken.specs.Taken.{QuotesImage};
 use graph::Asked;
 use graph::Which;
 use plan::Plan;
 use rules::Answer;
+use rules::HeldQuotations;
 use rules::Quotation;
 use rules::Quotations;
 use rules::Refusal;
@@ -104,22 +106,29 @@ pub fn all(p: Plan, walks: &mut [u16]) -> Quotations
     ))
 }
 
-// All four figures of the plan that an image holds, with their walks, as `all` has them. The plan that was read is within the limits, so it is not
-// looked at again.
-pub fn held(octets: &[u8], walks: &mut [u16]) -> Quotations
-    ensures { λ r. ⌜ QuotesHeld (now (octets .entry)) (now (walks .entry)) (now (walks .exit)) r ⌝ }
+// All four figures of the plan that an image holds, with their walks, as `all` has them, and the bits that were taken of it. The plan that was read is within the
+// limits, so it is not looked at again.
+pub fn held(octets: &[u8], walks: &mut [u16]) -> HeldQuotations
+    ensures { λ r. ⌜ QuotesImage (now (octets .entry)) (now (walks .entry)) (now (walks .exit)) r ⌝ }
 {
     let edited = plan::held(octets);
     let read = edited.answer;
+    let taken = edited.taken;
     if let Answer::Refused(r) = read {
-        return Quotations::Refused(r);
+        return HeldQuotations {
+            quotations: Quotations::Refused(r),
+            taken,
+        };
     }
     if walks.len() < 2048 {
-        return Quotations::Refused(Refusal::BufferLength);
+        return HeldQuotations {
+            quotations: Quotations::Refused(Refusal::BufferLength),
+            taken,
+        };
     }
     let n = edited.plan.states;
     let m = edited.plan.transitions;
-    Quotations::Quoted(shown::show_all(
+    let quotes = shown::show_all(
         n,
         m,
         &edited.plan.marks,
@@ -129,7 +138,11 @@ pub fn held(octets: &[u8], walks: &mut [u16]) -> Quotations
         &edited.plan.low,
         &edited.plan.high,
         walks,
-    ))
+    );
+    HeldQuotations {
+        quotations: Quotations::Quoted(quotes),
+        taken,
+    }
 }
 
 // Puts the record of the four figures, 11 octets, at the front of the buffer.

@@ -84,7 +84,7 @@ module _ (n : ℕ) (kinds arguments octets answers : List ℕ) (s : Slices) (wal
       replay-fits a q g = ltb-false (length out) 16 (none-holds .1 .1 .1 .0)
 
       -- the fresh plan was stored, the calls made in turn, and the plan that the slices then hold quoted
-      module _ (f : Edited) (x : Edit noPlan (freshRule n) f) (b : Slices) (st : (b ≡ storing (f .plan) s) × (planIn b ≡ f .plan)) (answers′ : List ℕ) (t : Slices)
+      module _ (f : Edited) (x : Edit noPlan (freshRule n) 0 f) (b : Slices) (st : (b ≡ storing (f .plan) s) × (planIn b ≡ f .plan)) (answers′ : List ℕ) (t : Slices)
           (l : LentTurns (callsIn kinds arguments octets) answers answers′ b t) (p : Plan) (e : p ≡ planIn t) (left : List ℕ) where
         abbrev calls : List Call
         calls = callsIn kinds arguments octets

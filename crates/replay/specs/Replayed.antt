@@ -1,5 +1,5 @@
--- DEMAND 3, as a contract. A list of calls in lent slices is made in turn from a fresh plan that is stored in lent slices, and the plan after it is quoted.
--- Assumes nothing.
+-- Demand 3 of the four figures, as a contract: a list of calls in lent slices is made in turn from a fresh plan that is stored in lent slices, and the plan after it is quoted. Counts
+-- for a class are quoted of the slices by calls of their own (binding/specs). Assumes nothing.
 use mathlib.Core.Bool.{true, false}
 use mathlib.Core.List.{List}
 use mathlib.Core.Path.{_≡_}

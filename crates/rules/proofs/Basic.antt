@@ -1,10 +1,10 @@
 -- Facts that the definitions give at once; proof files are checked in the order of their names, so a wrong definition is refused here first.
--- No row is numbered 13. The known octets are the version 1 image of their plan, and the known record is that plan's. Then what each event does, on small plans; the table on small calls in
+-- No row is numbered 13, and no two alike. The known octets are the version 1 image of their plan, and the known record is that plan's. Then what each event does, on small plans; the table on small calls in
 -- which more than one row holds, where the first one answers, by its number; and what a promise rules out. Last, what callers cite of single calls.
 -- Assumes nothing.
 use mathlib.Core.Bool.{true, false, true≢false}
 use mathlib.Core.List.{List, [], _∷_, map}
-use mathlib.Core.Path.{_≡_, refl, ap}
+use mathlib.Core.Path.{_≡_, refl, sym, ap, _∙_}
 use Prim.Native.Nat.{ℕ, _<_}
 use Prim.Native.String.{String}
 use native.Mathlib.Omega.{arith}
@@ -61,6 +61,36 @@ numbered TextForm = (lit< tt, eqb-false _ 13 refl)
 numbered FromState = (lit< tt, eqb-false _ 13 refl)
 numbered ToState = (lit< tt, eqb-false _ 13 refl)
 numbered TeamNumber = (lit< tt, eqb-false _ 13 refl)
+
+-- and no two rows have the same number: in the list of the rows by their numbers, with another in the place of 13, each stands at its own
+refusals : List Refusal
+refusals =
+    PlanLimits ∷ ImageShort ∷ ImageLong ∷ Version ∷ StateCount ∷ TransitionCount ∷ SpareBits ∷ StateNumber ∷ Duration ∷ ListFull
+    ∷ TransitionNumber ∷ BufferLength ∷ MarksValue ∷ PlanLimits ∷ StartCount ∷ TextForm ∷ FromState ∷ ToState ∷ TeamNumber ∷ []
+
+at-its-number : (r : Refusal) → getD refusals (numberOf r) PlanLimits ≡ r
+unfolding refusals
+at-its-number PlanLimits = refl
+at-its-number ImageShort = refl
+at-its-number ImageLong = refl
+at-its-number Version = refl
+at-its-number StateCount = refl
+at-its-number TransitionCount = refl
+at-its-number SpareBits = refl
+at-its-number StateNumber = refl
+at-its-number Duration = refl
+at-its-number ListFull = refl
+at-its-number TransitionNumber = refl
+at-its-number BufferLength = refl
+at-its-number MarksValue = refl
+at-its-number StartCount = refl
+at-its-number TextForm = refl
+at-its-number FromState = refl
+at-its-number ToState = refl
+at-its-number TeamNumber = refl
+
+pub one-number : (j k : Refusal) → numberOf j ≡ numberOf k → j ≡ k
+one-number j k e = sym (at-its-number j) ∙ ap (λ (n : ℕ). getD refusals n PlanLimits) e ∙ at-its-number k
 
 -- so no call answers 13
 pub not-13 : {A : Type 0} (o : Result A) → code o ≡ 13 → ⊥
@@ -241,6 +271,11 @@ pub join-16-17-8 : (answer (join (to-join 1 1 5 3)) ≡ 16) × (answer (join (to
     × (answer (join (to-join 0 0 5 3)) ≡ 8) × (answer (join (to-join 0 0 3 2048)) ≡ 8)
 unfolding within all
 join-16-17-8 = (refl, refl, refl, refl, refl)
+
+-- "High 2,047 joins", which by document 02's E2 is no limit
+pub join-2047 : answer (join (to-join 0 0 3 2047)) ≡ 256
+unfolding within all
+join-2047 = refl
 
 -- "In join": 9 last. A full list, and a transition from no state; to no state; with a low above its high; and a full list alone
 abbrev full : Graph

@@ -92,3 +92,9 @@ pub enum Quotations {
     Quoted(FourQuotes),
     Refused(Refusal),
 }
+
+// The answer of a quotation of all four figures of the plan that an image holds, and the bits that were taken of it.
+pub struct HeldQuotations {
+    pub quotations: Quotations,
+    pub taken: usize,
+}

@@ -15,10 +15,14 @@ use borrow.Author.Tests.{lt-ltb, le-ltb, ltb-true, ltb-false}
 use Rattle.graph.specs.Graph.{Graph}
 use Rattle.rules.specs.declared.Refusal.{Refusal}
 use Rattle.rules.specs.declared.Refusal.the-variants.{ImageShort}
+use Rattle.rules.specs.declared.Format.{Format}
+use Rattle.rules.specs.declared.Format.the-variants.{Image, Text}
+use Rattle.rules.specs.Calls.{read, replacing}
+use Rattle.rules.specs.Limits.{within}
 use Rattle.rules.specs.Refusal.{accepted, refused}
 use Rattle.rules.specs.Table.{Row, byTable, first, byNumber, NoneHolds}
 use Rattle.rules.specs.Image.{stateCountOf, transitionCountOf, statePlace, headerRows, stateRows, graphIn, imageRows, readImage}
-use Rattle.taken.specs.Taken.{refuses, itemsTaken, listedRows, pastHeader, pastStates, pastTransitions, bitsTaken}
+use Rattle.taken.specs.Taken.{refuses, itemsTaken, listedRows, pastHeader, pastStates, pastTransitions, bitsTaken, bitsOf}
 use Rattle.taken.specs.Taken.{RefusedAt, RefusedAtState, RefusedAtTransition, Ends, short, at-header as by-header, at-state as by-state, at-transition as by-transition, at-end}
 use Rattle.rules.proofs.ReadWrite.{clear-header}
 use Rattle.rules.proofs.Results.{never}
@@ -184,6 +188,13 @@ module _ (os : List ℕ) where
       let k = items-all (listedRows os (stateCountOf os)) (transitionCountOf os) t in
       at-transitions h s ∙ omega (arith, k, clear-header os h .long)
 
+  pub header-few : pastHeader os ≤ 32
+  header-few = go (ltb (length os) 4)
+    where
+      go : (b : Bool) → cond b 0 (statePlace 0) ≤ 32
+      go true = omega arith
+      go false = omega arith
+
   header-most : (b : Bool) → ltb (length os) 4 ≡ b → cond b 0 (statePlace 0) ≤ 8 * length os
   header-most true e = omega arith
   header-most false e = omega (arith, ltb-false (length os) 4 e)
@@ -231,3 +242,22 @@ module _ (os : List ℕ) where
       let here : RefusedAtState os i r = record { header = h; state = x } in
       let (a, t) = state-taken i r here in rw (a, t) (by-state i r here)) (items-decided (stateRows os) (stateCountOf os)))
       (λ (r, e). header-ends (ltb (length os) 4) refl r e) (decided (headerRows os))
+
+-- ---- what a call takes
+
+-- a read of octets over a plan within the limits takes what is taken of the octets
+pub read-bits : (g : Graph) (os : List ℕ) → within g ≡ true → bitsOf g (read os) ≡ bitsTaken os
+read-bits g os w = rw w
+
+-- and nothing is taken where the old plan breaks a limit
+pub limits-bits : (g : Graph) (format : Format) (os : List ℕ) → within g ≡ false → bitsOf g (replacing format os) ≡ 0
+limits-bits g Image os w = rw w
+limits-bits g Text os w = refl
+
+-- "never more" of every call: a read takes no more than its octets, and any other call nothing
+pub read-most : (g : Graph) (os : List ℕ) → bitsOf g (read os) ≤ 8 * length os
+read-most g os = go (within g)
+  where
+    go : (b : Bool) → cond b (bitsTaken os) 0 ≤ 8 * length os
+    go true = never-more os
+    go false = omega arith

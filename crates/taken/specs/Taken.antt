@@ -7,9 +7,13 @@ use mathlib.Core.Path.{_≡_}
 use Prim.Native.Nat.{ℕ, zero, suc, _+_, _*_, _≤_, _<_}
 use lib.Dec.{ltb}
 use lib.ListN.{length}
+use Rattle.rules.specs.declared.HeldQuotations.{HeldQuotations}
 use Rattle.rules.specs.declared.Refusal.{Refusal}
 use Rattle.graph.specs.Graph.{Graph}
 use Rattle.rules.specs.declared.Refusal.the-variants.{ImageShort}
+use Rattle.rules.specs.Calls.{Call, mark, team, join, unjoin, read, import}
+use Rattle.rules.specs.Limits.{within}
+use Rattle.rules.specs.Quotations.{QuotesHeld}
 use Rattle.rules.specs.Refusal.{Result, accepted, refused}
 use Rattle.rules.specs.Table.{Row, first, byNumber, NoneHolds}
 use Rattle.rules.specs.Image.{stateCountOf, transitionCountOf, statePlace, transitionPlace, transitionAt, graphIn, headerRows, stateRows, transitionRows, imageRows}
@@ -46,6 +50,20 @@ bitsTaken os =
     cond (refuses (headerRows os)) (pastHeader os)
     (cond (refuses (byNumber (stateRows os) 0 (stateCountOf os))) (pastStates os (stateCountOf os))
     (pastTransitions os (stateCountOf os) (transitionCountOf os)))
+
+-- the bits that a call takes of what it is lent: of an image's, and none where the plan that it is to replace breaks a limit, since 0 comes first. A text has no fields of bits, and no
+-- other call is lent octets
+abbrev pub bitsOf : Graph → Call → ℕ
+bitsOf g (mark state value) = 0
+bitsOf g (team state number) = 0
+bitsOf g (join t) = 0
+bitsOf g (unjoin number) = 0
+bitsOf g (read octets) = cond (within g) (bitsTaken octets) 0
+bitsOf g (import text) = 0
+
+-- all four figures of the plan that an image holds, with the bits that were taken of it
+abbrev pub QuotesImage : List ℕ → List ℕ → List ℕ → HeldQuotations → Type 0
+QuotesImage os before after r = QuotesHeld os before after (r .quotations) × (r .taken ≡ bitsTaken os)
 
 -- k items of which item i is the first that is refused: no row before it holds
 pub record RefusedAt (rows : ℕ → List Row) (k i : ℕ) (r : Refusal) : Type 0 where

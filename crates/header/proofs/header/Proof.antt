@@ -29,7 +29,7 @@ returns c =
       states = λ e. absurd (let z : _≡_ {A = ℕ} 0 1 = cc in omega arith);
       transitions = λ e. absurd (let z : _≡_ {A = ℕ} 0 1 = cc in omega arith);
       all = λ e. absurd (let z : _≡_ {A = ℕ} 0 1 = cc in omega arith);
-      bits = rw e (c .before .before .pre .1);
+      bits = rw e (omega arith);
     }
 
 header-requires : tie.Need-header-requires

@@ -7,14 +7,6 @@ use Rattle.lent.proofs.AllFour.{all-small, sixteen-places, quotes-done}
 use borrow.Author.Needs.{needs}
 use Rattle.lent.proofs.held.Statement.{statement}
 use Rattle.lent.proofs.held.Tie as tie
-use Rattle.lent.proofs.held.Reads as reads
-use Rattle.lent.proofs.held.Lts as lts
-use Rattle.answers.proofs.four.Reads as four-reads
-use Rattle.answers.proofs.handed.Reads as handed-reads
-use Rattle.quotation.proofs.held.Reads as held-reads
-
-handed-requires : tie.Need-handed-requires
-handed-requires c κs = search needs
 
 slice-relend-prefix-held : tie.Need-slice-relend-prefix-held
 slice-relend-prefix-held c = handed-le _ _ _ _ (c .handed .ensures)
@@ -22,35 +14,30 @@ slice-relend-prefix-held c = handed-le _ _ _ _ (c .handed .ensures)
 slice-aggregate-held : tie.Need-slice-aggregate-held
 slice-aggregate-held c = sym (length-take-le _ _ (handed-le _ _ _ _ (c .before .handed .ensures)))
 
-held-requires : tie.Need-held-requires
-held-requires c κs = search needs
-
 four-requires : tie.Need-four-requires
 four-requires c κs =
+    let held = c .before .before .before .held in
+    let handed-here = c .before .before .before .before .before .handed in
     let a = c .before .before .before .before .before .before .before .before .before .args in
-    let x = c .before .before .before .held .ensures in
-    (all-small (a .octets .now) _ _ (c .before .before .before .held .result) x, sixteen-places (a .octets .now) (a .walks .now) (a .out .now) (c .before .before .before .before .before .handed .result) (c .before .before .before .before .before .handed .ensures) _ (c .before .before .before .held .result) x)
-
-same-length : tie.Need-same-length
-same-length c = search needs
-
-same-length-2 : tie.Need-same-length-2
-same-length-2 c = search needs
+    let x = held .ensures .0 in
+    (all-small (a .octets .now) _ _ (held .result .quotations) x, sixteen-places (a .octets .now) (a .walks .now) (a .out .now) (handed-here .result) (handed-here .ensures) _ (held .result .quotations) x)
 
 returns : tie.Need-returns
 returns c =
+    let held = c .before .before .before .before .before .before .held in
+    let handed-here = c .before .before .before .before .before .before .before .before .handed in
     let a = c .before .before .before .before .before .before .before .before .before .before .before .before .args in
-    quotes-done (a .octets .now) (a .walks .now) (a .out .now) (c .before .before .before .before .before .before .before .before .handed .result) (c .before .before .before .before .before .before .before .before .handed .ensures) _ _ (c .before .before .before .before .before .before .held .result) (c .before .before .four .result) (c .before .before .before .before .before .before .held .ensures) (c .before .before .four .ensures)
+    quotes-done (a .octets .now) (a .walks .now) (a .out .now) (handed-here .result) (handed-here .ensures) _ _ (held .result .quotations) (c .before .before .four .result) (held .ensures .0) (c .before .before .four .ensures)
 
 pub held-spec : {M : Type 1} → statement M
 held-spec =
     tie.close
     (tie.spec
-    handed-requires
+    (λ c κs. search needs)
     slice-relend-prefix-held
     slice-aggregate-held
-    held-requires
+    (λ c κs. search needs)
     four-requires
-    same-length
-    same-length-2
+    (λ c. search needs)
+    (λ c. search needs)
     returns)

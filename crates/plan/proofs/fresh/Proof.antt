@@ -2,7 +2,7 @@
 -- Assumes nothing.
 use Prim.Native.Nat.{_≤_}
 use mathlib.Core.Bool.{true, false}
-use mathlib.Core.Path.{_≡_, sym, _∙_}
+use mathlib.Core.Path.{_≡_, refl, sym, _∙_}
 use borrow.Author.Needs.{needs}
 use borrow.Author.Tests.{leb-true, not-true, not-false}
 use lib.Dec.{leb}
@@ -36,7 +36,7 @@ returns c =
     let n = c .before .before .before .before .args .n in
     let s : stateCountOk n ≡ false = sym (c .before .before .before .state-count-ok .ensures) ∙ not-true _ (c .before .before .if1 .taken) in
     rw (c .refuse .ensures)
-    (rw (c .before .blank .ensures) (refusal noPlan (freshRule n) StateCount (rw s)))
+    (rw (c .before .blank .ensures) (refusal noPlan (freshRule n) StateCount 0 0 (rw s) refl))
 
 blank-requires-2 : tie.Need-blank-requires-2
 blank-requires-2 c κs = search needs
@@ -51,7 +51,7 @@ returns-2 c =
     let s : stateCountOk n ≡ true = sym (c .before .before .before .state-count-ok .ensures) ∙ not-false _ (c .before .before .if1 .left) in
     let h : n ≤ 512 = leb-true n 512 (and-true (leb 1 n) (leb n 512) s .1) in
     rw (c .accept .ensures)
-    (rw (c .before .blank2 .ensures) (acceptance noPlan (blankPlan n) (freshRule n) (freshGraph n) (rw s) (view-blank n h) (past-blank n h)))
+    (rw (c .before .blank2 .ensures) (acceptance noPlan (blankPlan n) (freshRule n) (freshGraph n) 0 0 (rw s) (view-blank n h) (past-blank n h) refl))
 
 pub fresh-spec : {M : Type 1} → statement M
 fresh-spec =

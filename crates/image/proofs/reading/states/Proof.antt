@@ -37,7 +37,7 @@ use Rattle.image.proofs.reading.marks_of.Reads as marks-of-reads
 abbrev Inv-loop : tie.InvT-loop
 Inv-loop octets at₀ taken₀ version n marks₀ teams₀ i₀ at taken marks teams i =
     (i ≤ n) × Later n marks₀ marks × Later n teams₀ teams × (at ≡ statePlace i) × ((k : ℕ) → k < i → NoneHolds (stateRows octets k))
-    × ((k : ℕ) → k < i → stateOf marks teams k ≡ stateAt octets (statePlace k)) × (taken ≡ statePlace i)
+    × ((k : ℕ) → k < i → stateOf marks teams k ≡ stateAt octets (statePlace k)) × (taken + statePlace 0 ≡ taken₀ + statePlace i)
 
 abbrev μ-loop : tie.MeasureT-loop
 μ-loop octets at₀ taken₀ version n marks₀ teams₀ i₀ at taken marks teams i = n - i

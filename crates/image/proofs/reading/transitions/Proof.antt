@@ -1,7 +1,7 @@
 -- `image::reading::transitions` meets its contract. The invariant: no row of a transition passed holds, and it stands at its place of the
 -- arrays; no later place was touched; the position, and the count of the bits taken, is that of the next transition. So the first row that holds is of the transition at hand.
 -- Assumes nothing.
-use Prim.Native.Nat.{ℕ, _-_, _≤_, _<_}
+use Prim.Native.Nat.{ℕ, _+_, _-_, _≤_, _<_}
 use mathlib.Core.List.{List}
 use mathlib.Core.Path.{_≡_, sym, ap, subst, _∙_}
 use native.Mathlib.Omega.{arith}
@@ -31,7 +31,7 @@ abbrev Inv-loop : tie.InvT-loop
 Inv-loop octets at₀ taken₀ n m from₀ to₀ low₀ high₀ i₀ at taken from to low high i =
     (i ≤ m) × LaterFields m (fields from₀ to₀ low₀ high₀) (fields from to low high) × (at ≡ transitionPlace n i)
     × ((k : ℕ) → k < i → NoneHolds (transitionRows n (transitionAt octets (transitionPlace n k))))
-    × ((k : ℕ) → k < i → transitionOf from to low high k ≡ transitionAt octets (transitionPlace n k)) × (taken ≡ transitionPlace n i)
+    × ((k : ℕ) → k < i → transitionOf from to low high k ≡ transitionAt octets (transitionPlace n k)) × (taken + transitionPlace n 0 ≡ taken₀ + transitionPlace n i)
 
 abbrev μ-loop : tie.MeasureT-loop
 μ-loop octets at₀ taken₀ n m from₀ to₀ low₀ high₀ i₀ at taken from to low high i = m - i
