@@ -7,11 +7,6 @@ use Rattle.lent.proofs.AllFour.{all-small, sixteen-places, quotes-done}
 use borrow.Author.Needs.{needs}
 use Rattle.lent.proofs.held.Statement.{statement}
 use Rattle.lent.proofs.held.Tie as tie
-use Rattle.lent.proofs.held.Reads as reads
-use Rattle.lent.proofs.held.Lts as lts
-use Rattle.answers.proofs.four.Reads as four-reads
-use Rattle.answers.proofs.handed.Reads as handed-reads
-use Rattle.quotation.proofs.held.Reads as held-reads
 
 handed-requires : tie.Need-handed-requires
 handed-requires c κs = search needs

@@ -9,12 +9,6 @@ use Rattle.lines.proofs.Prints.{prints-nothing, prints-figures, prints-
 use borrow.Author.Needs.{needs}
 use Rattle.lines.proofs.answer.Statement.{statement}
 use Rattle.lines.proofs.answer.Tie as tie
-use Rattle.lines.proofs.answer.Reads as reads
-use Rattle.lines.proofs.answer.Lts as lts
-use Rattle.four_lines.proofs.four.Reads as four-reads
-use Rattle.line.proofs.refused.Reads as refused-reads
-use Rattle.quotation.proofs.held.Reads as held-reads
-use Rattle.numbers.proofs.number.Reads as number-reads
 
 returns : tie.Need-returns
 returns c = prints-nothing (c .before .before .before .args .octets .now) (c .before .before .before .args .buffer .now) (c .if1 .taken)

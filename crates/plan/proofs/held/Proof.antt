@@ -11,10 +11,6 @@ use Rattle.plan.proofs.Edits.{refusal, acceptance}
 use borrow.Author.Needs.{needs}
 use Rattle.plan.proofs.held.Statement.{statement}
 use Rattle.plan.proofs.held.Tie as tie
-use Rattle.plan.proofs.held.Reads as reads
-use Rattle.plan.proofs.held.Lts as lts
-use Rattle.image.proofs.reading.fill.Reads as fill-reads
-use Rattle.plan.proofs.blank.Reads as blank-reads
 
 fill-requires : tie.Need-fill-requires
 fill-requires c κs = search needs

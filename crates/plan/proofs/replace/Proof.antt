@@ -14,12 +14,6 @@ use Rattle.plan.proofs.Values.{Sized, limits-view}
 use borrow.Author.Needs.{needs}
 use Rattle.plan.proofs.replace.Statement.{statement}
 use Rattle.plan.proofs.replace.Tie as tie
-use Rattle.plan.proofs.replace.Reads as reads
-use Rattle.plan.proofs.replace.Lts as lts
-use Rattle.places.proofs.lay.Reads as lay-reads
-use Rattle.places.proofs.lay_states.Reads as lay-states-reads
-use Rattle.replacement.proofs.take.Reads as take-reads
-use Rattle.plan_limits.proofs.in_limits.Reads as in-limits-reads
 
 in-limits-requires : tie.Need-in-limits-requires
 in-limits-requires c κs = search needs

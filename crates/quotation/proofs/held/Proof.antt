@@ -4,10 +4,6 @@ use Rattle.quotation.proofs.Kept.{held-refused, held-short, held-quoted
 use borrow.Author.Needs.{needs}
 use Rattle.quotation.proofs.held.Statement.{statement}
 use Rattle.quotation.proofs.held.Tie as tie
-use Rattle.quotation.proofs.held.Reads as reads
-use Rattle.quotation.proofs.held.Lts as lts
-use Rattle.plan.proofs.held.Reads as held-reads
-use Rattle.shown.proofs.show_all.Reads as show-all-reads
 
 held-requires : tie.Need-held-requires
 held-requires c κs = search needs

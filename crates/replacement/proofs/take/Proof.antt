@@ -12,10 +12,6 @@ use Rattle.arrays.proofs.Lists.{states-of, count-of}
 use borrow.Author.Needs.{needs}
 use Rattle.replacement.proofs.take.Statement.{statement}
 use Rattle.replacement.proofs.take.Tie as tie
-use Rattle.replacement.proofs.take.Reads as reads
-use Rattle.replacement.proofs.take.Lts as lts
-use Rattle.image.proofs.reading.fill.Reads as reading-fill-reads
-use Rattle.imported.proofs.fill.Reads as fill-reads
 
 returns : tie.Need-returns
 returns c = record {

@@ -13,11 +13,6 @@ use Rattle.taken.proofs.Taken.{at-header, never-more}
 use borrow.Author.Needs.{needs}
 use Rattle.image.proofs.reading.fill.Statement.{statement}
 use Rattle.image.proofs.reading.fill.Tie as tie
-use Rattle.image.proofs.reading.fill.Reads as reads
-use Rattle.image.proofs.reading.fill.Lts as lts
-use Rattle.header.proofs.header.Reads as header-reads
-use Rattle.image.proofs.reading.states.Reads as states-reads
-use Rattle.image.proofs.reading.transitions.Reads as transitions-reads
 
 -- an array that nothing was stored in
 same : (k : ℕ) (f : Fields) → k ≤ length (f .from) → k ≤ length (f .to) → k ≤ length (f .low) → k ≤ length (f .high) → LaterFields k f f
