@@ -10,7 +10,7 @@ use Rattle.rules.specs.declared.Answer.{Answer}
 use Rattle.rules.specs.declared.Refusal.{Refusal}
 use Rattle.rules.specs.declared.Written.{Written}
 use Rattle.rules.specs.Aldebaran.{textRows, graphInText, importText, exportText, exportRows, exportRule}
-use Rattle.rules.specs.Calls.{step, import}
+use Rattle.rules.specs.Calls.{import}
 use Rattle.rules.specs.Image.{image, imageLength, imageRows, graphIn, readImage}
 use Rattle.rules.specs.Limits.{within}
 use Rattle.rules.specs.Quotations.{Write}

@@ -12,7 +12,7 @@ use lib.Pow.{pow-mono}
 use lib.Seq.{length-take-le, take-at, drop-at, take-take, drop-drop}
 use Rattle.field.specs.Field.{number, bitsOf, bits, fieldAt, withField, Octets}
 use Rattle.field.proofs.Number.{length-bitsOf, number-lt, number-bitsOf-lt}
-use Rattle.field.proofs.Bits.{length-bits, bits-take, bits-drop, length-octetsOf, octetsOf-octets, bits-octetsOf, same-bits, within-front, take-octets, drop-octets}
+use Rattle.field.proofs.Bits.{length-bits, length-octetsOf, octetsOf-octets, bits-octetsOf, within-front}
 
 -- a field is below 2^width
 pub field-lt : (os : List ℕ) (at w : ℕ) → fieldAt os at w < 2 ^ w
@@ -88,21 +88,3 @@ module _ (os : List ℕ) (at w v : ℕ) (h : at + w ≤ 8 * length os) where
       part l =
           let d : at + w + (at′ - (at + w)) ≡ at′ = omega arith in
           sym (ap (λ (x : List Bool). take w′ x) (drop-drop (at′ - (at + w)) (at + w) l) ∙ ap (λ (k : ℕ). take w′ (drop k l)) d)
-
-  -- octets that end before it, or begin after it, are those that were there
-  pub put-earlier-octets : (k : ℕ) → Octets os → 8 * k ≤ at → take k (withField os at w v) ≡ take k os
-  put-earlier-octets k ho e = same-bits _ _ (take-octets k _ (withField-octets os at w v)) (take-octets k os ho)
-      (sym (bits-take k (withField os at w v) (omega (arith, length-withField os at w v)))
-      ∙ sym (take-take (8 * k) at _ e) ∙ ap (λ (l : List Bool). take (8 * k) l) put-before ∙ take-take (8 * k) at (bits os) e
-      ∙ bits-take k os (omega arith))
-
-  pub put-later-octets : (k : ℕ) → Octets os → at + w ≤ 8 * k → k ≤ length os → drop k (withField os at w v) ≡ drop k os
-  put-later-octets k ho e hk = same-bits _ _ (drop-octets k _ (withField-octets os at w v)) (drop-octets k os ho)
-      (sym (bits-drop k (withField os at w v) (omega (arith, length-withField os at w v)))
-      ∙ part (bits (withField os at w v)) ∙ ap (λ (l : List Bool). drop (8 * k - (at + w)) l) put-back ∙ sym (part (bits os))
-      ∙ bits-drop k os hk)
-    where
-      part : (l : List Bool) → drop (8 * k) l ≡ drop (8 * k - (at + w)) (drop (at + w) l)
-      part l =
-          let d : at + w + (8 * k - (at + w)) ≡ 8 * k = omega arith in
-          sym (drop-drop (8 * k - (at + w)) (at + w) l ∙ ap (λ (n : ℕ). drop n l) d)

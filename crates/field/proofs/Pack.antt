@@ -1,18 +1,16 @@
 -- Fields one after another. The bits of a sequence of fields, each value below 2^width, give the sequence back, wherever in a list of octets
 -- they stand; and the bits of octets that a sequence of widths covers are those of the fields taken at these widths. So a sequence of fields
--- that fills octets comes back as those fields, octets whose fields are taken and packed are those octets, and two octet lists with the same
--- fields are the same list. Fields put one after another at the front of a buffer leave the packed octets there, and the rest of the buffer.
--- Assumes nothing.
+-- that fills octets comes back as those fields, and octets whose fields are taken and packed are those octets. Fields put one after another
+-- at the front of a buffer leave the packed octets there, and the rest of the buffer. Assumes nothing.
 use mathlib.Core.Bool.{Bool}
 use mathlib.Core.List.{List, [], _∷_, _++_, append-assoc, append-nil}
 use mathlib.Core.Path.{_≡_, refl, sym, ap, ap₂, _∙_}
 use Prim.Native.Nat.{ℕ, _+_, _*_, _/_, _≤_}
 use native.Mathlib.Nat.{add-zero, zero-add, add-assoc, mul-div-cancel-left}
 use native.Mathlib.Omega.{arith}
-use lib.ListN.{length, getD, take, drop, length-append, length-drop, take-append-drop}
+use lib.ListN.{length, take, drop, length-append, length-drop, take-append-drop}
 use lib.Seq.{length-take-le, take-at, drop-at, drop-drop, take-add, take-length}
-use Rattle.field.specs.Field.{Field, AllFit, number, bitsOf, bits, fieldAt, withField, Octets, bitsOfAll, widthOfAll, pack, unpack, putAll, widths, fieldsOf, fourAt}
-use Rattle.field.specs.declared.Four.{Four}
+use Rattle.field.specs.Field.{Field, AllFit, number, bitsOf, bits, fieldAt, withField, Octets, bitsOfAll, widthOfAll, pack, unpack, putAll, widths}
 use Rattle.field.proofs.Number.{length-bitsOf, number-bitsOf-lt, bitsOf-number-at}
 use Rattle.field.proofs.Bits.{length-bits, bits-append, bits-drop, length-octetsOf, octetsOf-octets, bits-octetsOf, same-bits, drop-octets, append-octets}
 use Rattle.field.proofs.Laws.{length-withField, withField-octets, put-front, put-back}
@@ -35,11 +33,6 @@ pub widthOfAll-append : (fs gs : List Field) → widthOfAll (fs ++ gs) ≡ width
 unfolding widthOfAll
 widthOfAll-append [] gs = sym (zero-add (widthOfAll gs))
 widthOfAll-append (f ∷ fs) gs = ap (λ (n : ℕ). f .width + n) (widthOfAll-append fs gs) ∙ sym (add-assoc (f .width) (widthOfAll fs) (widthOfAll gs))
-
-pub allFit-append : (fs gs : List Field) → AllFit fs → AllFit gs → AllFit (fs ++ gs)
-unfolding AllFit
-allFit-append [] gs hf hg = hg
-allFit-append (f ∷ fs) gs hf hg = (hf .0, allFit-append fs gs (hf .1) hg)
 
 -- ---- taking fields from where their bits stand
 
@@ -105,12 +98,6 @@ pack-unpack os ws ho e =
     (sym (bits-of-unpack os ws 0 (omega (arith, zero-add (widthOfAll (unpack os 0 ws))))
     ∙ ap (λ (n : ℕ). take n (bits os)) (e ∙ sym (length-bits os)) ∙ take-length (bits os)))
 
--- two octet lists with the same fields are the same list
-pub same-fields : (xs ys : List ℕ) (ws : List ℕ) → Octets xs → Octets ys → widthOfAll (unpack xs 0 ws) ≡ 8 * length xs → length xs ≡ length ys
-    → unpack xs 0 ws ≡ unpack ys 0 ws → xs ≡ ys
-same-fields xs ys ws hx hy e l s =
-    sym (pack-unpack xs ws hx e) ∙ ap pack s ∙ pack-unpack ys ws hy (ap widthOfAll (sym s) ∙ e ∙ ap (λ (n : ℕ). 8 * n) l)
-
 -- ---- fields put one after another
 
 pub length-putAll : (fs : List Field) (os : List ℕ) (at : ℕ) → length (putAll os at fs) ≡ length os
@@ -156,24 +143,3 @@ putAll-pack fs k os ho e h =
     (bits-putAll fs os 0 (omega (arith, zero-add (widthOfAll fs)))
     ∙ ap₂ {C = List Bool} (λ (x y : List Bool). x ++ y) (sym (bits-pack fs k e)) (ap (λ (n : ℕ). drop n (bits os)) (zero-add (widthOfAll fs) ∙ e) ∙ bits-drop k os h)
     ∙ sym (bits-append (pack fs) (drop k os)))
-
--- ---- four fields
-
--- those that four positions give are those that a running position gives
-pub unpack-four : (os : List ℕ) (at a b c d : ℕ) → unpack os at (a ∷ b ∷ c ∷ d ∷ []) ≡ fieldsOf a b c d (fourAt os at a b c d)
-unfolding unpack
-unpack-four os at a b c d = refl
-
--- four fields that were put come back
-pub take-put-four : (os : List ℕ) (at a b c d : ℕ) (f : Four) → AllFit (fieldsOf a b c d f) → at + widthOfAll (fieldsOf a b c d f) ≤ 8 * length os
-    → fourAt (putAll os at (fieldsOf a b c d f)) at a b c d ≡ f
-take-put-four os at a b c d f h k =
-    let fs : List Field = fieldsOf a b c d f in
-    let o′ : List ℕ = putAll os at fs in
-    let rest : List Bool = drop (at + widthOfAll fs) (bits os) in
-    let l : length (take at (bits os)) ≡ at = length-take-le at (bits os) (omega (arith, length-bits os)) in
-    let e : drop at (bits o′) ≡ bitsOfAll fs ++ rest =
-    ap (λ (x : List Bool). drop at x) (bits-putAll fs os at k ∙ append-assoc (take at (bits os)) (bitsOfAll fs) rest) ∙ drop-at (take at (bits os)) (bitsOfAll fs ++ rest) at l in
-    let u : fieldsOf a b c d (fourAt o′ at a b c d) ≡ fs = sym (unpack-four o′ at a b c d) ∙ unpack-of-bits o′ fs at rest h e in
-    let none : Field = record { width = 0; value = 0 } in
-    λ i. record { first = getD (u i) 0 none .value; second = getD (u i) 1 none .value; third = getD (u i) 2 none .value; fourth = getD (u i) 3 none .value }

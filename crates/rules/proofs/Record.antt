@@ -8,9 +8,9 @@ use mathlib.Core.Path.{_≡_, refl, sym, ap, ap₂, _∙_}
 use Prim.Native.Nat.{ℕ, _+_, _*_, _^_, _<_}
 use native.Mathlib.Omega.{arith}
 use lib.ListN.{length, getD}
-use Rattle.field.specs.Field.{Field, AllFit, Octets, bits, widthOfAll, unpack, fieldAt}
+use Rattle.field.specs.Field.{Field, AllFit, bits, widthOfAll, unpack, fieldAt}
 use Rattle.field.proofs.Bits.{bits-append}
-use Rattle.field.proofs.Pack.{length-pack, bits-pack, pack-octets, unpack-of-bits}
+use Rattle.field.proofs.Pack.{length-pack, bits-pack, unpack-of-bits}
 use Rattle.graph.specs.declared.Which.{Which}
 use Rattle.graph.specs.declared.Which.the-variants.{LeastDelay, GreatestDelay, LeastCount, GreatestCount}
 use Rattle.graph.specs.Which.{place}
@@ -34,10 +34,6 @@ record-width g = refl
 pub length-record : (g : Graph) → length (recordOctets g) ≡ 11
 unfolding recordOctets
 length-record g = length-pack (recordFields g) 11 (record-width g)
-
-pub record-octets : (g : Graph) → Octets (recordOctets g)
-unfolding recordOctets
-record-octets g = pack-octets (recordFields g)
 
 -- ---- the values fit their widths
 

@@ -1,5 +1,5 @@
 -- Decimal numerals. The bound in `leading` does not matter once it is no less than the number, so a number below ten is its own digit, and any other
--- has the numeral of its tenth and one digit more. By that rule (`by-tens`): the numeral's value is the number, so no two numbers have one numeral; every octet
+-- has the numeral of its tenth and one digit more. By that rule (`by-tens`): the numeral's value is the number; every octet
 -- is a digit; a number but 0 begins with no zero; a number below 10^w has at most w digits. Assumes nothing.
 use Prim.Native.Nat.{ℕ, zero, suc, _+_, _-_, _*_, _/_, _%_, _^_, _≤_, _<_}
 use mathlib.Core.List.{List, [], _∷_, _++_}
@@ -71,10 +71,6 @@ value-digits =
     (λ x. value (digits x) ≡ x)
     (λ x h. rw (digits-one x h) (omega arith))
     (λ x h e. rw (digits-last x h, value-snoc 0 (digits (x / 10)) (digit (x % 10)), e) (omega arith))
-
--- no two numbers have one numeral
-pub digits-injective : (x y : ℕ) → digits x ≡ digits y → x ≡ y
-digits-injective x y e = sym (value-digits x) ∙ ap value e ∙ value-digits y
 
 -- ---- the octets
 

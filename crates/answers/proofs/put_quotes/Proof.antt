@@ -13,9 +13,6 @@ use Rattle.answers.specs.Answered.{numbersOf}
 use borrow.Author.Needs.{needs}
 use Rattle.answers.proofs.put_quotes.Statement.{statement}
 use Rattle.answers.proofs.put_quotes.Tie as tie
-use Rattle.answers.proofs.put_quotes.Reads as reads
-use Rattle.answers.proofs.put_quotes.Lts as lts
-use Rattle.answers.proofs.put_quote.Reads as put-quote-reads
 
 put-quote-requires : tie.Need-put-quote-requires
 put-quote-requires c κs =

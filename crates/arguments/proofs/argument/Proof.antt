@@ -4,10 +4,6 @@ use Rattle.arguments.proofs.Reading.{argument-read}
 use borrow.Author.Needs.{needs}
 use Rattle.arguments.proofs.argument.Statement.{statement}
 use Rattle.arguments.proofs.argument.Tie as tie
-use Rattle.arguments.proofs.argument.Reads as reads
-use Rattle.arguments.proofs.argument.Lts as lts
-use Rattle.arguments.proofs.decimal.Reads as decimal-reads
-use Rattle.scan.proofs.word.Reads as word-reads
 
 decimal-requires : tie.Need-decimal-requires
 decimal-requires c κs = search needs

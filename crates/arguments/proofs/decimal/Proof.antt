@@ -5,10 +5,6 @@ use Rattle.arguments.proofs.Reading.{decimal-after-off, decimal-not-the
 use borrow.Author.Needs.{needs}
 use Rattle.arguments.proofs.decimal.Statement.{statement}
 use Rattle.arguments.proofs.decimal.Tie as tie
-use Rattle.arguments.proofs.decimal.Reads as reads
-use Rattle.arguments.proofs.decimal.Lts as lts
-use Rattle.arguments.proofs.off.Reads as off-reads
-use Rattle.scan.proofs.digits.Reads as digits-reads
 
 off-requires : tie.Need-off-requires
 off-requires c κs = search needs

@@ -6,9 +6,6 @@ use Rattle.arguments.proofs.Reading.{three-off, more-behind, great-seed
 use borrow.Author.Needs.{needs}
 use Rattle.arguments.proofs.read.Statement.{statement}
 use Rattle.arguments.proofs.read.Tie as tie
-use Rattle.arguments.proofs.read.Reads as reads
-use Rattle.arguments.proofs.read.Lts as lts
-use Rattle.arguments.proofs.argument.Reads as argument-reads
 
 argument-requires : tie.Need-argument-requires
 argument-requires c κs = search needs

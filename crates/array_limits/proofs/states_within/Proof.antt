@@ -12,8 +12,6 @@ use Rattle.arrays.specs.Tables.{stateOf}
 use Rattle.rules.proofs.Tabulated.{all-tabulate, not-all-tabulate}
 use Rattle.array_limits.proofs.states_within.Statement.{statement}
 use Rattle.array_limits.proofs.states_within.Tie as tie
-use Rattle.array_limits.proofs.states_within.Reads as reads
-use Rattle.array_limits.proofs.states_within.Lts as lts
 
 abbrev Inv-loop : tie.InvT-loop
 Inv-loop marks teams n i₀ i = (i ≤ n) × ((k : ℕ) → k < i → stateOk (stateOf marks teams k) ≡ true)

@@ -10,9 +10,6 @@ use Rattle.arrays.specs.Tables.{transitionOf, transitionsOf}
 use Rattle.rules.proofs.Tabulated.{all-more}
 use Rattle.array_limits.proofs.transitions_within.Statement.{statement}
 use Rattle.array_limits.proofs.transitions_within.Tie as tie
-use Rattle.array_limits.proofs.transitions_within.Reads as reads
-use Rattle.array_limits.proofs.transitions_within.Lts as lts
-use Rattle.array_limits.proofs.transition_within.Reads as transition-within-reads
 
 abbrev Inv-loop : tie.InvT-loop
 Inv-loop from to low high n m end sound₀ i₀ sound i = (i ≤ m) × (sound ≡ all (transitionOk n) (transitionsOf i from to low high))

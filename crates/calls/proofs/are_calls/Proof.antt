@@ -4,9 +4,6 @@ use Rattle.calls.specs.Slices.{areCalls}
 use borrow.Author.Needs.{needs}
 use Rattle.calls.proofs.are_calls.Statement.{statement}
 use Rattle.calls.proofs.are_calls.Tie as tie
-use Rattle.calls.proofs.are_calls.Reads as reads
-use Rattle.calls.proofs.are_calls.Lts as lts
-use Rattle.calls.proofs.each_call.Reads as each-call-reads
 
 returns : tie.Need-returns
 unfolding areCalls

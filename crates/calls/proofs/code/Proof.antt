@@ -2,9 +2,6 @@
 use borrow.Author.Needs.{needs}
 use Rattle.calls.proofs.code.Statement.{statement}
 use Rattle.calls.proofs.code.Tie as tie
-use Rattle.calls.proofs.code.Reads as reads
-use Rattle.calls.proofs.code.Lts as lts
-use Rattle.numbers.proofs.number.Reads as number-reads
 
 enum-told : tie.Need-enum-told
 enum-told c = search needs

@@ -12,9 +12,6 @@ use Rattle.rules.proofs.Tabulated.{all-tabulate, not-all-tabulate}
 use Rattle.calls.specs.Slices.{isCall, itemAt}
 use Rattle.calls.proofs.each_call.Statement.{statement}
 use Rattle.calls.proofs.each_call.Tie as tie
-use Rattle.calls.proofs.each_call.Reads as reads
-use Rattle.calls.proofs.each_call.Lts as lts
-use Rattle.calls.proofs.is_call.Reads as is-call-reads
 
 abbrev Inv-loop : tie.InvT-loop
 Inv-loop kinds arguments long i₀ i = (i ≤ length kinds) × ((k : ℕ) → k < i → isCall long (itemAt kinds arguments k) ≡ true)

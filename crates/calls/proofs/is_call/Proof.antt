@@ -3,9 +3,6 @@ use borrow.Author.Needs.{needs}
 use borrow.Author.Tests.{lt-ltb, le-ltb}
 use Rattle.calls.proofs.is_call.Statement.{statement}
 use Rattle.calls.proofs.is_call.Tie as tie
-use Rattle.calls.proofs.is_call.Reads as reads
-use Rattle.calls.proofs.is_call.Lts as lts
-use Rattle.calls.proofs.part_ok.Reads as part-ok-reads
 
 returns : tie.Need-returns
 returns c = rw (lt-ltb _ _ (c .if1 .taken))

@@ -2,8 +2,6 @@
 use borrow.Author.Tests.{le-leb, lt-leb}
 use Rattle.calls.proofs.part_ok.Statement.{statement}
 use Rattle.calls.proofs.part_ok.Tie as tie
-use Rattle.calls.proofs.part_ok.Reads as reads
-use Rattle.calls.proofs.part_ok.Lts as lts
 
 returns : tie.Need-returns
 returns c = rw (le-leb _ _ (c .if1 .taken))

@@ -5,9 +5,6 @@ use Rattle.calls.specs.Rows.{replayRule}
 use borrow.Author.Needs.{needs}
 use Rattle.calls.proofs.rows.Statement.{statement}
 use Rattle.calls.proofs.rows.Tie as tie
-use Rattle.calls.proofs.rows.Reads as reads
-use Rattle.calls.proofs.rows.Lts as lts
-use Rattle.arrays.proofs.limits.state_count_ok.Reads as state-count-ok-reads
 
 state-count-ok-requires : tie.Need-state-count-ok-requires
 state-count-ok-requires c κs = search needs

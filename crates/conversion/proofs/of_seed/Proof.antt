@@ -3,10 +3,6 @@ use Rattle.conversion.proofs.Converting.{seed-refused, seed-put}
 use borrow.Author.Needs.{needs}
 use Rattle.conversion.proofs.of_seed.Statement.{statement}
 use Rattle.conversion.proofs.of_seed.Tie as tie
-use Rattle.conversion.proofs.of_seed.Reads as reads
-use Rattle.conversion.proofs.of_seed.Lts as lts
-use Rattle.generation.proofs.generate.Reads as generate-reads
-use Rattle.plan.proofs.write.Reads as write-reads
 
 generate-requires : tie.Need-generate-requires
 generate-requires c κs = search needs

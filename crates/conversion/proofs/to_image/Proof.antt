@@ -3,11 +3,6 @@ use Rattle.conversion.proofs.Converting.{image-refused, image-put}
 use borrow.Author.Needs.{needs}
 use Rattle.conversion.proofs.to_image.Statement.{statement}
 use Rattle.conversion.proofs.to_image.Tie as tie
-use Rattle.conversion.proofs.to_image.Reads as reads
-use Rattle.conversion.proofs.to_image.Lts as lts
-use Rattle.plan.proofs.fresh.Reads as fresh-reads
-use Rattle.plan.proofs.replace.Reads as replace-reads
-use Rattle.plan.proofs.write.Reads as write-reads
 
 fresh-requires : tie.Need-fresh-requires
 fresh-requires c κs = search needs

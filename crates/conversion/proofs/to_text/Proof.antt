@@ -3,10 +3,6 @@ use Rattle.conversion.proofs.Converting.{text-refused, text-put}
 use borrow.Author.Needs.{needs}
 use Rattle.conversion.proofs.to_text.Statement.{statement}
 use Rattle.conversion.proofs.to_text.Tie as tie
-use Rattle.conversion.proofs.to_text.Reads as reads
-use Rattle.conversion.proofs.to_text.Lts as lts
-use Rattle.plan.proofs.export.Reads as export-reads
-use Rattle.plan.proofs.held.Reads as held-reads
 
 held-requires : tie.Need-held-requires
 held-requires c κs = search needs

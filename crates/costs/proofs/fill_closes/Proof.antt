@@ -8,9 +8,6 @@ use Rattle.costs.specs.Arrays.{Filled, countClose}
 use Rattle.costs.proofs.Filled.{filled-none, filled-more}
 use Rattle.costs.proofs.fill_closes.Statement.{statement}
 use Rattle.costs.proofs.fill_closes.Tie as tie
-use Rattle.costs.proofs.fill_closes.Reads as reads
-use Rattle.costs.proofs.fill_closes.Lts as lts
-use Rattle.costs.proofs.close_of.Reads as close-of-reads
 
 abbrev Inv-loop : tie.InvT-loop
 Inv-loop asked marks teams n scale close₀ s₀ close s = (s ≤ n) × (length close ≡ 512) × Filled s (countClose asked scale marks teams) close

@@ -8,9 +8,6 @@ use Rattle.costs.specs.Arrays.{Filled, leavingWeight}
 use Rattle.costs.proofs.Filled.{filled-none, filled-more}
 use Rattle.costs.proofs.fill_leaving.Statement.{statement}
 use Rattle.costs.proofs.fill_leaving.Tie as tie
-use Rattle.costs.proofs.fill_leaving.Reads as reads
-use Rattle.costs.proofs.fill_leaving.Lts as lts
-use Rattle.arrays.proofs.limits.wide.Reads as wide-reads
 
 abbrev Inv-loop : tie.InvT-loop
 Inv-loop close from m extra weight₀ t₀ weight t = (t ≤ m) × (length weight ≡ 2048) × Filled t (leavingWeight extra close from) weight

@@ -8,8 +8,6 @@ use Rattle.costs.specs.Arrays.{Filled, lowWeight}
 use Rattle.costs.proofs.Filled.{filled-none, filled-more, scaled-le}
 use Rattle.costs.proofs.fill_lows.Statement.{statement}
 use Rattle.costs.proofs.fill_lows.Tie as tie
-use Rattle.costs.proofs.fill_lows.Reads as reads
-use Rattle.costs.proofs.fill_lows.Lts as lts
 
 abbrev Inv-loop : tie.InvT-loop
 Inv-loop low m scale extra weight₀ t₀ weight t = (t ≤ m) × (length weight ≡ 2048) × Filled t (lowWeight scale extra low) weight

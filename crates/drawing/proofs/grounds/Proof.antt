@@ -8,9 +8,6 @@ use lib.Dec.{leb}
 use Rattle.rules.specs.Limits.{stateCountOk}
 use Rattle.drawing.proofs.grounds.Statement.{statement}
 use Rattle.drawing.proofs.grounds.Tie as tie
-use Rattle.drawing.proofs.grounds.Reads as reads
-use Rattle.drawing.proofs.grounds.Lts as lts
-use Rattle.arrays.proofs.limits.state_count_ok.Reads as state-count-ok-reads
 
 state-count-ok-requires : tie.Need-state-count-ok-requires
 state-count-ok-requires c κs = search needs

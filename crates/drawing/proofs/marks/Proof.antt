@@ -4,8 +4,6 @@ use borrow.Author.Needs.{needs}
 use Rattle.drawing.proofs.Ends.{first-small, marked}
 use Rattle.drawing.proofs.marks.Statement.{statement}
 use Rattle.drawing.proofs.marks.Tie as tie
-use Rattle.drawing.proofs.marks.Reads as reads
-use Rattle.drawing.proofs.marks.Lts as lts
 
 sub-marks : tie.Need-sub-marks
 sub-marks c = search needs

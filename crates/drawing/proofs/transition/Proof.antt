@@ -6,8 +6,6 @@ use native.Mathlib.Omega.{arith}
 use borrow.Author.Needs.{needs}
 use Rattle.drawing.proofs.transition.Statement.{statement}
 use Rattle.drawing.proofs.transition.Tie as tie
-use Rattle.drawing.proofs.transition.Reads as reads
-use Rattle.drawing.proofs.transition.Lts as lts
 
 cast-count : tie.Need-cast-count
 cast-count c = search needs

@@ -6,10 +6,6 @@ use Rattle.conversion.proofs.Rooms.{text-within, text-enough}
 use borrow.Author.Needs.{needs}
 use Rattle.export.proofs.print.Statement.{statement}
 use Rattle.export.proofs.print.Tie as tie
-use Rattle.export.proofs.print.Reads as reads
-use Rattle.export.proofs.print.Lts as lts
-use Rattle.conversion.proofs.to_text.Reads as to-text-reads
-use Rattle.program.proofs.written.Reads as written-reads
 
 slice-aggregate-to-text : tie.Need-slice-aggregate-to-text
 slice-aggregate-to-text c = search needs

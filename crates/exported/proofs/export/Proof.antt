@@ -19,12 +19,6 @@ use Rattle.exported.proofs.Exporting.{counted, text-here, put-front}
 use borrow.Author.Needs.{needs}
 use Rattle.exported.proofs.export.Statement.{statement}
 use Rattle.exported.proofs.export.Tie as tie
-use Rattle.exported.proofs.export.Reads as reads
-use Rattle.exported.proofs.export.Lts as lts
-use Rattle.plan_limits.proofs.in_limits.Reads as in-limits-reads
-use Rattle.starts.proofs.count.Reads as count-reads
-use Rattle.text_length.proofs.length.Reads as length-reads
-use Rattle.text_writing.proofs.text.Reads as text-reads
 
 -- the plan that the counts and arrays hold, and its counts
 graph : tie.Start → Graph

@@ -3,8 +3,6 @@ use mathlib.Core.Path.{refl}
 use borrow.Author.Needs.{needs}
 use Rattle.figures.proofs.divide.Statement.{statement}
 use Rattle.figures.proofs.divide.Tie as tie
-use Rattle.figures.proofs.divide.Reads as reads
-use Rattle.figures.proofs.divide.Lts as lts
 
 enum-known-figure : tie.Need-enum-known-figure
 enum-known-figure c = search needs

@@ -6,9 +6,6 @@ use Rattle.four_lines.proofs.InRow.{part-long, long, lines-sum, lines-r
 use borrow.Author.Needs.{needs}
 use Rattle.four_lines.proofs.four.Statement.{statement}
 use Rattle.four_lines.proofs.four.Tie as tie
-use Rattle.four_lines.proofs.four.Reads as reads
-use Rattle.four_lines.proofs.four.Lts as lts
-use Rattle.line.proofs.line.Reads as line-reads
 
 sub-line : tie.Need-sub-line
 sub-line c = search needs

@@ -6,10 +6,6 @@ use Rattle.conversion.proofs.Rooms.{seed-within, seed-enough}
 use borrow.Author.Needs.{needs}
 use Rattle.generate.proofs.print.Statement.{statement}
 use Rattle.generate.proofs.print.Tie as tie
-use Rattle.generate.proofs.print.Reads as reads
-use Rattle.generate.proofs.print.Lts as lts
-use Rattle.conversion.proofs.of_seed.Reads as of-seed-reads
-use Rattle.program.proofs.written.Reads as written-reads
 
 slice-aggregate-of-seed : tie.Need-slice-aggregate-of-seed
 slice-aggregate-of-seed c = search needs

@@ -4,10 +4,6 @@ use Rattle.arrays.specs.Tables.{fields}
 use Rattle.generation.proofs.Drawn.{added}
 use Rattle.generation.proofs.add.Statement.{statement}
 use Rattle.generation.proofs.add.Tie as tie
-use Rattle.generation.proofs.add.Reads as reads
-use Rattle.generation.proofs.add.Lts as lts
-use Rattle.drawing.proofs.transition.Reads as transition-reads
-use Rattle.generator.proofs.four.Reads as four-reads
 
 four-requires : tie.Need-four-requires
 four-requires c κs = search needs

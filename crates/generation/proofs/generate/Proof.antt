@@ -3,12 +3,6 @@ use borrow.Author.Needs.{needs}
 use Rattle.generation.proofs.Made.{limits, none-made, made}
 use Rattle.generation.proofs.generate.Statement.{statement}
 use Rattle.generation.proofs.generate.Tie as tie
-use Rattle.generation.proofs.generate.Reads as reads
-use Rattle.generation.proofs.generate.Lts as lts
-use Rattle.drawing.proofs.grounds.Reads as grounds-reads
-use Rattle.drawing.proofs.marks.Reads as marks-reads
-use Rattle.generation.proofs.transitions.Reads as transitions-reads
-use Rattle.plan.proofs.fresh.Reads as fresh-reads
 
 grounds-requires : tie.Need-grounds-requires
 grounds-requires c κs = search needs

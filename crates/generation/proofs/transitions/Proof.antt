@@ -6,10 +6,6 @@ use Rattle.arrays.specs.Tables.{fields}
 use Rattle.generation.proofs.Drawn.{Kept, kept-none, kept-more, kept-all}
 use Rattle.generation.proofs.transitions.Statement.{statement}
 use Rattle.generation.proofs.transitions.Tie as tie
-use Rattle.generation.proofs.transitions.Reads as reads
-use Rattle.generation.proofs.transitions.Lts as lts
-use Rattle.generation.proofs.add.Reads as add-reads
-use Rattle.generator.proofs.seeded.Reads as seeded-reads
 
 abbrev Inv-loop : tie.InvT-loop
 Inv-loop seed n m from₀ to₀ low₀ high₀ ring₀ i₀ from to low high ring i =

@@ -4,10 +4,6 @@ use borrow.Author.Needs.{needs}
 use Rattle.generator.proofs.Turning.{four-drawn}
 use Rattle.generator.proofs.four.Statement.{statement}
 use Rattle.generator.proofs.four.Tie as tie
-use Rattle.generator.proofs.four.Reads as reads
-use Rattle.generator.proofs.four.Lts as lts
-use Rattle.generator.proofs.after.Reads as after-reads
-use Rattle.generator.proofs.draw.Reads as draw-reads
 
 mul-one : tie.Need-mul-one
 mul-one c = search needs

@@ -6,9 +6,6 @@ use borrow.Author.Needs.{needs}
 use Rattle.generator.proofs.Turning.{Begun, begun-first, begun-more, begun-all}
 use Rattle.generator.proofs.seeded.Statement.{statement}
 use Rattle.generator.proofs.seeded.Tie as tie
-use Rattle.generator.proofs.seeded.Reads as reads
-use Rattle.generator.proofs.seeded.Lts as lts
-use Rattle.std.proofs.num.wrapping_add_u32.Reads as wrapping-add-u32-reads
 
 abbrev Inv-loop : tie.InvT-loop
 Inv-loop seed ring₀ i₀ ring i = (1 ≤ i) × Begun seed i ring

@@ -1,19 +1,14 @@
 -- `greatest_search::greatest` meets its contract, kind by kind: what each of the searches' answers gives (GreatestFigure). Assumes nothing.
 use mathlib.Core.Path.{refl}
-use Prim.Native.Nat.{ℕ}
 use native.Mathlib.Omega.{arith}
 use borrow.Author.Needs.{needs}
-use Rattle.search.specs.Arrays.{Arrays, arrays}
 use Rattle.turns.specs.Search.{Table}
 use Rattle.reach.specs.Explored.{tableOf}
 use Rattle.greatest_search.proofs.GreatestFigure.{none-quoted, loop-quoted, climbable, dead-end-quoted}
 use Rattle.greatest_search.proofs.greatest.Statement.{statement}
 use Rattle.greatest_search.proofs.greatest.Tie as tie
 
--- the graph that a caller speaks of, and what the search left behind
-abbrev graph : tie.Start → ℕ → Arrays
-graph c m = arrays (c .args .n) m (c .args .marks .now) (c .args .from .now) (c .args .to .now)
-
+-- what the search left behind
 abbrev behind : tie.Start → Table
 behind c = tableOf (c .args .t7)
 

@@ -14,10 +14,6 @@ use Rattle.field.specs.declared.Four.{Four}
 use Rattle.rules.specs.Image.{headerRows}
 use Rattle.header.proofs.header.Statement.{statement}
 use Rattle.header.proofs.header.Tie as tie
-use Rattle.header.proofs.header.Reads as reads
-use Rattle.header.proofs.header.Lts as lts
-use Rattle.image_fields.proofs.header.Reads as header-reads
-use Rattle.header_grounds.proofs.grounds.Reads as grounds-reads
 
 returns : tie.Need-returns
 unfolding headerRows

@@ -15,9 +15,6 @@ use Rattle.rules.specs.Image.{headerRows, imageLength, versionOk, versionOf, st
 use Rattle.rules.proofs.Results.{and-true}
 use Rattle.header_grounds.proofs.grounds.Statement.{statement}
 use Rattle.header_grounds.proofs.grounds.Tie as tie
-use Rattle.header_grounds.proofs.grounds.Reads as reads
-use Rattle.header_grounds.proofs.grounds.Lts as lts
-use Rattle.arrays.proofs.limits.state_count_ok.Reads as state-count-ok-reads
 
 -- the fields are those of the header, which is there
 record Fields (os : List ℕ) (f : Four) : Type 0 where

@@ -6,10 +6,6 @@ use Rattle.conversion.proofs.Rooms.{image-within, image-enough}
 use borrow.Author.Needs.{needs}
 use Rattle.import.proofs.print.Statement.{statement}
 use Rattle.import.proofs.print.Tie as tie
-use Rattle.import.proofs.print.Reads as reads
-use Rattle.import.proofs.print.Lts as lts
-use Rattle.conversion.proofs.to_image.Reads as to-image-reads
-use Rattle.program.proofs.written.Reads as written-reads
 
 slice-aggregate-to-image : tie.Need-slice-aggregate-to-image
 slice-aggregate-to-image c = search needs

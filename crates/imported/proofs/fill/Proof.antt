@@ -19,13 +19,6 @@ use Rattle.imported.proofs.Importing.{Read, not-refused, lists-on, list
 use borrow.Author.Needs.{needs}
 use Rattle.imported.proofs.fill.Statement.{statement}
 use Rattle.imported.proofs.fill.Tie as tie
-use Rattle.imported.proofs.fill.Reads as reads
-use Rattle.imported.proofs.fill.Lts as lts
-use Rattle.text_reading.proofs.read_first.Reads as read-first-reads
-use Rattle.imported.proofs.first_grounds.Reads as first-grounds-reads
-use Rattle.text_lines.proofs.lines.Reads as lines-reads
-use Rattle.imported.proofs.refuse.Reads as refuse-reads
-use Rattle.imported.proofs.mark_initial.Reads as mark-initial-reads
 
 read-first-requires : tie.Need-read-first-requires
 read-first-requires c κs = tt

@@ -14,8 +14,6 @@ use Rattle.arrays.proofs.Lists.{same-or-not}
 use Rattle.imported.specs.Import.{Marked}
 use Rattle.imported.proofs.mark_initial.Statement.{statement}
 use Rattle.imported.proofs.mark_initial.Tie as tie
-use Rattle.imported.proofs.mark_initial.Reads as reads
-use Rattle.imported.proofs.mark_initial.Lts as lts
 
 -- n places of which all are 0, and one of them stored
 marked-all : (n initial : ℕ) (marks teams : List ℕ) → 512 ≤ length marks → 512 ≤ length teams → n ≤ 512 → initial < n

@@ -7,13 +7,6 @@ use Rattle.item.proofs.Parts.{Part, a-part, a-team}
 use borrow.Author.Needs.{needs}
 use Rattle.item.proofs.perform.Statement.{statement}
 use Rattle.item.proofs.perform.Tie as tie
-use Rattle.item.proofs.perform.Reads as reads
-use Rattle.item.proofs.perform.Lts as lts
-use Rattle.edits.proofs.join.Reads as join-reads
-use Rattle.edits.proofs.mark.Reads as mark-reads
-use Rattle.edits.proofs.replace.Reads as replace-reads
-use Rattle.edits.proofs.team.Reads as team-reads
-use Rattle.edits.proofs.unjoin.Reads as unjoin-reads
 
 mark-requires : tie.Need-mark-requires
 mark-requires c κs = search needs

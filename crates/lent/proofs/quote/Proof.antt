@@ -11,13 +11,6 @@ use Rattle.lent.proofs.Quotes.{small, four-places, quote-short, quote-f
 use borrow.Author.Needs.{needs}
 use Rattle.lent.proofs.quote.Statement.{statement}
 use Rattle.lent.proofs.quote.Tie as tie
-use Rattle.lent.proofs.quote.Reads as reads
-use Rattle.lent.proofs.quote.Lts as lts
-use Rattle.answers.proofs.one.Reads as one-reads
-use Rattle.answers.proofs.handed.Reads as handed-reads
-use Rattle.quotation.proofs.quote.Reads as quote-reads
-use Rattle.slices.proofs.has_room.Reads as has-room-reads
-use Rattle.slices.proofs.load.Reads as load-reads
 
 has-room-requires : tie.Need-has-room-requires
 has-room-requires c κs = search needs

@@ -6,10 +6,6 @@ use Rattle.text.proofs.Puts.{put-none, put-room, put-then}
 use borrow.Author.Needs.{needs}
 use Rattle.line.proofs.added.Statement.{statement}
 use Rattle.line.proofs.added.Tie as tie
-use Rattle.line.proofs.added.Reads as reads
-use Rattle.line.proofs.added.Lts as lts
-use Rattle.put_text.proofs.number.Reads as number-reads
-use Rattle.put_text.proofs.word.Reads as word-reads
 
 enum-told : tie.Need-enum-told
 enum-told c = search needs

@@ -10,11 +10,6 @@ use Rattle.wording.proofs.Lengths.{heading-sum}
 use borrow.Author.Needs.{needs}
 use Rattle.line.proofs.heading.Statement.{statement}
 use Rattle.line.proofs.heading.Tie as tie
-use Rattle.line.proofs.heading.Reads as reads
-use Rattle.line.proofs.heading.Lts as lts
-use Rattle.words.proofs.figure.Reads as figure-reads
-use Rattle.words.proofs.name.Reads as name-reads
-use Rattle.put_text.proofs.word.Reads as word-reads
 
 name-requires : tie.Need-name-requires
 name-requires c κs = omega (arith, heading-sum (c .before .before .args .which) (meant (c .before .before .args .shown)))

@@ -10,12 +10,6 @@ use Rattle.wording.proofs.Lengths.{line-sum}
 use borrow.Author.Needs.{needs}
 use Rattle.line.proofs.line.Statement.{statement}
 use Rattle.line.proofs.line.Tie as tie
-use Rattle.line.proofs.line.Reads as reads
-use Rattle.line.proofs.line.Lts as lts
-use Rattle.line.proofs.added.Reads as added-reads
-use Rattle.line.proofs.heading.Reads as heading-reads
-use Rattle.put_text.proofs.list.Reads as list-reads
-use Rattle.put_text.proofs.word.Reads as word-reads
 
 heading-requires : tie.Need-heading-requires
 heading-requires c κs = omega (arith, line-sum (c .before .before .before .args .which) (meant (c .before .before .before .args .quote .figure)) (take (c .before .before .before .args .quote .k) (c .before .before .before .args .walk .now)) (c .before .before .before .args .quote .j), c .before .before .before .pre .2)

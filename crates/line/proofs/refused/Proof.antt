@@ -7,10 +7,6 @@ use Rattle.wording.proofs.Lengths.{refused-sum}
 use borrow.Author.Needs.{needs}
 use Rattle.line.proofs.refused.Statement.{statement}
 use Rattle.line.proofs.refused.Tie as tie
-use Rattle.line.proofs.refused.Reads as reads
-use Rattle.line.proofs.refused.Lts as lts
-use Rattle.put_text.proofs.number.Reads as number-reads
-use Rattle.put_text.proofs.word.Reads as word-reads
 
 slice-aggregate-word : tie.Need-slice-aggregate-word
 slice-aggregate-word c = search needs

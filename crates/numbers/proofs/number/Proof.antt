@@ -2,8 +2,6 @@
 use borrow.Author.Needs.{needs}
 use Rattle.numbers.proofs.number.Statement.{statement}
 use Rattle.numbers.proofs.number.Tie as tie
-use Rattle.numbers.proofs.number.Reads as reads
-use Rattle.numbers.proofs.number.Lts as lts
 
 enum-told : tie.Need-enum-told
 enum-told c = search needs

@@ -8,8 +8,6 @@ use lib.Seq.{paste, paste-zero}
 use Rattle.arrays.proofs.Lists.{moved-turn}
 use Rattle.places.proofs.remove.Statement.{statement}
 use Rattle.places.proofs.remove.Tie as tie
-use Rattle.places.proofs.remove.Reads as reads
-use Rattle.places.proofs.remove.Lts as lts
 
 abbrev Inv-loop : tie.InvT-loop
 Inv-loop places₀ number m i₀ places i =

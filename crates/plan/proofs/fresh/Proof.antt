@@ -14,12 +14,6 @@ use Rattle.plan.specs.View.{blankPlan, noPlan}
 use Rattle.plan.proofs.Edits.{refusal, acceptance, view-blank, past-blank}
 use Rattle.plan.proofs.fresh.Statement.{statement}
 use Rattle.plan.proofs.fresh.Tie as tie
-use Rattle.plan.proofs.fresh.Reads as reads
-use Rattle.plan.proofs.fresh.Lts as lts
-use Rattle.plan.proofs.blank.Reads as blank-reads
-use Rattle.arrays.proofs.limits.state_count_ok.Reads as state-count-ok-reads
-use Rattle.plan.proofs.accept.Reads as accept-reads
-use Rattle.plan.proofs.refuse.Reads as refuse-reads
 
 state-count-ok-requires : tie.Need-state-count-ok-requires
 state-count-ok-requires c κs = search needs

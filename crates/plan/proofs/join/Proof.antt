@@ -22,10 +22,6 @@ use Rattle.plan.proofs.Edits.{stays, becomes, none-holds, joined, view-
 use Rattle.plan.proofs.Values.{Sized, states-view, count-view, limits-view}
 use Rattle.plan.proofs.join.Statement.{statement}
 use Rattle.plan.proofs.join.Tie as tie
-use Rattle.plan.proofs.join.Reads as reads
-use Rattle.plan.proofs.join.Lts as lts
-use Rattle.grounds.proofs.join_grounds.Reads as join-grounds-reads
-use Rattle.plan_limits.proofs.in_limits.Reads as in-limits-reads
 
 in-limits-requires : tie.Need-in-limits-requires
 in-limits-requires c κs = search needs

@@ -16,10 +16,6 @@ use Rattle.plan.proofs.Edits.{stays, becomes, none-holds, marked, view-
 use Rattle.plan.proofs.Values.{Sized, states-view, count-view, limits-view}
 use Rattle.plan.proofs.mark.Statement.{statement}
 use Rattle.plan.proofs.mark.Tie as tie
-use Rattle.plan.proofs.mark.Reads as reads
-use Rattle.plan.proofs.mark.Lts as lts
-use Rattle.grounds.proofs.mark_grounds.Reads as mark-grounds-reads
-use Rattle.plan_limits.proofs.in_limits.Reads as in-limits-reads
 
 in-limits-requires : tie.Need-in-limits-requires
 in-limits-requires c κs = search needs

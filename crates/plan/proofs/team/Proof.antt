@@ -17,10 +17,6 @@ use Rattle.plan.proofs.Edits.{stays, becomes, none-holds, teamed, view-
 use Rattle.plan.proofs.Values.{Sized, states-view, count-view, limits-view}
 use Rattle.plan.proofs.team.Statement.{statement}
 use Rattle.plan.proofs.team.Tie as tie
-use Rattle.plan.proofs.team.Reads as reads
-use Rattle.plan.proofs.team.Lts as lts
-use Rattle.grounds.proofs.team_grounds.Reads as team-grounds-reads
-use Rattle.plan_limits.proofs.in_limits.Reads as in-limits-reads
 
 in-limits-requires : tie.Need-in-limits-requires
 in-limits-requires c κs = search needs

@@ -17,11 +17,6 @@ use Rattle.plan.proofs.Edits.{Past, stays, becomes, none-holds, same-ar
 use Rattle.plan.proofs.Values.{Sized, states-view, count-view, limits-view}
 use Rattle.plan.proofs.unjoin.Statement.{statement}
 use Rattle.plan.proofs.unjoin.Tie as tie
-use Rattle.plan.proofs.unjoin.Reads as reads
-use Rattle.plan.proofs.unjoin.Lts as lts
-use Rattle.places.proofs.remove.Reads as remove-reads
-use Rattle.grounds.proofs.unjoin_grounds.Reads as unjoin-grounds-reads
-use Rattle.plan_limits.proofs.in_limits.Reads as in-limits-reads
 
 in-limits-requires : tie.Need-in-limits-requires
 in-limits-requires c κs = search needs

@@ -11,11 +11,6 @@ use Rattle.plan_limits.proofs.Limits.{states-out, count-out, each-out, 
 use borrow.Author.Needs.{needs}
 use Rattle.plan_limits.proofs.in_limits.Statement.{statement}
 use Rattle.plan_limits.proofs.in_limits.Tie as tie
-use Rattle.plan_limits.proofs.in_limits.Reads as reads
-use Rattle.plan_limits.proofs.in_limits.Lts as lts
-use Rattle.array_limits.proofs.states_within.Reads as states-within-reads
-use Rattle.arrays.proofs.limits.state_count_ok.Reads as state-count-ok-reads
-use Rattle.array_limits.proofs.transitions_within.Reads as transitions-within-reads
 
 state-count-ok-requires : tie.Need-state-count-ok-requires
 state-count-ok-requires c κs = search needs

@@ -10,12 +10,6 @@ use Rattle.wording.proofs.Lengths.{refused-room}
 use borrow.Author.Needs.{needs}
 use Rattle.program.proofs.refused.Statement.{statement}
 use Rattle.program.proofs.refused.Tie as tie
-use Rattle.program.proofs.refused.Reads as reads
-use Rattle.program.proofs.refused.Lts as lts
-use Rattle.io.proofs.write_all.Reads as write-all-reads
-use Rattle.line.proofs.refused.Reads as refused-reads
-use Rattle.numbers.proofs.number.Reads as number-reads
-use Rattle.program.proofs.end.Reads as end-reads
 
 within : {before octets after : List ℕ} {r : ℕ} → Put before 0 octets after r → r ≤ length after
 within p = omega (arith, p .end, simp length-append at (ap length (p .places)))

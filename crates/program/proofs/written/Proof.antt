@@ -4,10 +4,6 @@ use lib.Seq.{length-take-le}
 use borrow.Author.Needs.{needs}
 use Rattle.program.proofs.written.Statement.{statement}
 use Rattle.program.proofs.written.Tie as tie
-use Rattle.program.proofs.written.Reads as reads
-use Rattle.program.proofs.written.Lts as lts
-use Rattle.program.proofs.answer.Reads as answer-reads
-use Rattle.program.proofs.refused.Reads as refused-reads
 
 enum-known-result : tie.Need-enum-known-result
 enum-known-result c = search needs

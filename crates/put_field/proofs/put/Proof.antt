@@ -15,10 +15,6 @@ use Rattle.field.specs.Field.{Within, number, bits, stored}
 use Rattle.field.proofs.Windows.{shifted-one, masked, window-lt, withPart, part-lt, shifted-lt, part-exact, stored-withField}
 use Rattle.put_field.proofs.put.Statement.{statement}
 use Rattle.put_field.proofs.put.Tie as tie
-use Rattle.put_field.proofs.put.Reads as reads
-use Rattle.put_field.proofs.put.Lts as lts
-use Rattle.store.proofs.store.Reads as store-reads
-use Rattle.window.proofs.window.Reads as window-reads
 
 -- the machine's number is the window with the part made v
 machine : (n w a v : ℕ) → n < 2 ^ 40 → withPart n w a v < 2 ^ 40 → a < 64

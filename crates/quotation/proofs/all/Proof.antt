@@ -8,11 +8,6 @@ use Rattle.quotation.proofs.Kept.{all-within, all-room, all-refusal, al
 use borrow.Author.Needs.{needs}
 use Rattle.quotation.proofs.all.Statement.{statement}
 use Rattle.quotation.proofs.all.Tie as tie
-use Rattle.quotation.proofs.all.Reads as reads
-use Rattle.quotation.proofs.all.Lts as lts
-use Rattle.quotation_grounds.proofs.ask_all.Reads as ask-all-reads
-use Rattle.plan.proofs.within.Reads as within-reads
-use Rattle.shown.proofs.show_all.Reads as show-all-reads
 
 within-requires : tie.Need-within-requires
 within-requires c κs = search needs

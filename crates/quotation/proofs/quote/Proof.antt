@@ -8,10 +8,6 @@ use Rattle.quotation.proofs.Kept.{accepted-within, room, refusal, accep
 use borrow.Author.Needs.{needs}
 use Rattle.quotation.proofs.quote.Statement.{statement}
 use Rattle.quotation.proofs.quote.Tie as tie
-use Rattle.quotation.proofs.quote.Reads as reads
-use Rattle.quotation.proofs.quote.Lts as lts
-use Rattle.quotation.proofs.ask.Reads as ask-reads
-use Rattle.shown.proofs.show.Reads as show-reads
 
 ask-requires : tie.Need-ask-requires
 ask-requires c κs = search needs

@@ -10,11 +10,6 @@ use Rattle.quotation.proofs.Recorded.{put-record, quotes-fit, record-re
 use borrow.Author.Needs.{needs}
 use Rattle.quotation.proofs.record.Statement.{statement}
 use Rattle.quotation.proofs.record.Tie as tie
-use Rattle.quotation.proofs.record.Reads as reads
-use Rattle.quotation.proofs.record.Lts as lts
-use Rattle.plan.proofs.within.Reads as within-reads
-use Rattle.record_fields.proofs.put_record.Reads as put-record-reads
-use Rattle.shown.proofs.show_all.Reads as show-all-reads
 
 within-requires : tie.Need-within-requires
 within-requires c κs = search needs

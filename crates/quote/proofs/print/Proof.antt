@@ -5,10 +5,6 @@ use Rattle.lines.proofs.Prints.{prints-within}
 use borrow.Author.Needs.{needs}
 use Rattle.quote.proofs.print.Statement.{statement}
 use Rattle.quote.proofs.print.Tie as tie
-use Rattle.quote.proofs.print.Reads as reads
-use Rattle.quote.proofs.print.Lts as lts
-use Rattle.lines.proofs.answer.Reads as answer-reads
-use Rattle.program.proofs.answer.Reads as answer-reads′
 
 slice-aggregate-answer : tie.Need-slice-aggregate-answer
 slice-aggregate-answer c = search needs

@@ -9,11 +9,6 @@ use Rattle.field.specs.Field.{withField, putAll}
 use borrow.Author.Needs.{needs}
 use Rattle.record_fields.proofs.put_figure.Statement.{statement}
 use Rattle.record_fields.proofs.put_figure.Tie as tie
-use Rattle.record_fields.proofs.put_figure.Reads as reads
-use Rattle.record_fields.proofs.put_figure.Lts as lts
-use Rattle.put_field.proofs.put.Reads as put-reads
-use Rattle.numbers.proofs.kind.Reads as kind-reads
-use Rattle.numbers.proofs.value.Reads as value-reads
 
 kind-requires : tie.Need-kind-requires
 kind-requires c κs = search needs

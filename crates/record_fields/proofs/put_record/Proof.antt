@@ -11,9 +11,6 @@ use Rattle.record_fields.proofs.Fields.{put-four}
 use borrow.Author.Needs.{needs}
 use Rattle.record_fields.proofs.put_record.Statement.{statement}
 use Rattle.record_fields.proofs.put_record.Tie as tie
-use Rattle.record_fields.proofs.put_record.Reads as reads
-use Rattle.record_fields.proofs.put_record.Lts as lts
-use Rattle.record_fields.proofs.put_figure.Reads as put-figure-reads
 
 put-figure-requires : tie.Need-put-figure-requires
 put-figure-requires c κs = (search needs, c .before .before .before .before .before .before .pre .1 LeastDelay)

@@ -14,16 +14,6 @@ use Rattle.runs.proofs.Turns.{still-roomy}
 use Rattle.replay.proofs.Replays.{replay-told, callable, replay-small, replay-fits, replay-made}
 use Rattle.replay.proofs.replay.Statement.{statement}
 use Rattle.replay.proofs.replay.Tie as tie
-use Rattle.replay.proofs.replay.Reads as reads
-use Rattle.replay.proofs.replay.Lts as lts
-use Rattle.answers.proofs.four.Reads as four-reads
-use Rattle.calls.proofs.ask.Reads as ask-reads
-use Rattle.plan.proofs.fresh.Reads as fresh-reads
-use Rattle.quotation.proofs.all.Reads as all-reads
-use Rattle.runs.proofs.in_turn.Reads as in-turn-reads
-use Rattle.slices.proofs.has_room.Reads as has-room-reads
-use Rattle.slices.proofs.load.Reads as load-reads
-use Rattle.slices.proofs.store.Reads as store-reads
 
 has-room-requires : tie.Need-has-room-requires
 has-room-requires c κs = search needs

@@ -19,9 +19,6 @@ use Rattle.slices.proofs.Stores.{room-of}
 use Rattle.runs.proofs.Turns.{LentAfter, lent-none, lent-more}
 use Rattle.runs.proofs.in_turn.Statement.{statement}
 use Rattle.runs.proofs.in_turn.Tie as tie
-use Rattle.runs.proofs.in_turn.Reads as reads
-use Rattle.runs.proofs.in_turn.Lts as lts
-use Rattle.item.proofs.obey.Reads as obey-reads
 
 abbrev Inv-loop : tie.InvT-loop
 Inv-loop kinds arguments octets counts₀ states₀ fields₀ answers₀ turn₀ counts states fields answers turn =

@@ -9,10 +9,6 @@ use Rattle.slices.proofs.Stores.{stored}
 use borrow.Author.Needs.{needs}
 use Rattle.slices.proofs.store.Statement.{statement}
 use Rattle.slices.proofs.store.Tie as tie
-use Rattle.slices.proofs.store.Reads as reads
-use Rattle.slices.proofs.store.Lts as lts
-use Rattle.slices.proofs.put_field.Reads as put-field-reads
-use Rattle.slices.proofs.put_states.Reads as put-states-reads
 
 -- the arrays of a plan value have their lengths
 sized : (c : tie.Start) → Sized (c .args .t1)

@@ -12,11 +12,6 @@ use Rattle.slices.specs.Lent.{slices, SameLater}
 use Rattle.slices.proofs.Fronts.{fronts-stored}
 use Rattle.slices.proofs.update.Statement.{statement}
 use Rattle.slices.proofs.update.Tie as tie
-use Rattle.slices.proofs.update.Reads as reads
-use Rattle.slices.proofs.update.Lts as lts
-use Rattle.numbers.proofs.number.Reads as number-reads
-use Rattle.slices.proofs.put_field.Reads as put-field-reads
-use Rattle.slices.proofs.put_states.Reads as put-states-reads
 
 -- the arrays of a plan value have their lengths
 sized : (c : tie.Start) → Sized (c .args .t1 .plan)

@@ -8,9 +8,6 @@ use Rattle.starts.specs.Found.{startsIn, Found}
 use Rattle.starts.proofs.Turns.{found-none, found-more, found-same}
 use Rattle.starts.proofs.count.Statement.{statement}
 use Rattle.starts.proofs.count.Tie as tie
-use Rattle.starts.proofs.count.Reads as reads
-use Rattle.starts.proofs.count.Lts as lts
-use Rattle.search.proofs.is_start.Reads as is-start-reads
 
 abbrev Inv-loop : tie.InvT-loop
 Inv-loop marks n count₀ last₀ i₀ count last i = (i ≤ n) × Found (startsIn marks i) i count last

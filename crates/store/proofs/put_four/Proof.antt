@@ -11,10 +11,6 @@ use Rattle.field.proofs.Windows.{two-lt, three-lt, four-lt, four, stored-four}
 use borrow.Author.Needs.{needs}
 use Rattle.store.proofs.put_four.Statement.{statement}
 use Rattle.store.proofs.put_four.Tie as tie
-use Rattle.store.proofs.put_four.Reads as reads
-use Rattle.store.proofs.put_four.Lts as lts
-use Rattle.store.proofs.beside.Reads as beside-reads
-use Rattle.store.proofs.store.Reads as store-reads
 
 beside-requires : tie.Need-beside-requires
 beside-requires c κs =

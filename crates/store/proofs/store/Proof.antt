@@ -12,9 +12,6 @@ use Rattle.field.specs.Field.{stored}
 use Rattle.field.proofs.Windows.{digits, stored-more}
 use Rattle.store.proofs.store.Statement.{statement}
 use Rattle.store.proofs.store.Tie as tie
-use Rattle.store.proofs.store.Reads as reads
-use Rattle.store.proofs.store.Lts as lts
-use Rattle.store.proofs.store_five.Reads as store-five-reads
 
 abbrev Inv-loop : tie.InvT-loop
 Inv-loop octets₀ first end value i₀ octets i = (first ≤ i) × (i ≤ end) × (length octets ≡ length octets₀) × (octets ≡ paste octets₀ first (digits first end value) (i - first))

@@ -6,8 +6,6 @@ use borrow.Author.Needs.{needs}
 use Rattle.field.proofs.Windows.{stored-five}
 use Rattle.store.proofs.store_five.Statement.{statement}
 use Rattle.store.proofs.store_five.Tie as tie
-use Rattle.store.proofs.store_five.Reads as reads
-use Rattle.store.proofs.store_five.Lts as lts
 
 cast-octets : tie.Need-cast-octets
 cast-octets c = search needs

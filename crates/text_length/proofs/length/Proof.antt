@@ -5,10 +5,6 @@ use Rattle.text_length.proofs.Sums.{text-sum}
 use borrow.Author.Needs.{needs}
 use Rattle.text_length.proofs.length.Statement.{statement}
 use Rattle.text_length.proofs.length.Tie as tie
-use Rattle.text_length.proofs.length.Reads as reads
-use Rattle.text_length.proofs.length.Lts as lts
-use Rattle.text_length.proofs.first_length.Reads as first-length-reads
-use Rattle.text_length.proofs.lines_length.Reads as lines-length-reads
 
 cast-first-length : tie.Need-cast-first-length
 cast-first-length c = search needs

@@ -10,9 +10,6 @@ use Rattle.arrays.specs.Tables.{transitionOf, transitionsOf}
 use Rattle.text_length.proofs.Sums.{lines-none, lines-length-more}
 use Rattle.text_length.proofs.lines_length.Statement.{statement}
 use Rattle.text_length.proofs.lines_length.Tie as tie
-use Rattle.text_length.proofs.lines_length.Reads as reads
-use Rattle.text_length.proofs.lines_length.Lts as lts
-use Rattle.text_length.proofs.line_length.Reads as line-length-reads
 
 abbrev Inv-loop : tie.InvT-loop
 Inv-loop m from to low high length₀ i₀ length i = (i ≤ m) × (length ≡ list.length (linesText (transitionsOf i from to low high))) × (length ≤ 31 * i)

@@ -4,8 +4,6 @@ use Rattle.text_length.proofs.Widths.{reached-few, reached-is}
 use borrow.Author.Needs.{needs}
 use Rattle.text_length.proofs.width.Statement.{statement}
 use Rattle.text_length.proofs.width.Tie as tie
-use Rattle.text_length.proofs.width.Reads as reads
-use Rattle.text_length.proofs.width.Lts as lts
 
 cast-result : tie.Need-cast-result
 cast-result c = search needs

@@ -12,9 +12,6 @@ use Rattle.text_lines.specs.Lines.{meant}
 use borrow.Author.Needs.{needs}
 use Rattle.text_lines.proofs.add.Statement.{statement}
 use Rattle.text_lines.proofs.add.Tie as tie
-use Rattle.text_lines.proofs.add.Reads as reads
-use Rattle.text_lines.proofs.add.Lts as lts
-use Rattle.transition_grounds.proofs.checked.Reads as checked-reads
 
 enum-known-answer : tie.Need-enum-known-answer
 enum-known-answer c = search needs

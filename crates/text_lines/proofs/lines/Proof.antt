@@ -11,10 +11,6 @@ use Rattle.text_reading.proofs.Reading.{form-told, form-off}
 use Rattle.aldebaran.specs.Text.{lineForm}
 use Rattle.text_lines.proofs.lines.Statement.{statement}
 use Rattle.text_lines.proofs.lines.Tie as tie
-use Rattle.text_lines.proofs.lines.Reads as reads
-use Rattle.text_lines.proofs.lines.Lts as lts
-use Rattle.text_lines.proofs.add.Reads as add-reads
-use Rattle.text_reading.proofs.read_line.Reads as read-line-reads
 
 abbrev Inv-loop : tie.InvT-loop
 Inv-loop text at n m from₀ to₀ low₀ high₀ next₀ answer₀ i₀ from to low high next answer i =

@@ -8,10 +8,6 @@ use Rattle.text_reading.proofs.Reading.{form-end, form-word, form-numbe
 use borrow.Author.Needs.{needs}
 use Rattle.text_reading.proofs.read_first.Statement.{statement}
 use Rattle.text_reading.proofs.read_first.Tie as tie
-use Rattle.text_reading.proofs.read_first.Reads as reads
-use Rattle.text_reading.proofs.read_first.Lts as lts
-use Rattle.scan.proofs.number.Reads as number-reads
-use Rattle.scan.proofs.word.Reads as word-reads
 
 slice-aggregate-word : tie.Need-slice-aggregate-word
 slice-aggregate-word c = search needs

@@ -6,10 +6,6 @@ use Rattle.text_writing.proofs.InRow.{first-put}
 use borrow.Author.Needs.{needs}
 use Rattle.text_writing.proofs.first.Statement.{statement}
 use Rattle.text_writing.proofs.first.Tie as tie
-use Rattle.text_writing.proofs.first.Reads as reads
-use Rattle.text_writing.proofs.first.Lts as lts
-use Rattle.put_text.proofs.word.Reads as word-reads
-use Rattle.text_writing.proofs.numbered.Reads as numbered-reads
 
 slice-aggregate-numbered : tie.Need-slice-aggregate-numbered
 slice-aggregate-numbered c = search needs

@@ -7,61 +7,51 @@ use Rattle.text_writing.proofs.InRow.{line-put}
 use borrow.Author.Needs.{needs}
 use Rattle.text_writing.proofs.line.Statement.{statement}
 use Rattle.text_writing.proofs.line.Tie as tie
-use Rattle.text_writing.proofs.line.Reads as reads
-use Rattle.text_writing.proofs.line.Lts as lts
-use Rattle.put_text.proofs.word.Reads as word-reads
-use Rattle.text_writing.proofs.numbered.Reads as numbered-reads
-
-slice-aggregate-numbered : tie.Need-slice-aggregate-numbered
-slice-aggregate-numbered c = search needs
 
 numbered-requires : tie.Need-numbered-requires
-numbered-requires c κs = omega (arith, line-sum (transition (c .before .before .before .args .from) (c .before .before .before .args .to) (c .before .before .before .args .low) (c .before .before .before .args .high)))
-
-slice-aggregate-numbered-2 : tie.Need-slice-aggregate-numbered-2
-slice-aggregate-numbered-2 c = search needs
+numbered-requires c κs =
+    let args = c .before .before .before .args in
+    omega (arith, line-sum (transition (args .from) (args .to) (args .low) (args .high)))
 
 numbered-requires-2 : tie.Need-numbered-requires-2
-numbered-requires-2 c κs = omega (arith, line-sum (transition (c .before .before .before .before .before .before .before .before .args .from) (c .before .before .before .before .before .before .before .before .args .to) (c .before .before .before .before .before .before .before .before .args .low) (c .before .before .before .before .before .before .before .before .args .high)))
-
-slice-aggregate-numbered-3 : tie.Need-slice-aggregate-numbered-3
-slice-aggregate-numbered-3 c = search needs
+numbered-requires-2 c κs =
+    let args = c .before .before .before .before .before .before .before .before .args in
+    omega (arith, line-sum (transition (args .from) (args .to) (args .low) (args .high)))
 
 numbered-requires-3 : tie.Need-numbered-requires-3
-numbered-requires-3 c κs = omega (arith, line-sum (transition (c .before .before .before .before .before .before .before .before .before .before .before .before .before .args .from) (c .before .before .before .before .before .before .before .before .before .before .before .before .before .args .to) (c .before .before .before .before .before .before .before .before .before .before .before .before .before .args .low) (c .before .before .before .before .before .before .before .before .before .before .before .before .before .args .high)))
-
-slice-aggregate-numbered-4 : tie.Need-slice-aggregate-numbered-4
-slice-aggregate-numbered-4 c = search needs
+numbered-requires-3 c κs =
+    let args = c .before .before .before .before .before .before .before .before .before .before .before .before .before .args in
+    omega (arith, line-sum (transition (args .from) (args .to) (args .low) (args .high)))
 
 numbered-requires-4 : tie.Need-numbered-requires-4
-numbered-requires-4 c κs = omega (arith, line-sum (transition (c .before .before .before .before .before .before .before .before .before .before .before .before .before .before .before .before .before .before .args .from) (c .before .before .before .before .before .before .before .before .before .before .before .before .before .before .before .before .before .before .args .to) (c .before .before .before .before .before .before .before .before .before .before .before .before .before .before .before .before .before .before .args .low) (c .before .before .before .before .before .before .before .before .before .before .before .before .before .before .before .before .before .before .args .high)))
-
-slice-aggregate-word : tie.Need-slice-aggregate-word
-slice-aggregate-word c = search needs
+numbered-requires-4 c κs =
+    let args = c .before .before .before .before .before .before .before .before .before .before .before .before .before .before .before .before .before .before .args in
+    omega (arith, line-sum (transition (args .from) (args .to) (args .low) (args .high)))
 
 word-requires : tie.Need-word-requires
-word-requires c κs = omega (arith, line-sum (transition (c .before .before .before .before .before .before .before .before .before .before .before .before .before .before .before .before .before .before .before .before .before .before .before .args .from) (c .before .before .before .before .before .before .before .before .before .before .before .before .before .before .before .before .before .before .before .before .before .before .before .args .to) (c .before .before .before .before .before .before .before .before .before .before .before .before .before .before .before .before .before .before .before .before .before .before .before .args .low) (c .before .before .before .before .before .before .before .before .before .before .before .before .before .before .before .before .before .before .before .before .before .before .before .args .high)))
-
-same-length : tie.Need-same-length
-same-length c = search needs
+word-requires c κs =
+    let args = c .before .before .before .before .before .before .before .before .before .before .before .before .before .before .before .before .before .before .before .before .before .before .before .args in
+    omega (arith, line-sum (transition (args .from) (args .to) (args .low) (args .high)))
 
 returns : tie.Need-returns
 unfolding octets
-returns c = line-put (transition (c .before .before .before .before .before .before .before .before .before .before .before .before .before .before .before .before .before .before .before .before .before .before .before .before .before .before .args .from) (c .before .before .before .before .before .before .before .before .before .before .before .before .before .before .before .before .before .before .before .before .before .before .before .before .before .before .args .to) (c .before .before .before .before .before .before .before .before .before .before .before .before .before .before .before .before .before .before .before .before .before .before .before .before .before .before .args .low) (c .before .before .before .before .before .before .before .before .before .before .before .before .before .before .before .before .before .before .before .before .before .before .before .before .before .before .args .high)) (c .before .before .before .before .before .before .before .before .before .before .before .before .before .before .before .before .before .before .before .before .before .before .before .before .before .before .pre) (c .before .before .before .before .before .before .before .before .before .before .before .before .before .before .before .before .before .before .before .before .before .before .numbered .ensures) (c .before .before .before .before .before .before .before .before .before .before .before .before .before .before .before .before .before .numbered2 .ensures) (c .before .before .before .before .before .before .before .before .before .before .before .before .numbered3 .ensures) (c .before .before .before .before .before .before .before .numbered4 .ensures) (c .before .before .word .ensures)
+returns c =
+    let start = c .before .before .before .before .before .before .before .before .before .before .before .before .before .before .before .before .before .before .before .before .before .before .before .before .before .before in
+    line-put (transition (start .args .from) (start .args .to) (start .args .low) (start .args .high)) (start .pre) (c .before .before .before .before .before .before .before .before .before .before .before .before .before .before .before .before .before .before .before .before .before .before .numbered .ensures) (c .before .before .before .before .before .before .before .before .before .before .before .before .before .before .before .before .before .numbered2 .ensures) (c .before .before .before .before .before .before .before .before .before .before .before .before .numbered3 .ensures) (c .before .before .before .before .before .before .before .numbered4 .ensures) (c .before .before .word .ensures)
 
 pub line-spec : {M : Type 1} → statement M
 line-spec =
     tie.close
     (tie.spec
-    slice-aggregate-numbered
+    (λ c. search needs)
     numbered-requires
-    slice-aggregate-numbered-2
+    (λ c. search needs)
     numbered-requires-2
-    slice-aggregate-numbered-3
+    (λ c. search needs)
     numbered-requires-3
-    slice-aggregate-numbered-4
+    (λ c. search needs)
     numbered-requires-4
-    slice-aggregate-word
+    (λ c. search needs)
     word-requires
-    same-length
+    (λ c. search needs)
     returns)

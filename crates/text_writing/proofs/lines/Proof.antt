@@ -16,9 +16,6 @@ use Rattle.text_length.proofs.Sums.{lines-none, lines-more}
 use Rattle.text_writing.proofs.InRow.{lines-front}
 use Rattle.text_writing.proofs.lines.Statement.{statement}
 use Rattle.text_writing.proofs.lines.Tie as tie
-use Rattle.text_writing.proofs.lines.Reads as reads
-use Rattle.text_writing.proofs.lines.Lts as lts
-use Rattle.text_writing.proofs.line.Reads as line-reads
 
 abbrev Inv-loop : tie.InvT-loop
 Inv-loop buffer₀ at m from to low high place₀ i₀ buffer place i = (i ≤ m) × (length buffer ≡ length buffer₀) × Put buffer₀ at (linesText (transitionsOf i from to low high)) buffer place

@@ -6,10 +6,6 @@ use Rattle.text.proofs.Puts.{put-room, put-then}
 use borrow.Author.Needs.{needs}
 use Rattle.text_writing.proofs.numbered.Statement.{statement}
 use Rattle.text_writing.proofs.numbered.Tie as tie
-use Rattle.text_writing.proofs.numbered.Reads as reads
-use Rattle.text_writing.proofs.numbered.Lts as lts
-use Rattle.put_text.proofs.number.Reads as number-reads
-use Rattle.put_text.proofs.word.Reads as word-reads
 
 word-requires : tie.Need-word-requires
 word-requires c κs = omega (arith, c .before .before .before .pre, length-append (c .before .before .before .args .word .now) (digits (c .before .before .before .args .x)))

@@ -13,10 +13,6 @@ use Rattle.text_length.proofs.Sums.{text-is, text-sum}
 use borrow.Author.Needs.{needs}
 use Rattle.text_writing.proofs.text.Statement.{statement}
 use Rattle.text_writing.proofs.text.Tie as tie
-use Rattle.text_writing.proofs.text.Reads as reads
-use Rattle.text_writing.proofs.text.Lts as lts
-use Rattle.text_writing.proofs.first.Reads as first-reads
-use Rattle.text_writing.proofs.lines.Reads as lines-reads
 
 -- the transition at each place of the arrays, and the length of the text
 abbrev passing : tie.Start → ℕ → Transition

@@ -9,9 +9,6 @@ use Rattle.rules.specs.Limits.{durationsOk}
 use Rattle.arrays.specs.Tables.{transition}
 use Rattle.transition_grounds.proofs.checked.Statement.{statement}
 use Rattle.transition_grounds.proofs.checked.Tie as tie
-use Rattle.transition_grounds.proofs.checked.Reads as reads
-use Rattle.transition_grounds.proofs.checked.Lts as lts
-use Rattle.transition_grounds.proofs.durations_ok.Reads as durations-ok-reads
 
 durations-ok-requires : tie.Need-durations-ok-requires
 durations-ok-requires c κs = search needs

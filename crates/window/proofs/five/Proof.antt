@@ -5,9 +5,6 @@ use borrow.Author.Needs.{needs}
 use Rattle.field.proofs.Windows.{window-five}
 use Rattle.window.proofs.five.Statement.{statement}
 use Rattle.window.proofs.five.Tie as tie
-use Rattle.window.proofs.five.Reads as reads
-use Rattle.window.proofs.five.Lts as lts
-use Rattle.window.proofs.octet.Reads as octet-reads
 
 octet-requires : tie.Need-octet-requires
 octet-requires c κs = search needs

@@ -5,8 +5,6 @@ use native.Mathlib.Omega.{arith}
 use borrow.Author.Needs.{needs}
 use Rattle.window.proofs.octet.Statement.{statement}
 use Rattle.window.proofs.octet.Tie as tie
-use Rattle.window.proofs.octet.Reads as reads
-use Rattle.window.proofs.octet.Lts as lts
 
 shared-slice-read-result : tie.Need-shared-slice-read-result
 shared-slice-read-result c = search needs

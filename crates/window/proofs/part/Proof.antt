@@ -6,8 +6,6 @@ use borrow.Author.Needs.{needs}
 use Rattle.field.proofs.Windows.{shifted-one, masked}
 use Rattle.window.proofs.part.Statement.{statement}
 use Rattle.window.proofs.part.Tie as tie
-use Rattle.window.proofs.part.Reads as reads
-use Rattle.window.proofs.part.Lts as lts
 
 shr-result : tie.Need-shr-result
 shr-result c = search needs

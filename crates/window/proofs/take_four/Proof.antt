@@ -8,10 +8,6 @@ use borrow.Author.Needs.{needs}
 use Rattle.field.proofs.Windows.{part-in-window}
 use Rattle.window.proofs.take_four.Statement.{statement}
 use Rattle.window.proofs.take_four.Tie as tie
-use Rattle.window.proofs.take_four.Reads as reads
-use Rattle.window.proofs.take_four.Lts as lts
-use Rattle.window.proofs.part.Reads as part-reads
-use Rattle.window.proofs.window.Reads as window-reads
 
 add-stop : tie.Need-add-stop
 add-stop c = search needs

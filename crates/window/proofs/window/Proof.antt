@@ -11,9 +11,6 @@ use Rattle.field.specs.Field.{bits, number}
 use Rattle.field.proofs.Windows.{window-none, window-lt, window-more}
 use Rattle.window.proofs.window.Statement.{statement}
 use Rattle.window.proofs.window.Tie as tie
-use Rattle.window.proofs.window.Reads as reads
-use Rattle.window.proofs.window.Lts as lts
-use Rattle.window.proofs.five.Reads as five-reads
 
 abbrev Inv-loop : tie.InvT-loop
 Inv-loop octets first end value₀ i₀ value i = (first ≤ i) × (i ≤ end) × (value ≡ number (bits (slice first i octets)))

@@ -4,10 +4,6 @@ use Rattle.text.specs.Text.{octets}
 use borrow.Author.Needs.{needs}
 use Rattle.words.proofs.figure.Statement.{statement}
 use Rattle.words.proofs.figure.Tie as tie
-use Rattle.words.proofs.figure.Reads as reads
-use Rattle.words.proofs.figure.Lts as lts
-use Rattle.put_text.proofs.number.Reads as number-reads
-use Rattle.put_text.proofs.word.Reads as word-reads
 
 enum-known-figure : tie.Need-enum-known-figure
 enum-known-figure c = search needs

@@ -4,9 +4,6 @@ use Rattle.text.specs.Text.{octets}
 use borrow.Author.Needs.{needs}
 use Rattle.words.proofs.name.Statement.{statement}
 use Rattle.words.proofs.name.Tie as tie
-use Rattle.words.proofs.name.Reads as reads
-use Rattle.words.proofs.name.Lts as lts
-use Rattle.put_text.proofs.word.Reads as word-reads
 
 enum-told : tie.Need-enum-told
 enum-told c = search needs

@@ -5,9 +5,6 @@ use Rattle.field.specs.Field.{AllFit}
 use borrow.Author.Needs.{needs}
 use Rattle.writing.proofs.header.Statement.{statement}
 use Rattle.writing.proofs.header.Tie as tie
-use Rattle.writing.proofs.header.Reads as reads
-use Rattle.writing.proofs.header.Lts as lts
-use Rattle.store.proofs.put_four.Reads as put-four-reads
 
 put-four-requires : tie.Need-put-four-requires
 unfolding AllFit

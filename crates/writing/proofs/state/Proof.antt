@@ -4,9 +4,6 @@ use Rattle.field.specs.Field.{AllFit}
 use borrow.Author.Needs.{needs}
 use Rattle.writing.proofs.state.Statement.{statement}
 use Rattle.writing.proofs.state.Tie as tie
-use Rattle.writing.proofs.state.Reads as reads
-use Rattle.writing.proofs.state.Lts as lts
-use Rattle.store.proofs.put_four.Reads as put-four-reads
 
 cast-t8 : tie.Need-cast-t8
 cast-t8 c = search needs

@@ -19,9 +19,6 @@ use Rattle.arrays.specs.Tables.{stateOf, statesOf}
 use Rattle.writing.proofs.Puts.{put-none, put-more}
 use Rattle.writing.proofs.states.Statement.{statement}
 use Rattle.writing.proofs.states.Tie as tie
-use Rattle.writing.proofs.states.Reads as reads
-use Rattle.writing.proofs.states.Lts as lts
-use Rattle.writing.proofs.state.Reads as state-reads
 
 abbrev Inv-loop : tie.InvT-loop
 Inv-loop buffer₀ marks teams n i₀ buffer i = (i ≤ n) × (length buffer ≡ length buffer₀) × (buffer ≡ putAll buffer₀ 32 (fieldsOfEach stateFields (statesOf i marks teams)))

@@ -8,10 +8,6 @@ use Rattle.field.specs.declared.Four.{Four}
 use borrow.Author.Needs.{needs}
 use Rattle.writing.proofs.transition.Statement.{statement}
 use Rattle.writing.proofs.transition.Tie as tie
-use Rattle.writing.proofs.transition.Reads as reads
-use Rattle.writing.proofs.transition.Lts as lts
-use Rattle.arrays.proofs.limits.wide.Reads as wide-reads
-use Rattle.store.proofs.put_four.Reads as put-four-reads
 
 mul-wide : tie.Need-mul-wide
 mul-wide c = search needs

@@ -16,9 +16,6 @@ use Rattle.rules.proofs.Tabulated.{all-at}
 use Rattle.writing.proofs.Puts.{put-none, put-more}
 use Rattle.writing.proofs.transitions.Statement.{statement}
 use Rattle.writing.proofs.transitions.Tie as tie
-use Rattle.writing.proofs.transitions.Reads as reads
-use Rattle.writing.proofs.transitions.Lts as lts
-use Rattle.writing.proofs.transition.Reads as transition-reads
 
 abbrev Inv-loop : tie.InvT-loop
 Inv-loop buffer₀ n m from to low high i₀ buffer i = (i ≤ m) × (length buffer ≡ length buffer₀) × (buffer ≡ putAll buffer₀ (32 + 8 * n) (fieldsOfEach transitionFields (transitionsOf i from to low high)))

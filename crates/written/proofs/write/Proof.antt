@@ -21,13 +21,6 @@ use Rattle.written.proofs.Packed.{put-arrays}
 use borrow.Author.Needs.{needs}
 use Rattle.written.proofs.write.Statement.{statement}
 use Rattle.written.proofs.write.Tie as tie
-use Rattle.written.proofs.write.Reads as reads
-use Rattle.written.proofs.write.Lts as lts
-use Rattle.plan_limits.proofs.in_limits.Reads as in-limits-reads
-use Rattle.header_grounds.proofs.size.Reads as size-reads
-use Rattle.writing.proofs.header.Reads as header-reads
-use Rattle.writing.proofs.states.Reads as states-reads
-use Rattle.writing.proofs.transitions.Reads as transitions-reads
 
 -- the plan that the counts and arrays hold, and its counts
 graph : tie.Start → Graph

@@ -28,11 +28,6 @@ use Rattle.arrays.proofs.Lists.{later-none, later-set}
 use Rattle.image.proofs.Items.{Bits, state-fields}
 use Rattle.image.proofs.reading.states.Statement.{statement}
 use Rattle.image.proofs.reading.states.Tie as tie
-use Rattle.image.proofs.reading.states.Reads as reads
-use Rattle.image.proofs.reading.states.Lts as lts
-use Rattle.image_fields.proofs.state.Reads as state-reads
-use Rattle.image.proofs.reading.is_spare.Reads as is-spare-reads
-use Rattle.image.proofs.reading.marks_of.Reads as marks-of-reads
 
 abbrev Inv-loop : tie.InvT-loop
 Inv-loop octets at₀ taken₀ version n marks₀ teams₀ i₀ at taken marks teams i =

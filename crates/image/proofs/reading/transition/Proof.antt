@@ -4,9 +4,6 @@ use borrow.Author.Needs.{needs}
 use Rattle.image.proofs.Items.{transition-fields}
 use Rattle.image.proofs.reading.transition.Statement.{statement}
 use Rattle.image.proofs.reading.transition.Tie as tie
-use Rattle.image.proofs.reading.transition.Reads as reads
-use Rattle.image.proofs.reading.transition.Lts as lts
-use Rattle.image_fields.proofs.transition.Reads as transition-reads
 
 transition-requires : tie.Need-transition-requires
 transition-requires c κs = search needs

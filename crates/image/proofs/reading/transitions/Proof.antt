@@ -22,10 +22,6 @@ use Rattle.image.specs.Values.{meant}
 use Rattle.arrays.proofs.Lists.{transition-other, transition-here, later-none, later-set}
 use Rattle.image.proofs.reading.transitions.Statement.{statement}
 use Rattle.image.proofs.reading.transitions.Tie as tie
-use Rattle.image.proofs.reading.transitions.Reads as reads
-use Rattle.image.proofs.reading.transitions.Lts as lts
-use Rattle.transition_grounds.proofs.checked.Reads as checked-reads
-use Rattle.image.proofs.reading.transition.Reads as transition-reads
 
 abbrev Inv-loop : tie.InvT-loop
 Inv-loop octets at₀ taken₀ n m from₀ to₀ low₀ high₀ i₀ at taken from to low high i =
