@@ -54,7 +54,7 @@ module _ (g : Graph) (closed : Closed g) (c : Cost) (f : Figure) (k j : ℕ) (be
     figure = least-computed g c closed f is;
     costs = costs;
     smallest = λ x e. (rw e at is) .bound;
-    none = (λ e. rw e at is, λ without. least-unique g c f NONE is without);
+    none = (λ e s (ts, r). (rw e at is) s ts r, λ without. least-unique g c f NONE is (λ s ts r. without s (ts, r)));
     not-stranded = λ e. rw e at is;
     not-endless = λ e. rw e at is;
     shows = shows;

@@ -52,7 +52,7 @@ use Rattle.plan.specs.declared.Plan.{Plan}
 use Rattle.taken.specs.Taken.{bitsTaken, bitsOf, QuotesImage}
 use Rattle.plan.specs.Promise.{Edit, Turn, Held}
 use Rattle.plan.specs.View.{view, laid, noPlan}
-use Rattle.plan.proofs.Values.{view-laid}
+use Rattle.plan.specs.Laws.{view-laid}
 use Rattle.demands.specs.Calculator.{Calculator, Promises, Answers}
 use Rattle.demands.specs.Demands.{Demand1, Demand2, Demand3}
 use Rattle.demands.proofs.Demands.{demand-1, demand-2, demand-3}

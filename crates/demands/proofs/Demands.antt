@@ -64,7 +64,7 @@ was-quoted (Quoted x) e = (x, refl)
 was-quoted (Refused r) e = absurd (never tt r e)
 
 -- and one that answers a refusal has no figure
-was-refused : (q : Quotation) (r : Refusal) → saidQuotation q ≡ refused r → q ≡ Refused r
+pub was-refused : (q : Quotation) (r : Refusal) → saidQuotation q ≡ refused r → q ≡ Refused r
 was-refused (Quoted x) r e = absurd (never tt r (sym e))
 was-refused (Refused k) r e = let s : k ≡ r = cc in ap Refused s
 

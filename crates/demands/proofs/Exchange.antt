@@ -49,7 +49,7 @@ module _ (c : Calculator) (keeps : Promises c) where
     one-plan = λ {old} {old′} {text} {e} {e′} x x′ a a′. accepted-same (view (e .plan)) (view (e′ .plan)) (sym (held x a) ∙ held x′ a′);
   }
 
--- "an import that marks nothing": it says that it imported a text of one state, and holds a plan without a start
+-- an import that marks nothing: it says that it imported a text of one state, and holds a plan without a start
 abbrev pub one-state : List ℕ
 one-state = octets "des (0, 0, 1)\n"
 

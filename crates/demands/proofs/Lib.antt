@@ -14,6 +14,12 @@ pub mod Answers
 pub mod Record
 -- Import and export.
 pub mod Exchange
+-- What a call answered, and what a quotation said; then open-ended ringing, which end was wrong, teams, and calls that begin answered.
+pub mod Said
+pub mod OpenRinging
+pub mod WhichEnd
+pub mod Teams
+pub mod BegunAnswered
 -- One pass over the image.
 pub mod OnePass
 -- Reproducible test plans.

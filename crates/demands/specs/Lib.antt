@@ -5,6 +5,10 @@ pub mod Demands
 pub mod Record
 -- Document 02.
 pub mod Exchange
+pub mod OpenRinging
+pub mod WhichEnd
+pub mod Teams
+pub mod BegunAnswered
 pub mod OnePass
 pub mod Generate
 pub mod FigureSize

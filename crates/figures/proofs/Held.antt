@@ -9,7 +9,7 @@ use Rattle.arrays.specs.Tables.{stateOf, transitionOf}
 use Rattle.graph.specs.Graph.{State, Transition, marked, states, count, marksOf, teamOf, transition, from, to, low, high}
 use Rattle.plan.specs.declared.Plan.{Plan}
 use Rattle.plan.specs.View.{view}
-use Rattle.plan.proofs.Values.{states-view, count-view}
+use Rattle.plan.specs.Laws.{states-view, count-view}
 use Rattle.rules.specs.Limits.{within, transitionOk}
 use Rattle.rules.proofs.ReadWrite.{limited, Bounded, bounded}
 use Rattle.rules.proofs.Tabulated.{getD-tabulate, all-at}

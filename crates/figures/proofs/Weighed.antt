@@ -33,7 +33,7 @@ use Rattle.graph.proofs.Open.{none-open}
 use Rattle.keys.specs.Keys.{Weighed}
 use Rattle.plan.specs.declared.Plan.{Plan}
 use Rattle.plan.specs.View.{view}
-use Rattle.plan.proofs.Values.{states-view, count-view}
+use Rattle.plan.specs.Laws.{states-view, count-view}
 use Rattle.open_search.specs.Open.{Answered}
 use Rattle.open_search.proofs.Opening.{open-beside-endless}
 use Rattle.reach.specs.declared.Reach.{Reach}

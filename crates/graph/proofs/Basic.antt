@@ -140,7 +140,7 @@ high-2047 = refl
 pub high-2046 : limit 2046 ≡ Seconds 2046
 high-2046 = refl
 
--- 0→1 2047..2047, at once and into a final state: an open transition "may lead anywhere"
+-- 0→1 2047..2047, at once and into a final state: an open transition may lead anywhere
 pub takes-one : OpenWalk (open-at-once .plan) (costFor GreatestDelay (open-at-once .plan)) 0 (0 ∷ [])
 unfolding start final from high
 takes-one = record { before = []; last = 0; ends-with = refl; unfinished = (refl, tt); departs = departs (open-at-once .plan) 0 0 tt refl; unlimited = refl }

@@ -26,3 +26,4 @@ pub mod Worked
 -- Document 01's plans and sentences.
 pub mod Known
 pub mod Sentences
+pub mod Heed

@@ -2,7 +2,7 @@
 -- them; and the impostors of 01's acceptance point 2 that a figure or a walk gives away, refuted.
 --
 -- A walk with conditions on its states is a walk, with those conditions place by place; so a route is just what 02's E5 says,
--- and so are the other walks (`in-words`). What is shown of a number is that number. Assumes nothing.
+-- and so are the other walks (`in-words`). What is shown of a number is that number, and a route's cost is what 01 says in its own words (`in-own-words`). Assumes nothing.
 use Prim.Native.Nat.{ℕ, zero, suc, _≤_, _<_, zero-le}
 use mathlib.Core.Path.{_≡_, refl, sym, _∙_, ap, subst}
 use mathlib.Core.Logic.{_↔_, inl, inr}
@@ -12,10 +12,12 @@ use native.Mathlib.Nat.{not-suc-le-zero, zero-lt-suc}
 use native.Mathlib.Omega.{arith}
 use lib.ListN.{length, take}
 use Rattle.graph.specs.declared.Duration.the-variants.{Seconds}
+use Rattle.graph.specs.declared.Which.{Which}
+use Rattle.graph.specs.declared.Which.the-variants.{LeastDelay, GreatestDelay, LeastCount, GreatestCount}
 use Rattle.graph.specs.Graph.{Graph, count, to, low, high, Departs, Final, Unfinished, NoneDeparts, DeadEnd}
 use Rattle.graph.specs.Walk.{Begins, WalkTo, FromStart, AfterStart, Begun, Walk, UnfinishedWalk, EndlessWalk, visits, arrival, Different}
-use Rattle.graph.specs.Route.{Route, StrandedWalk, Cost, lows, highs, counts, delay, number-on, HasEndlessWalk, HasOpenWalk, GoesOnForever}
-use Rattle.graph.specs.Figure.{number, STRANDED, ENDLESS, IsGreatest, LoopShown, Shown}
+use Rattle.graph.specs.Route.{Route, StrandedWalk, Cost, total, lows, highs, counts, delay, number-on, HasEndlessWalk, HasOpenWalk, GoesOnForever}
+use Rattle.graph.specs.Figure.{number, STRANDED, ENDLESS, IsGreatest, LoopShown, Shown, costOver, comesTo}
 use Rattle.graph.proofs.Repeat.{nth}
 use Rattle.graph.proofs.Walks.{length-visits, state-after, state-last, stopped, after-plain, after-passed, after-stopped, after-of}
 use Rattle.graph.proofs.Endless.{run, run-begun, of-runs}
@@ -77,7 +79,8 @@ module _ (g : Graph) where
   pub endless-is : (s : ℕ) (taken : ℕ → ℕ) → EndlessWalk g s taken ↔ ((k : ℕ) → UnfinishedWalk g s (run taken 0 k))
   endless-is s taken = (run-begun g s taken, λ w. (w 0 .0, of-runs g s taken w))
 
-  -- a number is shown "with k of at least 1", and STRANDED with k at 0 means a start without transitions
+  -- "A number or STRANDED shown with k at 0 means the walk of some start alone." By E5 a number has a k of at least 1, and the start shown for STRANDED is one
+  -- without transitions
   pub number-some : (c : Cost) (k j : ℕ) (ts : List ℕ) → Shown g c (number k) ts j → 1 ≤ length ts
   number-some c k j ts (s, r, q, d, z) = route-some s ts r
 
@@ -96,7 +99,7 @@ module _ (g : Graph) where
           let f : Final g (arrival g s ts) = after-stopped g (λ x. ⊥) (Unfinished g) (Final g) (Final g) (λ x n. absurd n) (λ x f. f) s ts (r .1) in
           true≢false (sym (subst (Final g) (sym last ∙ sym e ∙ here) f) ∙ u)
 
-  -- in a loop's walk "from a final start" the place come back to is "j of at least 1"
+  -- a loop's walk that begins "at a final start" does not come back there: its j is at least 1
   pub loop-place : (ts : List ℕ) (j : ℕ) → LoopShown g ts j → (s : ℕ) × UnfinishedWalk g s ts × (Final g s → 1 ≤ j)
   loop-place ts j (s, w, l, e, d) = (s, w, place j e)
     where
@@ -115,12 +118,24 @@ module _ (g : Graph) where
   pub shown-highs : (k : ℕ) (ts : List ℕ) (j : ℕ) → IsGreatest g (highs g) (number k) → Shown g (highs g) (number k) ts j → delay (high g) ts ≡ k
   shown-highs k ts j u (s, r, q, d, z) = sym (highs-of g (λ w. u .1 (inr w)) s ts r) ∙ q
 
+  -- the number of states of which p says yes, on a route
+  pub route-count : (p : ℕ → Bool) (s : ℕ) (ts : List ℕ) → Route g s ts → total g (counts g p) s ts ≡ number-on g p s ts
+  route-count p s ts r = count-is g p (λ x. Unit) (λ x. Unit) s ts (after-plain g (λ x. ⊥) (Unfinished g) (Final g) s ts (r .1))
+
   -- .. or the number of counted states on it, from the start where it is a route: "one that quotes a handover count which its
   -- walk lacks" shows no such walk
   pub shown-count : (p : ℕ → Bool) (k : ℕ) (ts : List ℕ) (j : ℕ) → Shown g (counts g p) (number k) ts j
       → (s : ℕ) × Route g s ts × (number-on g p s ts ≡ k)
-  shown-count p k ts j (s, r, q, d, z) =
-      (s, r, sym (count-is g p (λ x. Unit) (λ x. Unit) s ts (after-plain g (λ x. ⊥) (Unfinished g) (Final g) s ts (r .1))) ∙ q)
+  shown-count p k ts j (s, r, q, d, z) = (s, r, sym (route-count p s ts r) ∙ q)
+
+  -- what a route costs is what it comes to in 01's own words, the sum of its lows, the sum of its highs, or the number of states that count. An open high adds nothing to
+  -- the cost, so it is asked that no walk can take one, as it is where a figure is a number (E2)
+  pub in-own-words : (which : Which) (p : ℕ → Bool) → (HasOpenWalk g (costOver which p g) → ⊥) → (s : ℕ) (ts : List ℕ) → Route g s ts
+      → total g (costOver which p g) s ts ≡ comesTo which p g s ts
+  in-own-words LeastDelay p none s ts r = delay-is g (λ t. Seconds (low g t)) s ts
+  in-own-words GreatestDelay p none s ts r = highs-of g none s ts r
+  in-own-words LeastCount p none s ts r = route-count p s ts r
+  in-own-words GreatestCount p none s ts r = route-count p s ts r
 
   -- "an unfinished walk from a start can take a transition with an open high": a high of 2,047
   pub open-is : HasOpenWalk g (highs g)
@@ -131,13 +146,18 @@ module _ (g : Graph) where
         (s, ts ++ (t ∷ []), record { before = ts; last = t; ends-with = refl; unfinished = w; departs = d; unlimited = open-high (high g t) .1 e }),
   )
 
-  -- "Both counts and the least delay pay no heed to it": where nothing is open, a call goes on forever by an endless walk alone, and a loop is shown
+  -- "Both counts and the least delay pay no heed to it": where nothing is open, a call goes on forever by an endless walk alone, and a loop is shown (`counts-loop`).
+  -- What it says of two plans that differ in highs alone is in Heed.antt
   pub no-heed : (c : Cost) → ((t : ℕ) → t < count g → c .unlimited t ≡ false) → GoesOnForever g c → HasEndlessWalk g
   no-heed c none (inl e) = e
   no-heed c none (inr w) = absurd (none-open g c none w)
 
   pub counts-no-heed : (p : ℕ → Bool) → GoesOnForever g (counts g p) ↔ HasEndlessWalk g
   counts-no-heed p = (no-heed (counts g p) (λ t l. refl), inl)
+
+  pub counts-loop : (p : ℕ → Bool) (ts : List ℕ) (j : ℕ) → Shown g (counts g p) ENDLESS ts j → LoopShown g ts j
+  counts-loop p ts j (inl l) = l
+  counts-loop p ts j (inr (s, w, q, d)) = absurd (none-open g (counts g p) (λ t l. refl) (s, ts, w))
 
   -- "A walk shown for that ends with the transition, j equals k"; a loop's has j below k, so j tells which of the two is shown
   pub open-told : (ts : List ℕ) (j : ℕ) → Shown g (highs g) ENDLESS ts j → j ≡ length ts → HasOpenWalk g (highs g)

@@ -8,10 +8,10 @@ use mathlib.Core.Logic.{_⊎_}
 use lib.ListN.{length, take}
 use Rattle.graph.specs.declared.Which.{Which}
 use Rattle.graph.specs.declared.Which.the-variants.{LeastDelay, GreatestDelay, LeastCount, GreatestCount}
-use Rattle.graph.specs.Graph.{Graph, start, counted}
+use Rattle.graph.specs.Graph.{Graph, start, counted, low, high}
 use Rattle.graph.specs.Walk.{visits, arrival, UnfinishedWalk, Different, DifferentButEnds}
 use Rattle.graph.specs.Route.{Route, StrandedWalk, OpenWalk, GoesOnForever, EndsUnanswered, Cost, total, lows, highs}
-use Rattle.graph.specs.Route.{counts}
+use Rattle.graph.specs.Route.{counts, delay, number-on}
 
 -- "its number or kind"
 pub data Figure : Type 0 where
@@ -78,6 +78,14 @@ costOver LeastDelay p g = lows g
 costOver GreatestDelay p g = highs g
 costOver LeastCount p g = counts g p
 costOver GreatestCount p g = counts g p
+
+-- what a route comes to, in 01's own words, to hold `total` of that cost against (`in-own-words` of proofs/Sentences.antt): "the sum of its lows for a least figure, and of its highs for a greatest one", or "the number of counted states on it, first and last
+-- included, one for each visit"
+abbrev pub comesTo : Which → (ℕ → Bool) → Graph → ℕ → List ℕ → ℕ
+comesTo LeastDelay p g s ts = delay (low g) ts
+comesTo GreatestDelay p g s ts = delay (high g) ts
+comesTo LeastCount p g s ts = number-on g p s ts
+comesTo GreatestCount p g s ts = number-on g p s ts
 
 -- by the counted mark
 abbrev pub costFor : Which → Graph → Cost

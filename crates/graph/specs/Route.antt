@@ -10,7 +10,7 @@ use mathlib.Core.Logic.{_⊎_}
 use lib.Dec.{eqb}
 use Rattle.graph.specs.declared.Duration.{Duration}
 use Rattle.graph.specs.declared.Duration.the-variants.{Seconds, Open}
-use Rattle.graph.specs.Graph.{Graph, from, to, low, high, Departs, Final, Unfinished, NoneDeparts, DeadEnd}
+use Rattle.graph.specs.Graph.{Graph, Transition, from, to, low, high, Departs, Final, Unfinished, NoneDeparts, DeadEnd}
 use Rattle.graph.specs.Walk.{WalkTo, Begun, visits, arrival, UnfinishedWalk, EndlessWalk}
 
 -- "A route is a finite walk whose last state is final and no earlier one is."; first from any state.
@@ -73,12 +73,12 @@ isOpen Open = true
 abbrev pub delays : (ℕ → Duration) → Cost
 delays duration = record { step = λ t. seconds (duration t); unlimited = λ t. isOpen (duration t); close = λ s. 0 }
 
--- WHAT A TRANSITION COSTS: "A route's delay is the sum of its lows for a least figure ..
+-- WHAT A TRANSITION COSTS: "A route's delay is the sum of its lows for a least figure,"
 -- A low is a number, 2,047 as any other: "Both counts and the least delay pay no heed to it" (E2)
 abbrev pub lows : Graph → Cost
 lows g = delays (λ t. Seconds (low g t))
 
--- .. and of its highs for a greatest one."
+-- "and of its highs for a greatest one."
 abbrev pub highs : Graph → Cost
 highs g = delays (λ t. limit (high g t))
 
@@ -127,3 +127,14 @@ HasOpenWalk g c = (s : ℕ) × (ts : List ℕ) × OpenWalk g c s ts
 -- counts as going on forever unanswered." (E2): by the cost, which says what is open
 abbrev pub GoesOnForever : Graph → Cost → Type 0
 GoesOnForever g c = HasEndlessWalk g ⊎ HasOpenWalk g c
+
+-- ---- plans that differ in highs alone, of which "Both counts and the least delay pay no heed to it" (E2) speaks
+
+-- a transition with its high left out
+abbrev pub withoutHigh : Transition → Transition
+withoutHigh t = record { from = t .from; to = t .to; low = t .low; high = 0 }
+
+-- the same states, and transitions that are the same but for their highs
+pub record SameButHighs (g h : Graph) : Type 0 where
+  pub same-states : g .stateList ≡ h .stateList
+  pub same-transitions : map withoutHigh (g .transitions) ≡ map withoutHigh (h .transitions)

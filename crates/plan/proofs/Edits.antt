@@ -19,7 +19,7 @@ use Rattle.rules.specs.Image.{tabulate}
 use Rattle.arrays.specs.Tables.{stateOf, statesOf, transitionOf, transition, Later}
 use Rattle.plan.specs.View.{planOf, view, laid, blankPlan, noPlan}
 use Rattle.plan.specs.Promise.{Edit}
-use Rattle.plan.proofs.Values.{Sized, states-view, count-view}
+use Rattle.plan.specs.Laws.{Sized, states-view, count-view}
 use Rattle.rules.specs.Table.{Row, byTable, first, NoneHolds}
 use Rattle.rules.proofs.Results.{refused-as}
 use Rattle.rules.proofs.Tables.{accepted-only, accepted-where, answer-first}

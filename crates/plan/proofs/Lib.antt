@@ -1,4 +1,2 @@
-pub mod Values
 pub mod Edits
 pub mod Promises
-pub mod Holding

@@ -41,7 +41,7 @@ use Rattle.plan.specs.declared.Plan.{Plan}
 use Rattle.plan.specs.Promise.{Edit, Turn, Held, nextValue, Obeyed, none, more}
 use Rattle.plan.specs.View.{view, laid, noPlan}
 use Rattle.plan_limits.proofs.Limits.{states-out}
-use Rattle.plan.proofs.Values.{limits-view}
+use Rattle.plan.specs.Laws.{limits-view}
 
 -- ---- one call
 

@@ -1,2 +1,4 @@
 pub mod View
 pub mod Promise
+-- Laws of them.
+pub mod Laws

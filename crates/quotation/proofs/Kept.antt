@@ -27,7 +27,7 @@ use Rattle.rules.proofs.Results.{never, not-false}
 use Rattle.plan.specs.declared.Edited.{Edited}
 use Rattle.plan.specs.Promise.{Held}
 use Rattle.plan.specs.View.{view}
-use Rattle.plan.proofs.Holding.{held-plan}
+use Rattle.plan.specs.Laws.{held-plan}
 use Rattle.rules.proofs.Tables.{accepted-only, accepted-where, answer-first, after-none, after-refused, none-append}
 
 -- ---- one quotation

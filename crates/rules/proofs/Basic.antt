@@ -470,7 +470,7 @@ refused-and-touched x = let e : _≡_ {A = ℕ} 8 9 = ap (λ (l : List ℕ). get
 -- "NONE exactly when no start leads to an answer": P6's first transition is a route
 pub none-with-a-route : (k j : ℕ) (before after : List ℕ) → LeastQuoted (P6 .plan) (costFor LeastDelay (P6 .plan)) NONE k j before after → ⊥
 unfolding start final from to
-none-with-a-route k j before after x = x .none .0 refl 0 (0 ∷ []) (refl, (record { listed = lit< tt; source = refl }, refl))
+none-with-a-route k j before after x = x .none .0 refl 0 (0 ∷ [], (refl, (record { listed = lit< tt; source = refl }, refl)))
 
 -- ---- single calls
 

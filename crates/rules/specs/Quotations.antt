@@ -8,7 +8,7 @@ use Prim.Native.Nat.{ℕ, _*_, _≤_}
 use lib.ListN.{length, take, drop}
 use Rattle.graph.specs.Class.{figureOf, counting}
 use Rattle.graph.specs.Graph.{Graph, states, counted}
-use Rattle.graph.specs.Route.{Cost, Route, GoesOnForever, EndsUnanswered, total}
+use Rattle.graph.specs.Route.{Cost, Route, LeadsToAnswer, GoesOnForever, EndsUnanswered, total}
 use Rattle.graph.specs.Figure.{Figure, number, NONE, STRANDED, ENDLESS, kind, value, NoStart, Shown, costOver}
 use Rattle.graph.specs.Compute.{least, greatest, figureFor}
 use Rattle.graph.specs.Which.{place, four, inTurn}
@@ -146,7 +146,7 @@ module _ (g : Graph) (c : Cost) (f : Figure) (k j : ℕ) (before after : List �
     -- (3) "Every other route of that plan has at least as much if the figure is a least one,
     pub smallest : (x : ℕ) → f ≡ number x → (s : ℕ) (ts : List ℕ) → Route g s ts → x ≤ total g c s ts
     -- (3) "A least figure is NONE exactly when no start leads to an answer,
-    pub none : (f ≡ NONE) ↔ ((s : ℕ) (ts : List ℕ) → Route g s ts → ⊥)
+    pub none : (f ≡ NONE) ↔ ((s : ℕ) → LeadsToAnswer g s → ⊥)
     -- (3) "A least figure is neither": neither ENDLESS nor STRANDED
     pub not-stranded : f ≡ STRANDED → ⊥
     pub not-endless : f ≡ ENDLESS → ⊥

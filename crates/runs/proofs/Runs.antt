@@ -17,7 +17,7 @@ use Rattle.rules.specs.Rules.{next}
 use Rattle.plan.specs.declared.Plan.{Plan}
 use Rattle.plan.specs.Promise.{nextValue}
 use Rattle.plan.specs.View.{view}
-use Rattle.plan.proofs.Values.{view-next}
+use Rattle.plan.specs.Laws.{view-next}
 use Rattle.runs.specs.Turns.{runValue}
 
 -- ---- one call more

@@ -16,7 +16,7 @@ use Rattle.arrays.specs.Tables.{over}
 use Rattle.plan.specs.declared.Plan.{Plan}
 use Rattle.plan.specs.Promise.{nextValue}
 use Rattle.plan.specs.View.{view}
-use Rattle.plan.proofs.Values.{Sized}
+use Rattle.plan.specs.Laws.{Sized}
 use Rattle.runs.proofs.Runs.{After, after-none, after-more}
 use Rattle.slices.specs.Lent.{Roomy, Slices, hasRoom, planIn, storing}
 use Rattle.slices.proofs.Stores.{has-room}

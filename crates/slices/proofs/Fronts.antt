@@ -7,7 +7,7 @@ use native.Mathlib.Omega.{arith}
 use lib.ListN.{length, take, drop, set, length-drop, take-append-drop}
 use lib.Seq.{paste, drop-paste, drop-drop, drop-append-le, take-all, length-take-le, length-paste}
 use Rattle.plan.specs.declared.Plan.{Plan}
-use Rattle.plan.proofs.Values.{Sized}
+use Rattle.plan.specs.Laws.{Sized}
 use Rattle.slices.specs.Lent.{Roomy, slices, planIn, storing, SameLater}
 use Rattle.slices.proofs.Stores.{stored}
 

@@ -13,7 +13,7 @@ use Rattle.rules.proofs.Results.{and-true, both-true}
 use Rattle.arrays.specs.Tables.{over}
 use Rattle.arrays.proofs.Copies.{paste-over, part, two, three, four-copied}
 use Rattle.plan.specs.declared.Plan.{Plan}
-use Rattle.plan.proofs.Values.{Sized}
+use Rattle.plan.specs.Laws.{Sized}
 use Rattle.slices.specs.Lent.{Roomy, roomy, Slices, slices, hasRoom, planIn, storing}
 
 -- the counts set one after the other

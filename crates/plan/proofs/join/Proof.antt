@@ -19,7 +19,7 @@ use Rattle.rules.proofs.Tables.{none-append}
 use Rattle.arrays.specs.Tables.{transition}
 use Rattle.plan.specs.View.{view}
 use Rattle.plan.proofs.Edits.{stays, becomes, none-holds, joined, view-joined, past-joined}
-use Rattle.plan.proofs.Values.{Sized, states-view, count-view, limits-view}
+use Rattle.plan.specs.Laws.{Sized, states-view, count-view, limits-view}
 use Rattle.plan.proofs.join.Statement.{statement}
 use Rattle.plan.proofs.join.Tie as tie
 

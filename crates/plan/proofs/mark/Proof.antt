@@ -13,7 +13,7 @@ use Rattle.rules.specs.Table.{first}
 use Rattle.rules.proofs.ReadWrite.{limited}
 use Rattle.plan.specs.View.{view}
 use Rattle.plan.proofs.Edits.{stays, becomes, none-holds, marked, view-marked, past-marked}
-use Rattle.plan.proofs.Values.{Sized, states-view, count-view, limits-view}
+use Rattle.plan.specs.Laws.{Sized, states-view, count-view, limits-view}
 use Rattle.plan.proofs.mark.Statement.{statement}
 use Rattle.plan.proofs.mark.Tie as tie
 

@@ -11,7 +11,7 @@ use Rattle.taken.specs.Taken.{bitsOf}
 use Rattle.plan.specs.declared.Plan.{Plan}
 use Rattle.plan.specs.View.{view, planOf}
 use Rattle.plan.proofs.Edits.{Past, refusal, acceptance, InArrays, same-arrays, overlaid, view-overlaid, past-overlaid}
-use Rattle.plan.proofs.Values.{Sized, limits-view}
+use Rattle.plan.specs.Laws.{Sized, limits-view}
 use borrow.Author.Needs.{needs}
 use Rattle.plan.proofs.replace.Statement.{statement}
 use Rattle.plan.proofs.replace.Tie as tie

@@ -14,7 +14,7 @@ use Rattle.rules.specs.Table.{first}
 use Rattle.rules.proofs.ReadWrite.{limited}
 use Rattle.plan.specs.View.{view}
 use Rattle.plan.proofs.Edits.{Past, stays, becomes, none-holds, same-arrays, unjoined, view-unjoined, past-unjoined}
-use Rattle.plan.proofs.Values.{Sized, states-view, count-view, limits-view}
+use Rattle.plan.specs.Laws.{Sized, states-view, count-view, limits-view}
 use Rattle.plan.proofs.unjoin.Statement.{statement}
 use Rattle.plan.proofs.unjoin.Tie as tie
 

@@ -1,6 +1,6 @@
 -- `plan::within`: the limits of what the arrays hold are those of the plan. Assumes nothing.
 use borrow.Author.Needs.{needs}
-use Rattle.plan.proofs.Values.{limits-view}
+use Rattle.plan.specs.Laws.{limits-view}
 use Rattle.plan.proofs.within.Statement.{statement}
 use Rattle.plan.proofs.within.Tie as tie
 

@@ -1,6 +1,6 @@
 -- `quotation::ask`: what is asked of the limits and the places is asked of the plan. Assumes nothing.
 use mathlib.Core.Path.{sym}
-use Rattle.plan.proofs.Values.{states-view}
+use Rattle.plan.specs.Laws.{states-view}
 use Rattle.rules.specs.Quotations.{quoteRule}
 use borrow.Author.Needs.{needs}
 use Rattle.quotation.proofs.ask.Statement.{statement}

@@ -1,5 +1,5 @@
 -- `quotation::held`: the image decides, then the places; what was read is quoted (proofs/Kept.antt). Assumes nothing.
-use Rattle.plan.proofs.Holding.{held-within}
+use Rattle.plan.specs.Laws.{held-within}
 use Rattle.quotation.proofs.Kept.{held-refused, held-short, held-quoted}
 use borrow.Author.Needs.{needs}
 use Rattle.quotation.proofs.held.Statement.{statement}

@@ -2,7 +2,7 @@
 use mathlib.Core.Path.{refl, sym, ap, _∙_}
 use native.Mathlib.Omega.{arith}
 use Rattle.plan.specs.View.{view}
-use Rattle.plan.proofs.Values.{states-view}
+use Rattle.plan.specs.Laws.{states-view}
 use Rattle.rules.specs.Refusal.{said}
 use Rattle.quotation.proofs.Kept.{accepted-within, room, refusal, acceptance}
 use borrow.Author.Needs.{needs}

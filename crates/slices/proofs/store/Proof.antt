@@ -4,7 +4,7 @@ use mathlib.Core.List.{List}
 use mathlib.Core.Path.{ap, _∙_}
 use native.Mathlib.Omega.{arith}
 use lib.Seq.{paste}
-use Rattle.plan.proofs.Values.{Sized}
+use Rattle.plan.specs.Laws.{Sized}
 use Rattle.slices.proofs.Stores.{stored}
 use borrow.Author.Needs.{needs}
 use Rattle.slices.proofs.store.Statement.{statement}

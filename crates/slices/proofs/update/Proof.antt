@@ -7,7 +7,7 @@ use native.Mathlib.Omega.{arith}
 use borrow.Author.Needs.{needs}
 use lib.Seq.{paste}
 use Rattle.rules.specs.declared.Answer.{Answer}
-use Rattle.plan.proofs.Values.{Sized}
+use Rattle.plan.specs.Laws.{Sized}
 use Rattle.slices.specs.Lent.{slices, SameLater}
 use Rattle.slices.proofs.Fronts.{fronts-stored}
 use Rattle.slices.proofs.update.Statement.{statement}
