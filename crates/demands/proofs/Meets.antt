@@ -34,7 +34,7 @@ use Rattle.arrays.specs.Tables.{over}
 use Rattle.plan.specs.declared.Plan.{Plan}
 use Rattle.plan.specs.Promise.{nextValue}
 use Rattle.plan.specs.View.{view, laid, noPlan}
-use Rattle.plan.proofs.Values.{view-laid}
+use Rattle.plan.specs.Laws.{view-laid}
 use Rattle.demands.specs.Arguments.{Numbers, Slice, Array, Value, AllGiven}
 use Rattle.demands.specs.Calculator.{Calculator, Promises, Answers, Listed, none, more}
 use Rattle.demands.specs.Demands.{Session, OneClaim}
