@@ -36,8 +36,13 @@ word-requires c κs =
 returns : tie.Need-returns
 unfolding octets
 returns c =
-    let start = c .before .before .before .before .before .before .before .before .before .before .before .before .before .before .before .before .before .before .before .before .before .before .before .before .before .before in
-    line-put (transition (start .args .from) (start .args .to) (start .args .low) (start .args .high)) (start .pre) (c .before .before .before .before .before .before .before .before .before .before .before .before .before .before .before .before .before .before .before .before .before .before .numbered .ensures) (c .before .before .before .before .before .before .before .before .before .before .before .before .before .before .before .before .before .numbered2 .ensures) (c .before .before .before .before .before .before .before .before .before .before .before .before .numbered3 .ensures) (c .before .before .before .before .before .before .before .numbered4 .ensures) (c .before .before .word .ensures)
+    let at-word = c .before .before in
+    let at-numbered4 = at-word .before .before .before .before .before in
+    let at-numbered3 = at-numbered4 .before .before .before .before .before in
+    let at-numbered2 = at-numbered3 .before .before .before .before .before in
+    let at-numbered = at-numbered2 .before .before .before .before .before in
+    let start = at-numbered .before .before .before .before in
+    line-put (transition (start .args .from) (start .args .to) (start .args .low) (start .args .high)) (start .pre) (at-numbered .numbered .ensures) (at-numbered2 .numbered2 .ensures) (at-numbered3 .numbered3 .ensures) (at-numbered4 .numbered4 .ensures) (at-word .word .ensures)
 
 pub line-spec : {M : Type 1} → statement M
 line-spec =
