@@ -1,1 +1,1 @@
-pub mod Obeyed
+pub mod OneClaim

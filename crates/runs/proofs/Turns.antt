@@ -4,10 +4,10 @@
 use mathlib.Core.Bool.{true}
 use mathlib.Core.List.{List, [], _∷_, _++_}
 use mathlib.Core.Path.{_≡_, refl, sym, ap, _∙_}
-use Prim.Native.Nat.{ℕ, _+_, _<_, _≤_}
+use Prim.Native.Nat.{ℕ, _+_, _<_}
 use native.Mathlib.Omega.{arith}
-use lib.ListN.{length, take, drop, set, length-append, length-drop}
-use lib.Seq.{drop-at, length-take-le}
+use lib.ListN.{length, drop, set, length-append}
+use lib.Seq.{drop-at}
 use Rattle.graph.specs.Graph.{Graph}
 use Rattle.rules.specs.Calls.{Call, step}
 use Rattle.rules.specs.Refusal.{Result, accepted, refused}
@@ -19,7 +19,7 @@ use Rattle.plan.specs.View.{view}
 use Rattle.plan.specs.Laws.{Sized}
 use Rattle.runs.proofs.Runs.{After, after-none, after-more}
 use Rattle.slices.specs.Lent.{Roomy, Slices, hasRoom, planIn, storing}
-use Rattle.slices.proofs.Stores.{has-room}
+use Rattle.slices.proofs.Stores.{held-sized}
 use Rattle.edits.specs.Lent.{nextSlices, LentTurn}
 use Rattle.edits.proofs.Rooms.{room-kept}
 
@@ -43,21 +43,6 @@ storing-twice p q s y z =
       counts = over-over (p .states ∷ p .transitions ∷ []) (q .states ∷ q .transitions ∷ []) (s .counts) refl i;
       states = over-over (p .marks ++ p .teams) (q .marks ++ q .teams) (s .states) (states-long p y ∙ sym (states-long q z)) i;
       fields = over-over (p .from ++ p .to ++ p .low ++ p .high) (q .from ++ q .to ++ q .low ++ q .high) (s .fields) (fields-long p y ∙ sym (fields-long q z)) i;
-    }
-
--- slices with room hold a plan value with arrays as long as a plan's
-held-sized : (s : Slices) → hasRoom s ≡ true → Sized (planIn s)
-held-sized s h =
-    let r = has-room (s .counts) (s .states) (s .fields) h in
-    let at : (k : ℕ) → k + 2048 ≤ 8192 → length (take 2048 (drop k (s .fields))) ≡ 2048 =
-    λ k l. length-take-le 2048 (drop k (s .fields)) (omega (arith, length-drop k (s .fields), r .transitions)) in
-    record {
-      marks = length-take-le 512 (s .states) (omega (arith, r .states));
-      teams = length-take-le 512 (drop 512 (s .states)) (omega (arith, length-drop 512 (s .states), r .states));
-      from = at 0 (omega arith);
-      to = at 2048 (omega arith);
-      low = at 4096 (omega arith);
-      high = at 6144 (omega arith);
     }
 
 turn-whole : (s t lent : Slices) (o : Result Graph) → hasRoom s ≡ true → hasRoom t ≡ true → t ≡ nextSlices (planIn s) s o

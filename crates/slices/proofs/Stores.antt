@@ -3,12 +3,12 @@
 use mathlib.Core.Bool.{Bool, true, false, _&&_}
 use mathlib.Core.List.{List, [], _∷_, _++_, append-assoc}
 use mathlib.Core.Path.{_≡_, refl, ap, _∙_}
-use Prim.Native.Nat.{ℕ, _≤_}
+use Prim.Native.Nat.{ℕ, _+_, _≤_}
 use native.Mathlib.Omega.{arith}
 use borrow.Author.Tests.{leb-true, le-leb}
 use lib.Dec.{leb}
-use lib.ListN.{length, take, drop, set}
-use lib.Seq.{paste, take-at}
+use lib.ListN.{length, take, drop, set, length-drop}
+use lib.Seq.{paste, take-at, length-take-le}
 use Rattle.rules.proofs.Results.{and-true, both-true}
 use Rattle.arrays.specs.Tables.{over}
 use Rattle.arrays.proofs.Copies.{paste-over, part, two, three, four-copied}
@@ -80,6 +80,21 @@ pub room-of : (s : Slices) → Roomy (s .counts) (s .states) (s .fields) → has
 room-of s r =
     both-true (leb 2 (length (s .counts))) (leb 1024 (length (s .states)) && leb 8192 (length (s .fields))) (le-leb 2 (length (s .counts)) (r .two))
     (both-true (leb 1024 (length (s .states))) (leb 8192 (length (s .fields))) (le-leb 1024 (length (s .states)) (r .states)) (le-leb 8192 (length (s .fields)) (r .transitions)))
+
+-- slices with room hold a plan value with arrays as long as a plan's
+pub held-sized : (s : Slices) → hasRoom s ≡ true → Sized (planIn s)
+held-sized s h =
+    let r = has-room (s .counts) (s .states) (s .fields) h in
+    let at : (k : ℕ) → k + 2048 ≤ 8192 → length (take 2048 (drop k (s .fields))) ≡ 2048 =
+    λ k l. length-take-le 2048 (drop k (s .fields)) (omega (arith, length-drop k (s .fields), r .transitions)) in
+    record {
+      marks = length-take-le 512 (s .states) (omega (arith, r .states));
+      teams = length-take-le 512 (drop 512 (s .states)) (omega (arith, length-drop 512 (s .states), r .states));
+      from = at 0 (omega arith);
+      to = at 2048 (omega arith);
+      low = at 4096 (omega arith);
+      high = at 6144 (omega arith);
+    }
 
 -- a test does not come out both ways: slices have room, or they have none
 pub true-false : {A : Type 0} (b : Bool) → b ≡ true → b ≡ false → A
