@@ -11,17 +11,16 @@ use mathlib.Core.Path.{_≡_, refl, sym, ap, ap₂, _∙_}
 use Prim.Native.Nat.{ℕ, _≤_}
 use borrow.Author.Tests.{le-ltb, eqb-true}
 use lib.Dec.{eqb}
-use lib.ListN.{length, take, drop, length-map}
-use lib.Seq.{take-at, drop-at}
-use Rattle.graph.specs.Graph.{Graph, State, Transition, states, count}
+use lib.ListN.{length, take, drop}
+use lib.Seq.{take-at}
+use Rattle.graph.specs.Graph.{Graph, states, count}
 use Rattle.field.specs.Field.{Octets}
 use Rattle.rules.specs.declared.Answer.{Answer}
 use Rattle.rules.specs.declared.Answer.the-variants.{Accepted}
 use Rattle.rules.specs.declared.Written.{Written}
 use Rattle.rules.specs.declared.Written.the-variants.{Length, Refused as NotWritten}
 use Rattle.rules.specs.declared.Refusal.{Refusal}
-use Rattle.rules.specs.declared.Refusal.the-variants.{PlanLimits}
-use Rattle.rules.specs.Calls.{Call, mark, team, join, unjoin, read, import, replacing, rowsOf, effectOf, step, run, runFresh}
+use Rattle.rules.specs.Calls.{Call, read, import, replacing, rowsOf, effectOf, step, run, runFresh}
 use Rattle.rules.specs.declared.Format.{Format}
 use Rattle.rules.specs.declared.Format.the-variants.{Image, Text}
 use Rattle.rules.specs.Aldebaran.{starts, importText, exportText, exportRows, exportRule, stripped}
@@ -35,11 +34,10 @@ use Rattle.rules.proofs.Basic.{fresh-done, read-given, import-given}
 use Rattle.rules.proofs.Results.{never, not-false, accepted-as, accepted-answer}
 use Rattle.rules.proofs.Tables.{accepted-only}
 use Rattle.rules.proofs.ReadWrite.{length-image-by, length-image, read-image, image-read, read-within}
-use Rattle.arrays.specs.Tables.{over}
 use Rattle.plan.specs.declared.Edited.{Edited}
 use Rattle.plan.specs.declared.Plan.{Plan}
 use Rattle.plan.specs.Promise.{Edit, Turn, Held, nextValue, Obeyed, none, more}
-use Rattle.plan.specs.View.{view, laid, noPlan}
+use Rattle.plan.specs.View.{view, noPlan}
 use Rattle.plan_limits.proofs.Limits.{states-out}
 use Rattle.plan.specs.Laws.{limits-view}
 
@@ -48,29 +46,6 @@ use Rattle.plan.specs.Laws.{limits-view}
 -- "Any refused event: the plan stays": the very value that was passed in
 pub refused-keeps : (p : Plan) (o : Result Graph) (r : Edited) (k : Refusal) {bits : ℕ} → Edit p o bits r → o ≡ refused k → r .plan ≡ p
 refused-keeps p o r k x e = x .whole ∙ ap (nextValue p) e
-
--- two that keep the promise leave the same in every place, those past the counts too
-pub same-value : (p : Plan) (o : Result Graph) (r r′ : Edited) {bits : ℕ} → Edit p o bits r → Edit p o bits r′ → r .plan ≡ r′ .plan
-same-value p o r r′ x y = x .whole ∙ sym (y .whole)
-
--- after an accepted call every place past the counts of the new plan is as it was
-pub places-stay : (p : Plan) (o : Result Graph) (r : Edited) (g : Graph) {bits : ℕ} → Edit p o bits r → o ≡ accepted g
-    → (drop (states g) (r .plan .marks) ≡ drop (states g) (p .marks)) × (drop (states g) (r .plan .teams) ≡ drop (states g) (p .teams)) × (drop (count g) (r .plan .from) ≡ drop (count g) (p .from))
-    × (drop (count g) (r .plan .to) ≡ drop (count g) (p .to)) × (drop (count g) (r .plan .low) ≡ drop (count g) (p .low))
-    × (drop (count g) (r .plan .high) ≡ drop (count g) (p .high))
-unfolding laid
-places-stay p o r g x e = rw (x .whole ∙ ap (nextValue p) e) (
-  behind (λ (s : State). s .marks) (g .stateList) (p .marks),
-  behind (λ (s : State). s .team) (g .stateList) (p .teams),
-  behind (λ (t : Transition). t .from) (g .transitions) (p .from),
-  behind (λ (t : Transition). t .to) (g .transitions) (p .to),
-  behind (λ (t : Transition). t .low) (g .transitions) (p .low),
-  behind (λ (t : Transition). t .high) (g .transitions) (p .high),
-)
-  where
-    behind : {A : Type 0} (part : A → ℕ) (l : List A) (before : List ℕ) → drop (length l) (over (map part l) before) ≡ drop (length l) before
-    behind part l before =
-        drop-at (map part l) (drop (length (map part l)) before) (length l) (length-map l part) ∙ ap (λ (k : ℕ). drop k before) (length-map l part)
 
 -- ---- a list of calls
 
@@ -237,15 +212,3 @@ import-then-export old text e before after w x a y room =
 -- "any plan value beside the number has 0 states, all else zero, and every call refuses it by 0"
 pub no-plan : within (view noPlan) ≡ false
 no-plan = sym (limits-view noPlan (states-out 0 0 (noPlan .marks) (noPlan .teams) (noPlan .from) (noPlan .to) (noPlan .low) (noPlan .high) refl))
-
-pub no-plan-refused : (call : Call) → step (view noPlan) call ≡ refused PlanLimits
-no-plan-refused (mark state value) = rw no-plan
-no-plan-refused (team state number) = rw no-plan
-no-plan-refused (join t) = rw no-plan
-no-plan-refused (unjoin number) = rw no-plan
-no-plan-refused (read octets) = rw no-plan
-no-plan-refused (import text) = rw no-plan
-
-pub no-plan-not-written : (buffer : List ℕ) → writeRule (view noPlan) buffer ≡ refused PlanLimits
-unfolding writeRule
-no-plan-not-written buffer = rw no-plan
