@@ -1,1 +1,2 @@
 pub mod Ring
+pub mod Chain

@@ -8,6 +8,7 @@ use mathlib.Core.Bool.{Bool, true, true≢false}
 use Prim.Native.Nat.{ℕ, suc}
 use native.Mathlib.Omega.{arith}
 use lib.ListN.{length, getD, take}
+use Rattle.bounds.proofs.Chained.{chain-least, chain-greatest}
 use Rattle.graph.specs.declared.Asked.{Asked}
 use Rattle.graph.specs.declared.Asked.the-variants.{One, LeastCountFor, GreatestCountFor}
 use Rattle.graph.specs.declared.Which.the-variants.{LeastDelay, GreatestDelay, LeastCount, GreatestCount}
@@ -155,6 +156,8 @@ module _ (c : Calculator) (keeps : Promises c) where
     no-heed = λ {asked}. no-heed asked;
     by-a-loop = λ {asked}. by-a-loop asked;
     forever = λ {p} q x. (λ e. forever-so (view p) (delay-said q x .endless .0 e), λ w. delay-said q x .endless .1 (so-forever (view p) w));
+    least-of-P10 = λ {p} q e x. figure-said LeastDelay (view p) _ _ _ _ _ (said-of c keeps q x) ∙ ap (figureFor LeastDelay) e ∙ chain-least;
+    greatest-of-P10 = λ {p} q e x. figure-said GreatestDelay (view p) _ _ _ _ _ (said-of c keeps q x) ∙ ap (figureFor GreatestDelay) e ∙ chain-greatest;
     stranded = λ {p} q x. (
       λ e. let (on, ends) = delay-said q x .stranded .0 e in (λ w. on (inl w), λ r. on (inr (of-rings (view p) r)), ends),
       λ (endless, rings, ends). delay-said q x .stranded .1 (⊎-elim endless (λ w. rings (to-rings (view p) w)), ends),

@@ -5,9 +5,10 @@ use mathlib.Core.Logic.{_↔_, _⊎_}
 use mathlib.Core.Path.{_≡_}
 use Prim.Native.Nat.{ℕ, _≤_, _<_}
 use lib.ListN.{length, getD, take}
+use Rattle.bounds.specs.Chain.{chain}
 use Rattle.graph.specs.declared.Asked.{Asked}
 use Rattle.graph.specs.declared.Asked.the-variants.{One}
-use Rattle.graph.specs.declared.Which.the-variants.{GreatestDelay, GreatestCount}
+use Rattle.graph.specs.declared.Which.the-variants.{LeastDelay, GreatestDelay, GreatestCount}
 use Rattle.graph.specs.Class.{figureOf}
 use Rattle.graph.specs.Figure.{number, STRANDED, ENDLESS, LoopShown}
 use Rattle.graph.specs.Graph.{Graph, high, Departs}
@@ -72,3 +73,8 @@ pub record OpenRinging (c : Calculator) : Type 0 where
       → (meant (q .figure) ≡ ENDLESS) ↔ (HasEndlessWalk (view p) ⊎ Rings (view p))
   pub stranded : {p : Plan} {before after : List ℕ} (q : Quote) → c .quotes (One GreatestDelay) p before after (Quoted q)
       → (meant (q .figure) ≡ STRANDED) ↔ ((HasEndlessWalk (view p) → ⊥) × (Rings (view p) → ⊥) × EndsUnanswered (view p))
+  -- "P10's steps become 2046..2046 and its delays 1,045,506."
+  pub least-of-P10 : {p : Plan} {before after : List ℕ} (q : Quote) → view p ≡ chain → c .quotes (One LeastDelay) p before after (Quoted q)
+      → meant (q .figure) ≡ number 1045506
+  pub greatest-of-P10 : {p : Plan} {before after : List ℕ} (q : Quote) → view p ≡ chain → c .quotes (One GreatestDelay) p before after (Quoted q)
+      → meant (q .figure) ≡ number 1045506

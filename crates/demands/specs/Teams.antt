@@ -49,16 +49,16 @@ pub record Teams (c : Calculator) : Type 0 where
   -- "The five spare bits become a team number, 0 to 31,": what is written of a state ends with them
   pub five-bits : {p : Plan} {before after : List ℕ} (n s : ℕ) → c .writes p before after (Length n) → s < states (view p)
       → (fourthOf stateItem (take n after) (statePlace s) ≡ teamOf (view p) s) × (teamOf (view p) s ≤ 31)
-  -- "set by its own call
+  -- "set by its own call"
   pub set-by-its-call : {p : Plan} {e : Edited} (s k : ℕ) → within (view p) ≡ true → s < states (view p) → k ≤ 31 → c .edits p (team s k) e
       → (e .answer ≡ Accepted) × (view (e .plan) ≡ withTeam (view p) s k)
   -- which sets it, and leaves the marks and the other teams
   pub sets-it : {p : Plan} {e : Edited} (s k : ℕ) → c .edits p (team s k) e → e .answer ≡ Accepted → teamOf (view (e .plan)) s ≡ k
   pub leaves-the-rest : {p : Plan} {e : Edited} (s k x : ℕ) → c .edits p (team s k) e
       → (marksOf (view (e .plan)) x ≡ marksOf (view p) x) × (x ≢ s → teamOf (view (e .plan)) x ≡ teamOf (view p) x)
-  -- and zero after fresh;
+  -- "and zero after fresh;"
   pub fresh-zero : {n : ℕ} {e : Edited} → c .freshes n e → e .answer ≡ Accepted → (s : ℕ) → teamOf (view (e .plan)) s ≡ 0
-  -- mark leaves it."
+  -- "mark leaves it."
   pub mark-leaves : {p : Plan} {e : Edited} (s value x : ℕ) → c .edits p (mark s value) e → teamOf (view (e .plan)) x ≡ teamOf (view p) x
   -- "The image version becomes 2." "Write always produces version 2,"
   pub version-2 : {p : Plan} {before after : List ℕ} (n : ℕ) → c .writes p before after (Length n) → versionOf (take n after) ≡ 2
