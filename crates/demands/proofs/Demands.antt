@@ -245,6 +245,8 @@ module _ (c : Calculator) (keeps : Promises c) where
               ap₂ {C = List (Result (Unit {0}))} (λ b bs. b ∷ bs) (first-answer x)
               (obeyed-run (obeyed o) .0 ∙ ap (λ (g : Graph). run g calls .answers) (plan-made x a));
           plan = λ {e} {calls} x a o. obeyed-run (obeyed o) .1 ∙ ap (λ (g : Graph). run g calls .last) (plan-made x a);
+          quoted-right = λ {e} {calls} {answers} {last} {asked} {before} {after} q x a o y.
+              subst (λ (g : Graph). Stated (saysAsked asked g) q before after) (obeyed-run (obeyed o) .1 ∙ ap (λ (g : Graph). run g calls .last) (plan-made x a)) (said-of q y);
           accepted-where = λ {before} {after} {r} x e room.
               let none : NoneHolds (imageRows octets) =
               accepted-only (imageRows octets) tt tt (sym (answer-first (imageRows octets) (graphIn octets)) ∙ ap answerOf (sym over-fresh) ∙ head-same e) .0 in

@@ -51,7 +51,7 @@ use Rattle.rules.proofs.Tables.{after-refused}
 use Rattle.plan.specs.declared.Edited.{Edited}
 use Rattle.plan.specs.declared.Plan.{Plan}
 use Rattle.plan.specs.View.{view}
-use Rattle.demands.specs.Arguments.{AllGiven}
+use Rattle.demands.specs.Arguments.{AllPassable}
 use Rattle.demands.specs.Calculator.{Calculator}
 use Rattle.demands.specs.Demands.{Demand1, Demand2, OneClaim, Session, edit, quote}
 
@@ -95,7 +95,7 @@ first-listable = record {
 }
 
 -- calls whose arguments can be passed
-pub first-given : AllGiven (first-listable .calls)
+pub first-given : AllPassable (first-listable .calls)
 unfolding first-listable
 first-given =
     ((lit< tt, lit< tt), ((lit< tt, lit< tt), ((lit< tt, lit< tt), ((lit< tt, lit< tt), ((lit< tt, lit< tt, lit< tt, lit< tt), ((lit< tt, lit< tt, lit< tt, lit< tt), ((lit< tt, lit< tt, lit< tt, lit< tt), ((lit< tt, lit< tt, lit< tt, lit< tt), tt))))))))

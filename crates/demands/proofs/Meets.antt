@@ -35,7 +35,7 @@ use Rattle.plan.specs.declared.Plan.{Plan}
 use Rattle.plan.specs.Promise.{nextValue}
 use Rattle.plan.specs.View.{view, laid, noPlan}
 use Rattle.plan.specs.Laws.{view-laid}
-use Rattle.demands.specs.Arguments.{Numbers, Slice, Array, Value, AllGiven}
+use Rattle.demands.specs.Arguments.{Numbers, Slice, Array, Value, AllPassable}
 use Rattle.demands.specs.Calculator.{Calculator, Promises, Answers, Listed, none, more}
 use Rattle.demands.specs.Demands.{Session, OneClaim}
 use Rattle.demands.proofs.Demands.{demand-3}
@@ -139,7 +139,7 @@ module _ (c : Calculator) (keeps : Promises c) (answers : Answers c) where
   next-value p (refused k) v w = v
 
   -- a list of calls on a plan value that can be held, and the plan value after it
-  list-met : (calls : List Call) (p : Plan) → Value p → AllGiven calls → (told : List Answer) × (last : Plan) × Listed c p calls told last × Value last
+  list-met : (calls : List Call) (p : Plan) → Value p → AllPassable calls → (told : List Answer) × (last : Plan) × Listed c p calls told last × Value last
   list-met [] p v u = ([], p, none, v)
   list-met (call ∷ calls) p v (given, rest) =
       let (e, x) = answers .edits p call v given in
@@ -154,7 +154,7 @@ module _ (c : Calculator) (keeps : Promises c) (answers : Answers c) where
     pub its-calls : session .calls ≡ calls
     pub value : Value (session .last)
 
-  pub session : (n : ℕ) → stateCountOk n ≡ true → (calls : List Call) → AllGiven calls → Met n calls
+  pub session : (n : ℕ) → stateCountOk n ≡ true → (calls : List Call) → AllPassable calls → Met n calls
   session n ok calls given =
       let small : n ≤ 512 = leb-true n 512 (and-true (leb 1 n) (leb n 512) ok .1) in
       let (e, x) = answers .freshes n (omega (arith, small)) in

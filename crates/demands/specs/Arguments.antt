@@ -38,19 +38,19 @@ pub record Value (p : Plan) : Type 0 where
   pub high : Array 2 2048 (p .high)
 
 -- what a call is given beside its plan, what each call of a list is, and the team that a quotation may name
-abbrev pub Given : Call → Type 0
-Given (mark state value) = Number 8 state × Number 8 value
-Given (team state number) = Number 8 state × Number 8 number
-Given (join t) = Number 8 (t .from) × Number 8 (t .to) × Number 8 (t .low) × Number 8 (t .high)
-Given (unjoin number) = Number 8 number
-Given (read octets) = Slice 1 octets
-Given (import text) = Slice 1 text
+abbrev pub Passable : Call → Type 0
+Passable (mark state value) = Number 8 state × Number 8 value
+Passable (team state number) = Number 8 state × Number 8 number
+Passable (join t) = Number 8 (t .from) × Number 8 (t .to) × Number 8 (t .low) × Number 8 (t .high)
+Passable (unjoin number) = Number 8 number
+Passable (read octets) = Slice 1 octets
+Passable (import text) = Slice 1 text
 
-abbrev pub AllGiven : List Call → Type 0
-AllGiven [] = Unit {0}
-AllGiven (call ∷ calls) = Given call × AllGiven calls
+abbrev pub AllPassable : List Call → Type 0
+AllPassable [] = Unit {0}
+AllPassable (call ∷ calls) = Passable call × AllPassable calls
 
-abbrev pub Named : Asked → Type 0
-Named (One which) = Unit {0}
-Named (LeastCountFor number) = Number 8 number
-Named (GreatestCountFor number) = Number 8 number
+abbrev pub Nameable : Asked → Type 0
+Nameable (One which) = Unit {0}
+Nameable (LeastCountFor number) = Number 8 number
+Nameable (GreatestCountFor number) = Number 8 number

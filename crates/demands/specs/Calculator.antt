@@ -23,7 +23,7 @@ use Rattle.plan.specs.declared.Edited.{Edited}
 use Rattle.plan.specs.declared.Plan.{Plan}
 use Rattle.plan.specs.Promise.{Edit, Turn, Held}
 use Rattle.plan.specs.View.{view, noPlan}
-use Rattle.demands.specs.Arguments.{Number, Slice, Value, Given, Named}
+use Rattle.demands.specs.Arguments.{Number, Slice, Value, Passable, Nameable}
 
 -- a calculator: what comes back of what it is given. Lent places are seen as they stand before the call and after it. Each call is a relation, so
 -- that nothing is taken for granted: neither that something comes back, nor that it is always the same. `generates` is 02's E7: a seed, n and m. Three calls are
@@ -63,11 +63,11 @@ pub record Answers (c : Calculator) : Type 0 where
   pub freshes : (n : ℕ) → Number 8 n → (e : Edited) × c .freshes n e
   pub generates : (s n m : ℕ) → Number 4 s → Number 8 n → Number 8 m → (e : Edited) × c .generates s n m e
   pub helds : (octets : List ℕ) → Slice 1 octets → (e : Edited) × c .helds octets e
-  pub edits : (p : Plan) (call : Call) → Value p → Given call → (e : Edited) × c .edits p call e
+  pub edits : (p : Plan) (call : Call) → Value p → Passable call → (e : Edited) × c .edits p call e
   pub writes : (p : Plan) (before : List ℕ) → Value p → Slice 1 before → (after : List ℕ) × (w : Written) × c .writes p before after w
   pub exports : (p : Plan) (before : List ℕ) → Value p → Slice 1 before → (after : List ℕ) × (w : Written) × c .exports p before after w
   pub records : (p : Plan) (before : List ℕ) → Value p → Slice 1 before → (after : List ℕ) × (w : Written) × c .records p before after w
-  pub quotes : (asked : Asked) (p : Plan) (before : List ℕ) → Named asked → Value p → Slice 2 before
+  pub quotes : (asked : Asked) (p : Plan) (before : List ℕ) → Nameable asked → Value p → Slice 2 before
       → (after : List ℕ) × (q : Quotation) × c .quotes asked p before after q
   pub quotes-all : (p : Plan) (before : List ℕ) → Value p → Slice 2 before → (after : List ℕ) × (q : Quotations) × c .quotes-all p before after q
   pub quotes-image : (octets before : List ℕ) → Slice 1 octets → Slice 2 before

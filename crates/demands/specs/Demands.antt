@@ -211,7 +211,11 @@ pub record ImageClaim (c : Calculator) (n : ℕ) (octets : List ℕ) : Type 0 wh
   -- and the plan after the list are those that document 01's rules give."
   pub plan : {e : Edited} {calls : List Call} {answers : List Answer} {last : Plan} → c .helds octets e → e .answer ≡ Accepted
       → Listed c (e .plan) calls answers last → view last ≡ runFresh n (read octets ∷ calls) .last
-  -- "That plan is then quoted into n or more places": 512 for each figure. Where the read is accepted and there are as many places, the four are quoted,
+  -- what is quoted of it is right
+  pub quoted-right : {e : Edited} {calls : List Call} {answers : List Answer} {last : Plan} {asked : Asked} {before after : List ℕ} (q : Quote) → c .helds octets e
+      → e .answer ≡ Accepted → Listed c (e .plan) calls answers last → c .quotes asked last before after (Quoted q)
+      → Stated (saysAsked asked (runFresh n (read octets ∷ calls) .last)) q before after
+  -- and the four figures of the image at once, "into n or more places": 512 for each figure. Where the read is accepted and there are as many places, they are quoted,
   pub accepted-where : {before after : List ℕ} {r : HeldQuotations} → c .quotes-image octets before after r → runFresh n (read octets ∷ []) .answers ≡ accepted tt ∷ []
       → 2048 ≤ length before → (q : FourQuotes) × (r .quotations ≡ AllQuoted q)
   -- and each sentence on figures and walks holds of each
