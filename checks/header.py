@@ -20,6 +20,7 @@ FILES = {
     "calls": "crates/calls/specs/Slices.antt",
     "which": "crates/graph/specs/Which.antt",
     "figure": "crates/graph/specs/Figure.antt",
+    "lines": "crates/wording/specs/Lines.antt",
     "route": "crates/graph/specs/Route.antt",
     "graph": "crates/graph/specs/Graph.antt",
     "class": "crates/graph/specs/Class.antt",
@@ -36,6 +37,7 @@ FILES = {
     "cargo": "rust/callplan/Cargo.toml",
     "crate": "rust/callplan/src/lib.rs",
     "archive": "rust/callplan/src/archive.rs",
+    "kinds": "rust/callplan/src/kind.rs",
     "refusals": "rust/callplan/src/refusal.rs",
     "proved": "reference/src/proved.rs",
     "launch": "programs/launch",
@@ -142,7 +144,7 @@ def comparisons(t):
     yield "what the refusals say, in C and in Rust", [(constant(name), text) for name, _, text in listed], said
     page = between(t["rules page"], "\n## The table of refused calls\n", "\n## ")
     yield "docs/RULES.md: the refusals by number", [value for _, value in table], [int(value) for value in re.findall(r"(?m)^\| (\d+) \|", page)]
-    texts = re.findall(r"case CALLPLAN_(\w+): return", t["header"])
+    texts = re.findall(r"case CALLPLAN_(\w+): return", between(t["header"], "callplan_answer_text(callplan_answer answer)", "\n}"))
     yield "include/callplan.h: every answer says something", [name for name, _ in answers], texts
     yield "rust/callplan: accepted", accepted, number(t["crate"], r"const ACCEPTED: u32 = (\d+)")
     yield "reference: accepted", accepted, number(t["proved"], r"const ACCEPTED: u32 = (\d+)")
@@ -212,6 +214,13 @@ def comparisons(t):
         yield f"{FILES[place]}: how a seed makes a plan", rule, found
     declared = between(t["header"], "typedef enum callplan_kind {", "} callplan_kind;")
     yield "include/callplan.h: the kinds", kinds, numbers(declared, r"CALLPLAN_(\w+) = (\d)")
+    # What the kinds are called: a number by the word of its kind in the record, the others by the words of quote's lines.
+    called = re.findall(r'(?m)^figureText (\w+) = octets "(\w+)"$', t["lines"])
+    called = [(name, dict(called).get(name)) for name, _ in kinds[1:]]
+    given = re.findall(r'case CALLPLAN_(\w+): return "([^"]*)";', between(t["header"], "callplan_kind_text(callplan_kind kind)", "\n}"))
+    yield "include/callplan.h: what the kinds are called", [("NUMBER", "number"), *called], given
+    given = re.findall(r'Kind::(\w+) => "([^"]*)",', between(t["kinds"], "impl Kind {", "\n}"))
+    yield "rust/callplan: what the kinds are called", [("NUMBER", "number"), *called], [(constant(name), text) for name, text in given]
 
     room = re.findall(r"= leb (\d+) counts && \(leb (\d+) states && leb (\d+) fields\)", t["room"])
     room = [tuple(map(int, r)) for r in room]
@@ -320,6 +329,11 @@ DAMAGES = [
     ("graph", "finalBit v = v / 2", "finalBit v = v / 4"),
     ("graph", "countedBit v = v % 2", "countedBit v = v / 8 % 2"),
     ("figure", "kind STRANDED = 2", "kind STRANDED = 3"),
+    ("lines", 'figureText STRANDED = octets "STRANDED"', 'figureText STRANDED = octets "LOST"'),
+    ("header", 'case CALLPLAN_NONE: return "NONE";', 'case CALLPLAN_NONE: return "none";'),
+    ("header", '    case CALLPLAN_ENDLESS: return "ENDLESS";\n', ""),
+    ("header", 'case CALLPLAN_NUMBER: return "number";', 'case CALLPLAN_NUMBER: return "NUMBER";'),
+    ("kinds", 'Kind::Stranded => "STRANDED"', 'Kind::Stranded => "stranded"'),
     ("figure", "most GreatestDelay = 1047552", "most GreatestDelay = 1048064"),
     ("figure", "most LeastCount = 513", "most LeastCount = 512"),
     ("route", "eqb high 2047", "eqb high 2046"),

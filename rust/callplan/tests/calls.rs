@@ -4,7 +4,7 @@ use std::hash::{DefaultHasher, Hash, Hasher};
 use std::thread;
 
 use callplan::{
-    Figure, Plan, Refusal, Transition, COUNTED, FINAL, MAX_STATES, MAX_TEAM, MAX_TRANSITIONS,
+    Figure, Kind, Plan, Refusal, Transition, COUNTED, FINAL, MAX_STATES, MAX_TEAM, MAX_TRANSITIONS,
     OPEN_HIGH, START,
 };
 
@@ -388,6 +388,21 @@ fn texts_are_exported_and_imported() {
         stripped.mark(state, 0).unwrap();
     }
     assert_eq!(plan, stripped);
+}
+
+#[test]
+fn kinds_and_versions_have_their_words() {
+    for (figure, kind, word) in [
+        (Figure::Number(60), Kind::Number, "number"),
+        (Figure::None, Kind::None, "NONE"),
+        (Figure::Stranded, Kind::Stranded, "STRANDED"),
+        (Figure::Endless { j: 0 }, Kind::Endless, "ENDLESS"),
+    ] {
+        assert_eq!((figure.kind(), kind.text()), (kind, word));
+        assert_eq!(format!("{kind}|{kind:>9}"), format!("{word}|{word:>9}"));
+    }
+    assert_eq!(callplan::version().number(), callplan::VERSION_NUMBER);
+    assert_eq!(callplan::version().to_string(), callplan::VERSION);
 }
 
 #[test]
