@@ -53,3 +53,20 @@ impl Figure {
         }
     }
 }
+
+/// As the lines of `quote` have it: the number, or the word for the kind.
+///
+/// ```
+/// use callplan::Figure;
+///
+/// assert_eq!(Figure::Number(60).to_string(), "60");
+/// assert_eq!(Figure::Stranded.to_string(), "STRANDED");
+/// ```
+impl fmt::Display for Figure {
+    fn fmt(&self, f: &mut fmt::Formatter) -> fmt::Result {
+        match self {
+            Figure::Number(value) => value.fmt(f),
+            _ => self.kind().fmt(f),
+        }
+    }
+}

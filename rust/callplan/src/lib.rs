@@ -25,15 +25,19 @@
 extern crate std;
 
 mod archive;
+mod iterators;
 mod kind;
 mod refusal;
+mod replay;
 mod version;
 
 use core::fmt;
 use core::hash::{Hash, Hasher};
 
+pub use iterators::State;
 pub use kind::Kind;
 pub use refusal::Refusal;
+pub use replay::{answer, CallKind};
 pub use version::{version, Version, VERSION};
 
 /// The most states of a plan.
