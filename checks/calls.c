@@ -855,10 +855,22 @@ static void plan_of_an_image(void)
     CHECK(callplan_equal(&plan, &expected) == 1);
 }
 
-/* The archive's version, and what answers say. */
+/* The archive's version, and what answers and kinds say. */
 static void words(void)
 {
+    char version[CALLPLAN_VERSION_TEXT_OCTETS + 1];
+    memset(version, 7, sizeof version);
     CHECK(callplan_lent_version() == CALLPLAN_VERSION_NUMBER);
+    CHECK(callplan_version_text(version) == version && strcmp(version, CALLPLAN_VERSION) == 0);
+    CHECK(version[sizeof CALLPLAN_VERSION] == 7 && version[CALLPLAN_VERSION_TEXT_OCTETS] == 7);
+    CHECK(strcmp(callplan_kind_text(CALLPLAN_NUMBER), "number") == 0);
+    CHECK(strcmp(callplan_kind_text(CALLPLAN_NONE), "NONE") == 0);
+    CHECK(strcmp(callplan_kind_text(CALLPLAN_STRANDED), "STRANDED") == 0);
+    CHECK(strcmp(callplan_kind_text(CALLPLAN_ENDLESS), "ENDLESS") == 0);
+#ifndef __cplusplus
+    /* In C++ there is no kind with this number. */
+    CHECK(strcmp(callplan_kind_text((callplan_kind)4), "an unknown kind") == 0);
+#endif
     CHECK(strcmp(callplan_answer_text(CALLPLAN_REFUSED_SPARE_BITS), "a pad bit is set, or a spare bit of version 1") == 0);
     CHECK(strcmp(callplan_answer_text(CALLPLAN_REFUSED_VERSION), "the image's version is neither 1 nor 2") == 0);
     CHECK(strcmp(callplan_answer_text(CALLPLAN_REFUSED_TEAM_NUMBER), "the team is above 31") == 0);

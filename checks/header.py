@@ -20,6 +20,7 @@ FILES = {
     "calls": "crates/calls/specs/Slices.antt",
     "which": "crates/graph/specs/Which.antt",
     "figure": "crates/graph/specs/Figure.antt",
+    "lines": "crates/wording/specs/Lines.antt",
     "route": "crates/graph/specs/Route.antt",
     "graph": "crates/graph/specs/Graph.antt",
     "class": "crates/graph/specs/Class.antt",
@@ -36,7 +37,9 @@ FILES = {
     "cargo": "rust/callplan/Cargo.toml",
     "crate": "rust/callplan/src/lib.rs",
     "archive": "rust/callplan/src/archive.rs",
+    "kinds": "rust/callplan/src/kind.rs",
     "refusals": "rust/callplan/src/refusal.rs",
+    "replay": "rust/callplan/src/replay.rs",
     "proved": "reference/src/proved.rs",
     "launch": "programs/launch",
     "page": "docs/quote.1",
@@ -135,14 +138,15 @@ def comparisons(t):
     yield "include/callplan.h: the answers", expected, answers
     yield "reference: no calls", no_calls, number(t["proved"], r"const NO_CALLS: u32 = (\d+)")
     declared = between(t["refusals"], "pub enum Refusal {", "}")
-    yield "rust/callplan: the refusals", [name for name, _ in table] + ["Other"], re.findall(r"(?m)^ *(\w+)(?:\(u32\))?,", declared)
+    yield "rust/callplan: the refusals", [name for name, _ in table] + ["NoCalls", "Other"], re.findall(r"(?m)^ *(\w+)(?:\(u32\))?,", declared)
     listed = re.findall(r'\(\s*Refusal::(\w+),\s*(\d+),\s*"([^"]*)"', between(t["refusals"], "const REFUSALS", "];"))
-    yield "rust/callplan: the refusals by number", table, [(name, int(value)) for name, value, _ in listed]
-    said = re.findall(r'case CALLPLAN_REFUSED_(\w+): return "([^"]*)";', t["header"])
+    yield "rust/callplan: the refusals by number", [*table, ("NoCalls", no_calls)], [(name, int(value)) for name, value, _ in listed]
+    said = re.findall(r'case CALLPLAN_(?:REFUSED_(\w+)|(NO_CALLS)): return "([^"]*)";', t["header"])
+    said = [(refused or other, text) for refused, other, text in said]
     yield "what the refusals say, in C and in Rust", [(constant(name), text) for name, _, text in listed], said
     page = between(t["rules page"], "\n## The table of refused calls\n", "\n## ")
     yield "docs/RULES.md: the refusals by number", [value for _, value in table], [int(value) for value in re.findall(r"(?m)^\| (\d+) \|", page)]
-    texts = re.findall(r"case CALLPLAN_(\w+): return", t["header"])
+    texts = re.findall(r"case CALLPLAN_(\w+): return", between(t["header"], "callplan_answer_text(callplan_answer answer)", "\n}"))
     yield "include/callplan.h: every answer says something", [name for name, _ in answers], texts
     yield "rust/callplan: accepted", accepted, number(t["crate"], r"const ACCEPTED: u32 = (\d+)")
     yield "reference: accepted", accepted, number(t["proved"], r"const ACCEPTED: u32 = (\d+)")
@@ -212,6 +216,13 @@ def comparisons(t):
         yield f"{FILES[place]}: how a seed makes a plan", rule, found
     declared = between(t["header"], "typedef enum callplan_kind {", "} callplan_kind;")
     yield "include/callplan.h: the kinds", kinds, numbers(declared, r"CALLPLAN_(\w+) = (\d)")
+    # What the kinds are called: a number by the word of its kind in the record, the others by the words of quote's lines.
+    called = re.findall(r'(?m)^figureText (\w+) = octets "(\w+)"$', t["lines"])
+    called = [(name, dict(called).get(name)) for name, _ in kinds[1:]]
+    given = re.findall(r'case CALLPLAN_(\w+): return "([^"]*)";', between(t["header"], "callplan_kind_text(callplan_kind kind)", "\n}"))
+    yield "include/callplan.h: what the kinds are called", [("NUMBER", "number"), *called], given
+    given = re.findall(r'Kind::(\w+) => "([^"]*)",', between(t["kinds"], "impl Kind {", "\n}"))
+    yield "rust/callplan: what the kinds are called", [("NUMBER", "number"), *called], [(constant(name), text) for name, text in given]
 
     room = re.findall(r"= leb (\d+) counts && \(leb (\d+) states && leb (\d+) fields\)", t["room"])
     room = [tuple(map(int, r)) for r in room]
@@ -233,6 +244,9 @@ def comparisons(t):
     calls = re.findall(r"(?m)^callOf octets (\S+|\(.*?\)+) a b c d = (\w+) ", t["calls"])
     calls = [(name.upper(), pattern.count("suc")) for pattern, name in calls]
     yield "include/callplan.h: the kinds of calls", calls, numbers(t["header"], r"CALLPLAN_CALL_(\w+) = (\d)")
+    declared = numbers(between(t["replay"], "pub enum CallKind {", "\n}"), r"(?m)^    (\w+) = (\d),$")
+    yield "rust/callplan: the kinds of calls", calls, [(constant(name), value) for name, value in declared]
+    yield "rust/callplan: a kind of a call is an octet", 1, t["replay"].count("#[repr(u8)]\npub enum CallKind {")
     order = [(constant(name), place) for name, place in numbers(t["which"], r"(?m)^place (\w+) = (\d)$")]
     yield "the figures in turn", [name for name, _ in order], list(map(constant, re.findall(r"f (\w+)", between(t["which"], "\ninTurn f =", "\n"))))
     yield "the answers in turn", 1, t["answered"].count("fourNumbers q = inTurn (λ which. numbersOf (quoteOf q which))")
@@ -320,6 +334,11 @@ DAMAGES = [
     ("graph", "finalBit v = v / 2", "finalBit v = v / 4"),
     ("graph", "countedBit v = v % 2", "countedBit v = v / 8 % 2"),
     ("figure", "kind STRANDED = 2", "kind STRANDED = 3"),
+    ("lines", 'figureText STRANDED = octets "STRANDED"', 'figureText STRANDED = octets "LOST"'),
+    ("header", 'case CALLPLAN_NONE: return "NONE";', 'case CALLPLAN_NONE: return "none";'),
+    ("header", '    case CALLPLAN_ENDLESS: return "ENDLESS";\n', ""),
+    ("header", 'case CALLPLAN_NUMBER: return "number";', 'case CALLPLAN_NUMBER: return "NUMBER";'),
+    ("kinds", 'Kind::Stranded => "STRANDED"', 'Kind::Stranded => "stranded"'),
     ("figure", "most GreatestDelay = 1047552", "most GreatestDelay = 1048064"),
     ("figure", "most LeastCount = 513", "most LeastCount = 512"),
     ("route", "eqb high 2047", "eqb high 2046"),
@@ -408,6 +427,11 @@ DAMAGES = [
     ("refusals", "    FromState,\n", ""),
     ("refusals", "Refusal::ToState,\n        17,", "Refusal::ToState,\n        16,"),
     ("refusals", "    TeamNumber,\n", ""),
+    ("refusals", "    NoCalls,\n", ""),
+    ("refusals", '(Refusal::NoCalls, 254, "the slices', '(Refusal::NoCalls, 255, "the slices'),
+    ("refusals", '254, "the slices are no list of calls"', '254, "there is no list of calls"'),
+    ("replay", "    Unjoin = 2,", "    Unjoin = 3,"),
+    ("replay", "#[repr(u8)]\n", "#[repr(u16)]\n"),
     ("refusals", '"a pad bit is set, or a spare bit of version 1"', '"a pad or spare bit is set"'),
     ("refusals", '(Refusal::TeamNumber, 18, "the team is above 31")', '(Refusal::TeamNumber, 18, "the team is above 30")'),
     ("header", 'return "the marks value is above 7"', 'return "the marks value is above 8"'),

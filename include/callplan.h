@@ -51,6 +51,7 @@ extern "C" {
 
 #define CALLPLAN_VERSION "0.9.0"
 #define CALLPLAN_VERSION_NUMBER 900 /* 10,000 times the first number, 100 times the second, and the third */
+#define CALLPLAN_VERSION_TEXT_OCTETS 16 /* of the text of any version, the 0 behind it included */
 
 #define CALLPLAN_MAX_STATES 512
 #define CALLPLAN_MAX_TRANSITIONS 2048
@@ -258,6 +259,38 @@ static inline const char *callplan_answer_text(callplan_answer answer)
     case CALLPLAN_ACCEPTED: return "accepted";
     }
     return "an unknown answer";
+}
+
+/* What a kind is called, as document 01 prints it: of a number the word "number", and the figure itself is its value. */
+static inline const char *callplan_kind_text(callplan_kind kind)
+{
+    switch (kind) {
+    case CALLPLAN_NUMBER: return "number";
+    case CALLPLAN_NONE: return "NONE";
+    case CALLPLAN_STRANDED: return "STRANDED";
+    case CALLPLAN_ENDLESS: return "ENDLESS";
+    }
+    return "an unknown kind";
+}
+
+/* Puts the version of the archive that the program is linked with into text, as "1.2.3" and a 0 behind it, and returns text.
+ * CALLPLAN_VERSION is the one of this header. */
+static inline const char *callplan_version_text(char text[CALLPLAN_VERSION_TEXT_OCTETS])
+{
+    const uint32_t version = callplan_lent_version();
+    const uint32_t parts[3] = {version / 10000, version / 100 % 100, version % 100};
+    size_t at = 0;
+    for (size_t i = 0; i < 3; i++) {
+        uint32_t unit = 1;
+        while (parts[i] / unit >= 10) {
+            unit *= 10;
+        }
+        for (; unit != 0; unit /= 10) {
+            text[at++] = "0123456789"[parts[i] / unit % 10];
+        }
+        text[at++] = i < 2 ? '.' : '\0';
+    }
+    return text;
 }
 
 /* The marks and the teams of a plan as one slice. Its pointer is made from that to the plan, so that it reaches over both arrays. */

@@ -6,20 +6,10 @@
 
 static void print_figure(const char *name, const callplan_figure *figure)
 {
-    printf("%s ", name);
-    switch (figure->kind) {
-    case CALLPLAN_NUMBER:
-        printf("%" PRIu32 ":", figure->value);
-        break;
-    case CALLPLAN_NONE:
-        printf("NONE:");
-        break;
-    case CALLPLAN_STRANDED:
-        printf("STRANDED:");
-        break;
-    case CALLPLAN_ENDLESS:
-        printf("ENDLESS:");
-        break;
+    if (figure->kind == CALLPLAN_NUMBER) {
+        printf("%s %" PRIu32 ":", name, figure->value);
+    } else {
+        printf("%s %s:", name, callplan_kind_text(figure->kind));
     }
     for (size_t i = 0; i < figure->k; i++) {
         printf(" %u", (unsigned)figure->walk[i]);

@@ -7,12 +7,7 @@ use std::{env, fs};
 use callplan::{Figure, Quotation};
 
 fn line(name: &str, quotation: &Quotation) -> String {
-    let mut line = match quotation.figure() {
-        Figure::Number(value) => format!("{name} {value}:"),
-        Figure::None => format!("{name} NONE:"),
-        Figure::Stranded => format!("{name} STRANDED:"),
-        Figure::Endless { .. } => format!("{name} ENDLESS:"),
-    };
+    let mut line = format!("{name} {}:", quotation.figure());
     for number in quotation.walk() {
         line += &format!(" {number}");
     }

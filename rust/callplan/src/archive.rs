@@ -225,8 +225,6 @@ extern "C" {
         out_len: usize,
     ) -> u32;
 
-    // A `Plan` of this crate makes each call by itself.
-    #[allow(dead_code)]
     pub fn callplan_lent_replay(
         n: usize,
         kinds: *const u8,

@@ -25,12 +25,20 @@
 extern crate std;
 
 mod archive;
+mod iterators;
+mod kind;
 mod refusal;
+mod replay;
+mod version;
 
 use core::fmt;
 use core::hash::{Hash, Hasher};
 
+pub use iterators::State;
+pub use kind::Kind;
 pub use refusal::Refusal;
+pub use replay::{answer, CallKind};
+pub use version::{version, Version, VERSION};
 
 /// The most states of a plan.
 pub const MAX_STATES: usize = 512;
@@ -747,9 +755,8 @@ pub fn quote(octets: &[u8]) -> Result<[Quotation; 4], Refusal> {
 
 /// In a debug build: the archive is the one that this crate is for.
 fn check_version() {
-    // SAFETY: it takes nothing and touches nothing.
     debug_assert_eq!(
-        unsafe { archive::callplan_lent_version() },
+        version().number(),
         VERSION_NUMBER,
         "libcallplan.a is of another version than the crate"
     );

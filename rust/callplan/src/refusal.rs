@@ -48,12 +48,15 @@ pub enum Refusal {
     /// [`Plan::least_count_for`](crate::Plan::least_count_for) or
     /// [`Plan::greatest_count_for`](crate::Plan::greatest_count_for).
     TeamNumber,
+    /// The slices are no list of calls, of [`Plan::replay`](crate::Plan::replay) alone. Its number is none
+    /// of the table.
+    NoCalls,
     /// A number that this version of the crate does not know.
     Other(u32),
 }
 
 /// Each refusal with its number, and what it says.
-const REFUSALS: [(Refusal, u32, &str); 18] = [
+const REFUSALS: [(Refusal, u32, &str); 19] = [
     (Refusal::PlanLimits, 0, "the plan breaks a limit of a plan"),
     (
         Refusal::ImageShort,
@@ -128,6 +131,7 @@ const REFUSALS: [(Refusal, u32, &str); 18] = [
         "a transition's to is not below the state count",
     ),
     (Refusal::TeamNumber, 18, "the team is above 31"),
+    (Refusal::NoCalls, 254, "the slices are no list of calls"),
 ];
 
 impl Refusal {
@@ -196,6 +200,6 @@ mod tests {
         let numbers = REFUSALS.map(|row| row.1);
         assert!(numbers
             .into_iter()
-            .eq((0..19).filter(|&number| number != 13)));
+            .eq((0..19).filter(|&number| number != 13).chain([254])));
     }
 }

@@ -4,8 +4,8 @@ use std::hash::{DefaultHasher, Hash, Hasher};
 use std::thread;
 
 use callplan::{
-    Figure, Plan, Refusal, Transition, COUNTED, FINAL, MAX_STATES, MAX_TEAM, MAX_TRANSITIONS,
-    OPEN_HIGH, START,
+    CallKind, Figure, Kind, Plan, Refusal, State, Transition, COUNTED, FINAL, MAX_STATES, MAX_TEAM,
+    MAX_TRANSITIONS, OPEN_HIGH, START,
 };
 
 /// The image of plan P1 of document 01, of version 1.
@@ -391,6 +391,21 @@ fn texts_are_exported_and_imported() {
 }
 
 #[test]
+fn kinds_and_versions_have_their_words() {
+    for (figure, kind, word) in [
+        (Figure::Number(60), Kind::Number, "number"),
+        (Figure::None, Kind::None, "NONE"),
+        (Figure::Stranded, Kind::Stranded, "STRANDED"),
+        (Figure::Endless { j: 0 }, Kind::Endless, "ENDLESS"),
+    ] {
+        assert_eq!((figure.kind(), kind.text()), (kind, word));
+        assert_eq!(format!("{kind}|{kind:>9}"), format!("{word}|{word:>9}"));
+    }
+    assert_eq!(callplan::version().number(), callplan::VERSION_NUMBER);
+    assert_eq!(callplan::version().to_string(), callplan::VERSION);
+}
+
+#[test]
 fn figures_are_quoted_with_their_walks() {
     let plan = p1().unwrap();
     for (quotation, value, walk) in [
@@ -519,6 +534,136 @@ fn an_image_is_quoted_at_once() {
     }
     assert_eq!(callplan::quote(&[]).unwrap_err(), Refusal::ImageShort);
     assert_eq!(callplan::quote(&P1[..27]).unwrap_err(), Refusal::ImageShort);
+}
+
+#[test]
+fn figures_are_displayed_as_the_lines_of_quote_have_them() {
+    for (figure, words) in [
+        (Figure::Number(0), "0"),
+        (Figure::Number(1_048_064), "1048064"),
+        (Figure::None, "NONE"),
+        (Figure::Stranded, "STRANDED"),
+        (Figure::Endless { j: 2 }, "ENDLESS"),
+    ] {
+        assert_eq!(figure.to_string(), words);
+        assert_eq!(format!("{figure:>9}|"), format!("{words:>9}|"));
+        assert_eq!(format!("{figure:<9}|"), format!("{words:<9}|"));
+    }
+    let [least, greatest, ..] = callplan::quote(&P1).unwrap();
+    let line = format!("{} {}", least.figure(), greatest.figure());
+    assert_eq!(line, "7 60");
+}
+
+#[test]
+fn states_and_transitions_come_in_their_order() {
+    let mut plan = p1().unwrap();
+    plan.team(3, MAX_TEAM).unwrap();
+    plan.unjoin(3).unwrap(); // what was joined still lies past the count
+    assert_eq!(plan.iter_states().len(), 4);
+    assert_eq!(plan.iter_transitions().len(), 3);
+    for (number, state) in plan.iter_states().enumerate() {
+        let (marks, team) = (plan.marks(number), plan.team_of(number));
+        assert_eq!((Some(state.marks), Some(state.team)), (marks, team));
+    }
+    for (number, transition) in plan.iter_transitions().enumerate() {
+        assert_eq!(Some(transition), plan.transition(number));
+    }
+    let last = State {
+        marks: FINAL,
+        team: MAX_TEAM,
+    };
+    assert_eq!(plan.iter_states().next_back(), Some(last));
+    assert_eq!(plan.iter_states().nth(4), None);
+    assert_eq!(plan.iter_transitions().rev().nth(2), plan.transition(0));
+    let mut transitions = plan.iter_transitions();
+    assert_eq!(transitions.nth(1), plan.transition(1));
+    assert_eq!((transitions.len(), transitions.clone().count()), (1, 1));
+    assert_eq!(transitions.next(), plan.transition(2));
+    assert_eq!((transitions.next(), transitions.len()), (None, 0));
+
+    let plan = Plan::fresh(1).unwrap();
+    assert_eq!(plan.iter_transitions().next(), None);
+    assert_eq!(plan.iter_states().count(), 1);
+    let plan = Plan::generate(1, MAX_STATES, MAX_TRANSITIONS).unwrap();
+    assert_eq!(plan.iter_states().len(), MAX_STATES);
+    assert_eq!(plan.iter_transitions().len(), MAX_TRANSITIONS);
+    let mut copy = Plan::fresh(MAX_STATES).unwrap();
+    for (number, state) in plan.iter_states().enumerate() {
+        copy.mark(number, state.marks).unwrap();
+    }
+    for transition in plan.iter_transitions() {
+        copy.join(transition).unwrap();
+    }
+    assert_eq!(copy, plan);
+}
+
+/// P1 by a list of calls, a refused one and one that is undone among them; then lists that are none.
+#[test]
+fn a_list_of_calls_is_made_at_once() {
+    use CallKind::{Import, Join, Mark, Read, Team, Unjoin};
+    let kinds = [Mark, Join, Join, Mark, Unjoin, Read];
+    let arguments = [
+        [0, 4, 0, 0],
+        [0, 9, 1, 1],
+        [0, 1, 1, 9],
+        [1, 2, 0, 0],
+        [0, 0, 0, 0],
+        [0, 28, 0, 0],
+    ];
+    let mut plan = Plan::generate(7, 9, 9).unwrap();
+    let before = plan.clone();
+    let mut answers = [9; 7];
+    for (n, octets, places, refusal) in [
+        (0, &P1[..], 6, Refusal::StateCount),
+        (513, &P1, 5, Refusal::StateCount),
+        (2, &P1, 5, Refusal::BufferLength),
+        (513, &P1[..27], 5, Refusal::NoCalls),
+    ] {
+        let refused = plan.replay(n, &kinds, &arguments, octets, &mut answers[..places]);
+        assert_eq!(refused, Err(refusal));
+    }
+    let refused = plan.replay(2, &kinds, &arguments[..5], &P1, &mut answers);
+    assert_eq!(refused, Err(Refusal::NoCalls));
+    assert_eq!((&plan, answers), (&before, [9; 7]));
+
+    let made = plan.replay(2, &kinds[..5], &arguments, &[], &mut answers);
+    let [least, greatest, ..] = made.unwrap();
+    assert_eq!(answers[5..], [9, 9]);
+    let refused = Err(Refusal::ToState);
+    assert_eq!(
+        [0, 1, 2, 3, 4].map(|i: usize| callplan::answer(answers[i])),
+        [Ok(()), refused, Ok(()), Ok(()), Ok(())]
+    );
+    assert_eq!((plan.states(), plan.transitions()), (2, 0));
+    assert_eq!((plan.marks(0), plan.marks(1)), (Some(START), Some(FINAL)));
+    assert_eq!(least.figure(), Figure::None);
+    assert_eq!(greatest.figure(), Figure::Stranded);
+
+    let quotations = plan.replay(2, &kinds, &arguments, &P1, &mut answers);
+    assert_eq!(plan, p1().unwrap());
+    assert_eq!(quotations.unwrap(), callplan::quote(&P1).unwrap());
+    assert_eq!(answers[5..], [256, 9]);
+
+    let kinds = [Import, Team, Team, Import];
+    let end = P1_TEXT.len();
+    let arguments = [
+        [0, end, 0, 0],
+        [3, 31, 0, 0],
+        [3, (1 << 32) + 3, 0, 0],
+        [1, end, 0, 0],
+    ];
+    let mut answers = [9; 4];
+    let made = plan.replay(1, &kinds, &arguments, P1_TEXT.as_bytes(), &mut answers);
+    assert_eq!(made.unwrap()[1].figure(), Figure::Stranded);
+    let refusals = [Refusal::TeamNumber, Refusal::TextForm].map(Err);
+    assert_eq!(
+        answers.map(callplan::answer),
+        [Ok(()), Ok(()), refusals[0], refusals[1]]
+    );
+    assert_eq!((plan.states(), plan.team_of(3)), (4, Some(31)));
+    let made = plan.replay(1, &[], &[], &[], &mut []);
+    assert_eq!(made.unwrap()[0].figure(), Figure::None);
+    assert_eq!(plan, Plan::fresh(1).unwrap());
 }
 
 #[test]

@@ -10,7 +10,8 @@ use std::ptr::null_mut;
 use std::slice;
 
 use callplan::{
-    Plan, Transition, FINAL, MAX_IMAGE_OCTETS, MAX_STATES, MAX_TEXT_OCTETS, MAX_TRANSITIONS, START,
+    CallKind, Plan, Transition, FINAL, MAX_IMAGE_OCTETS, MAX_STATES, MAX_TEXT_OCTETS,
+    MAX_TRANSITIONS, START,
 };
 
 const STACK: usize = 1 << 20;
@@ -137,5 +138,14 @@ fn every_call_stays_within_what_is_said() {
     );
     tell("record", used(|| assert!(plan.record(&mut buffer).is_ok())));
     tell("quote", used(|| assert!(callplan::quote(&image).is_ok())));
+    let (kinds, arguments) = ([CallKind::Read], [[0, image.len(), 0, 0]]);
+    let mut answers = [0];
+    tell(
+        "replay",
+        used(|| {
+            let made = target.replay(1, &kinds, &arguments, &image, &mut answers);
+            assert!(made.is_ok());
+        }),
+    );
     assert!(deepest <= LIMIT, "{deepest} octets of stack");
 }
