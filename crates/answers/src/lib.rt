@@ -1,4 +1,6 @@
 // The answer of a quotation in a lent slice: four numbers for each figure, its kind (0 number, 1 NONE, 2 STRANDED, 3 ENDLESS) and number, k and j.
+#![tactic(auto)]
+
 ghost use Rattle.std.specs.Prelude.{◌≡◌, ◌+◌, ◌≤◌, length};
 ghost use Rattle.std.proofs.Math.Seq.{paste};
 ghost use Rattle.arrays.specs.Tables.{over};

@@ -1,4 +1,6 @@
 // The arguments of generate, read from lent octets: a seed, a state count and a transition count, each as a decimal number with a line feed after it.
+#![tactic(auto)]
+
 ghost use Rattle.std.specs.Prelude.{false, ◌≡◌};
 ghost use Rattle.scan.specs.Places.{Sound, Tells};
 ghost use Rattle.arguments.specs.Arguments.{decimal_then, argument_then, arguments_in};

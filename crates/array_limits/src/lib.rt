@@ -1,4 +1,6 @@
 // The limits of a plan's states and transitions, over the arrays that hold them.
+#![tactic(auto)]
+
 ghost use Rattle.std.specs.Prelude.{◌≡◌, ◌≤◌, ◌<◌};
 ghost use Rattle.graph.specs.Graph.{state_with};
 ghost use Rattle.rules.specs.Limits.{all, state_ok, transition_ok};

@@ -1,4 +1,6 @@
 // The arrays that hold a plan's marks, teams and transitions: their limits. A plan value is two counts and these arrays.
+#![tactic(auto)]
+
 pub mod limits;
 
 // A marks value has these for start and for final, and 1 for counted.

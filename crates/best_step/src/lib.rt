@@ -1,5 +1,7 @@
 // The best step over lent arrays, for the least and for the greatest alike: among some transitions the one that weighs best with the value behind it. HOW A WALK
 // BEGINS, in code: its first step is the best out of all starts, final ones too, whatever value they have themselves.
+#![tactic(auto)]
+
 ghost use Rattle.std.specs.Prelude.{Bool, false, ◌||◌, List, ◌≡◌, ℕ, ◌≤◌, ◌<◌, eqb};
 ghost use Rattle.graph.specs.Graph.{start_mark};
 ghost use Rattle.search.specs.Arrays.{at};

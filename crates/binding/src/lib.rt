@@ -3,6 +3,8 @@
 // for accepted; write, export and record answer 256 plus the octets' number. 255 is no number of the table: the three slices are too short to hold a plan, so there is
 // none to look at. A quotation answers in four more lent places: the figure's kind (0 number, 1 NONE, 2 STRANDED, 3 ENDLESS) and number, k and j; too few of
 // these or for a walk are 11. One call takes no plan: an image in, its four figures out. Another takes a list of calls, and answers 254 where the slices are none.
+#![tactic(auto)]
+
 ghost use Rattle.std.specs.Prelude.{◌≡◌};
 ghost use Rattle.arrays.specs.Tables.{transition};
 ghost use Rattle.edits.specs.Lent.{LentFresh, LentGenerate, LentHeld, LentTurn};

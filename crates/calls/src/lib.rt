@@ -1,5 +1,7 @@
 // A list of calls in lent slices of numbers: whether the slices are one, and whether a row refuses to make it. What comes of it is one number, asked for before
 // anything is written.
+#![tactic(auto)]
+
 ghost use Rattle.std.specs.Prelude.{◌≡◌, ◌&&◌, leb, ◌≤◌, ◌/◌, length};
 ghost use Rattle.rules.specs.Image.{tabulate};
 ghost use Rattle.rules.specs.Limits.{all};

@@ -1,4 +1,6 @@
 // The class of a team, by which bands are sold.
+#![tactic(auto)]
+
 ghost use Rattle.std.specs.Prelude.{◌≡◌};
 ghost use Rattle.graph.specs.Class.{class_of, class_place, same_class};
 

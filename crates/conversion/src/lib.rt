@@ -1,4 +1,6 @@
 // A plan from one form to the other: the image of the plan that a text holds or that a seed makes, and the text of the plan that an image holds.
+#![tactic(auto)]
+
 ghost use Rattle.generated.specs.Generated.{generated_graph};
 ghost use Rattle.rules.specs.Aldebaran.{graph_in_text, export_text};
 ghost use Rattle.rules.specs.Image.{image, graph_in};

@@ -3,6 +3,8 @@
 // A greatest figure is searched over the costs themselves: scale 1 and extra 0. A least one is searched over SCALE and extra 1, where each
 // transition weighs something: a route that visits no state twice, but perhaps its first as its last, has at most 512 transitions, so the figure is what is
 // found, divided by SCALE.
+#![tactic(auto)]
+
 ghost use Rattle.std.specs.Prelude.{◌≡◌, ℕ, ◌*◌, ◌≤◌, ◌<◌, get_or};
 ghost use Rattle.graph.specs.Route.{limit as limitOf, seconds as secondsOf, one};
 ghost use Rattle.costs.specs.Arrays.{Filled, counts_in, low_weight, high_weight, leaving_weight, count_close, no_weight, no_close};

@@ -1,1 +1,2 @@
 // The three demands. This crate has no code: they are stated in specs/, and proved in proofs/ of whatever keeps the published promises.
+#![tactic(auto)]

@@ -1,4 +1,6 @@
 // A test plan's grounds, its marks, and the transition that four draws make.
+#![tactic(auto)]
+
 ghost use Rattle.std.specs.Prelude.{◌≤◌, ◌≡◌};
 ghost use Rattle.generated.specs.Generated.{transition_from, generate_rows};
 ghost use Rattle.rules.specs.Refusal.{said};

@@ -1,5 +1,7 @@
 // The calls that make or change a plan, on the plan that three lent slices hold: each answers its number, 256 for accepted, and 255 where the slices are too
 // short to hold a plan. Each is a function of its own: in one function their plan values would stand on the stack beside each other.
+#![tactic(auto)]
+
 ghost use Rattle.arrays.specs.Tables.{transition};
 ghost use Rattle.rules.specs.Calls.{mark, team, join, unjoin, replacing};
 ghost use Rattle.slices.specs.Lent.{slices};

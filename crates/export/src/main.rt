@@ -1,4 +1,6 @@
 // Reads a plan's image on standard input and prints the plan's text, or the number that the image is refused by on standard error.
+#![tactic(auto)]
+
 use libc::STDIN_FILENO;
 
 // The octets of the longest image, and one more, which says all that read has to know of a longer input.

@@ -1,4 +1,6 @@
 // Export: the text of the plan that counts and arrays hold, put at the front of a lent buffer.
+#![tactic(auto)]
+
 ghost use Rattle.rules.specs.Aldebaran.{export_text, export_rule};
 ghost use Rattle.rules.specs.Quotations.{Write};
 ghost use Rattle.arrays.specs.Tables.{graph_of};

@@ -1,4 +1,5 @@
 // Packed fields of a slice of octets, most significant bit first. What a field is stands in specs/; crates above take and put them.
+#![tactic(auto)]
 
 // Four fields that lie one after another, by their values.
 #[derive(Drop)]

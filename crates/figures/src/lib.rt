@@ -1,4 +1,6 @@
 // Each figure of a plan: its weights, the search over them, and the walk that shows it; before that an open transition by which it is ENDLESS.
+#![tactic(auto)]
+
 ghost use Rattle.std.specs.Prelude.{true, false, List, ◌≡◌, ℕ, ◌≤◌, length};
 ghost use Rattle.costs.specs.Arrays.{no_weight, no_close};
 ghost use Rattle.costs.specs.Scaled.{divided};

@@ -1,4 +1,6 @@
 // Four lines in a row: those of the quotes of the four figures.
+#![tactic(auto)]
+
 ghost use Rattle.std.specs.Prelude.{◌^◌, ◌≤◌, ◌<◌, length};
 ghost use Rattle.graph.specs.declared.Which.{Which};
 ghost use Rattle.graph.specs.Figure.{value};

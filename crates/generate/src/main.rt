@@ -1,5 +1,7 @@
 // Reads a seed, a state count and a transition count on standard input, a line each, and prints the image of the plan that they make, or the number that it is
 // refused by on standard error.
+#![tactic(auto)]
+
 ghost use Rattle.std.specs.Prelude.{◌≡◌, length};
 
 use arguments::Arguments;

@@ -1,4 +1,6 @@
 // Test plans: a plan made from a seed and nothing else, so that it is the same one everywhere.
+#![tactic(auto)]
+
 ghost use Rattle.std.specs.Prelude.{◌≤◌, ◌<◌, length};
 ghost use Rattle.arrays.specs.Tables.{fields};
 ghost use Rattle.generated.specs.Generated.{generate_rule};

@@ -1,4 +1,6 @@
 // The words that test plans are drawn from: an additive lagged generator. Its last 55 words stand in a ring, word i in place i modulo 55.
+#![tactic(auto)]
+
 ghost use Rattle.std.specs.Prelude.{◌≡◌, ◌+◌, ◌%◌, ◌<◌, ◌≤◌, length};
 ghost use Rattle.generator.specs.Ring.{Ring, Drawn, DrawsFour};
 

@@ -1,5 +1,6 @@
 // State graphs, walks, routes and figures. This crate has no code but a name for each figure, class of teams and thing that is quoted, and the two cases of a duration: all
 // else is definitions, in specs/, and theorems, in proofs/.
+#![tactic(auto)]
 
 // The four figures, in the record's order.
 #[derive(Drop)]

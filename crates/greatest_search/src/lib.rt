@@ -1,4 +1,6 @@
 // The greatest cost of a route over lent arrays, any cost, from what the starts reach, with the walk that shows it.
+#![tactic(auto)]
+
 ghost use Rattle.std.specs.Prelude.{ℕ, ◌≤◌, length};
 ghost use Rattle.arrays.specs.Tables.{cost_of};
 ghost use Rattle.graph.specs.Graph.{Graph};

@@ -1,4 +1,6 @@
 // The grounds on which edits of a plan are refused, apart from the plan value: the rows of mark, team, join and unjoin in their order.
+#![tactic(auto)]
+
 ghost use Rattle.std.specs.Prelude.{◌∷◌, ◌≡◌};
 ghost use Rattle.rules.specs.Refusal.{said};
 ghost use Rattle.rules.specs.Rules.{limits_row, mark_grounds, team_grounds, join_grounds, unjoin_grounds};

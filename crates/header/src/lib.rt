@@ -1,4 +1,6 @@
 // The header of an image: its four fields, read and tested.
+#![tactic(auto)]
+
 ghost use Rattle.std.specs.Prelude.{◌≡◌, ◌+◌, ◌<◌, ◌^◌};
 ghost use Rattle.header.specs.Header.{HeaderRead};
 

@@ -1,4 +1,6 @@
 // The grounds on which an image is refused by its header, apart from reading it, and the length that its counts give.
+#![tactic(auto)]
+
 ghost use Rattle.std.specs.Prelude.{◌≡◌, ◌≤◌, length};
 ghost use Rattle.field.specs.Field.{four_at};
 ghost use Rattle.rules.specs.Image.{header_rows, image_length, version_ok};

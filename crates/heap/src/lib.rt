@@ -1,5 +1,7 @@
 // The pending states, nearest first: a heap of four branches over their keys, and the place of each state in it. The order is a matter of speed
 // alone: whoever uses it settles every key that it left too high.
+#![tactic(auto)]
+
 ghost use Rattle.std.specs.Prelude.{ℕ, ◌≤◌, ◌<◌};
 ghost use Rattle.search.specs.Arrays.{Below};
 

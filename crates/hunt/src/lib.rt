@@ -1,4 +1,6 @@
 // The hunt for a dead end among the states that the search entered, those that unfinished walks reach.
+#![tactic(auto)]
+
 ghost use Rattle.std.specs.Prelude.{List, ℕ};
 ghost use Rattle.search.specs.Arrays.{arrays};
 ghost use Rattle.hunt.specs.Hunted.{Entered, Hunted};

@@ -1,4 +1,5 @@
 // A plan's image, read into the arrays that hold its marks, teams and transitions: its header, states and transitions as packed fields.
+#![tactic(auto)]
 
 pub mod reading;
 

@@ -1,5 +1,7 @@
 // The items of an image: the four fields of its header, of a state and of a transition, each taken at a bit position that the reader moves behind them, and
 // counted. All fields of an image are taken here.
+#![tactic(auto)]
+
 ghost use Rattle.std.specs.Prelude.{◌≡◌, ◌+◌, ◌<◌, ◌^◌};
 ghost use Rattle.field.specs.Field.{Spans, four_at};
 

@@ -1,4 +1,6 @@
 // Reads a plan's text on standard input and prints the plan's image, or the number that the text is refused by on standard error.
+#![tactic(auto)]
+
 ghost use Rattle.std.specs.Prelude.{◌≡◌, length};
 
 use libc::STDIN_FILENO;

@@ -1,5 +1,7 @@
 // A plan's text, read into the arrays that hold its marks, teams and transitions. It is gone over once: the form decides first, so the first ground of another kind is kept until
 // the end of the text was seen.
+#![tactic(auto)]
+
 ghost use Rattle.std.specs.Prelude.{◌≡◌, ◌≤◌, ◌<◌, length};
 ghost use Rattle.rules.specs.Aldebaran.{first_rows};
 ghost use Rattle.rules.specs.Refusal.{said};

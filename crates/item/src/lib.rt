@@ -1,5 +1,7 @@
 // One item of a list of calls, made on the plan that three lent slices hold. Each call is made by its own function, on the slices, so that no plan value is left
 // on the stack between two calls.
+#![tactic(auto)]
+
 ghost use Rattle.std.specs.Prelude.{◌≡◌, true, ◌≤◌, ◌<◌, ◌/◌, length};
 ghost use Rattle.calls.specs.Slices.{call_of, call_in, is_one, is_call, item_at};
 ghost use Rattle.edits.specs.Lent.{LentTurn};

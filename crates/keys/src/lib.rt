@@ -1,5 +1,7 @@
 // Keys of the states of a graph in lent arrays: a key is a bound from above on what a route from the state costs. Whatever keys there are, every one that could be
 // lowered to less than what the best first step costs is lowered; where a search has spread them nearest first, one pass over the transitions finds that there is none.
+#![tactic(auto)]
+
 ghost use Rattle.std.specs.Prelude.{List, ℕ, ◌≤◌, ◌<◌, length};
 ghost use Rattle.search.specs.Arrays.{arrays, at};
 ghost use Rattle.search.specs.Chain.{Chains};

@@ -1,4 +1,6 @@
 // The least cost of a route over lent arrays, any cost, with a route that attains it: from what the starts reach, or nearest first.
+#![tactic(auto)]
+
 ghost use Rattle.std.specs.Prelude.{◌≤◌, length};
 ghost use Rattle.arrays.specs.Tables.{cost_of};
 ghost use Rattle.graph.specs.Graph.{Graph};

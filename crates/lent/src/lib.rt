@@ -1,5 +1,7 @@
 // Quotations of the plan that three lent slices hold, with their answers in lent places, and fillings of a lent buffer: each one function, by an index. A call answers
 // a refusal by its number and 256 for accepted, a filling 256 plus the octets' number, and 255 where the slices are too short to hold a plan.
+#![tactic(auto)]
+
 ghost use Rattle.plan.specs.View.{view};
 ghost use Rattle.rules.specs.Quotations.{Write};
 ghost use Rattle.slices.specs.Lent.{slices};

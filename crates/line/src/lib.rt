@@ -1,4 +1,6 @@
 // Puts a line that quote prints into a lent buffer: the line of a quote with its walk, or of a refusal.
+#![tactic(auto)]
+
 ghost use Rattle.std.specs.Prelude.{◌+◌, ◌≤◌, length};
 ghost use Rattle.rules.specs.Quotations.{meant, SmallQuote};
 ghost use Rattle.text.specs.Put.{Put};

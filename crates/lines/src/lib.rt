@@ -1,4 +1,6 @@
 // The lines that quote prints for an image: its four quotations, or the number that it is refused by.
+#![tactic(auto)]
+
 ghost use Rattle.lines.specs.Printed.{Printed};
 
 use rules::{Quotations, Refusal, Written};

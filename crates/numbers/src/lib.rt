@@ -1,4 +1,6 @@
 // Refusals and figures as numbers: a refusal's number in the table, and the kind and the number of a figure in the record.
+#![tactic(auto)]
+
 ghost use Rattle.std.specs.Prelude.{◌≡◌};
 ghost use Rattle.graph.specs.Figure.{kind as kind_of, value as value_of};
 ghost use Rattle.rules.specs.Quotations.{meant};

@@ -1,4 +1,6 @@
 // Open transitions among those that leave the states which the search entered: the hunt for one, for the greatest delay alone, and the walk that shows it.
+#![tactic(auto)]
+
 ghost use Rattle.std.specs.Prelude.{true, List, ◌≡◌, ℕ, ◌≤◌, ◌<◌, length};
 ghost use Rattle.graph.specs.Figure.{IsGreatest};
 ghost use Rattle.graph.specs.Graph.{Graph};

@@ -1,5 +1,7 @@
 // The call plan: its edits, its image and its text. Every call takes the plan, p as in the definitions, by value, refuses bad input by its row of the table, and
 // returns a plan.
+#![tactic(auto)]
+
 ghost use Rattle.std.specs.Prelude.{◌≡◌};
 ghost use Rattle.rules.specs.declared.Format.TheVariants.{Image};
 ghost use Rattle.rules.specs.Limits.{within as withinLimits};

@@ -1,4 +1,6 @@
 // The limits of a plan, over its counts and the arrays that hold its states and transitions.
+#![tactic(auto)]
+
 ghost use Rattle.std.specs.Prelude.{◌≡◌};
 ghost use Rattle.rules.specs.Limits.{within};
 ghost use Rattle.arrays.specs.Tables.{graph_of};

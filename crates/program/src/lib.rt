@@ -1,5 +1,7 @@
 // What the programs share. A program in Rattle has no exit status: it writes one octet to descriptor 3, the status that its launcher ends with
 // (programs/launch).
+#![tactic(auto)]
+
 ghost use Rattle.std.specs.Prelude.{◌≡◌, ℕ, ◌≤◌, length};
 ghost use Rattle.rules.specs.declared.Refusal.TheVariants.{BufferLength};
 ghost use Rattle.rules.specs.declared.Written.{Written};

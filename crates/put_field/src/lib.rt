@@ -1,4 +1,6 @@
 // A packed field put at any bit position of a slice of octets, every other bit left.
+#![tactic(auto)]
+
 ghost use Rattle.std.specs.Prelude.{◌≡◌, ◌^◌, ◌<◌};
 ghost use Rattle.field.specs.Field.{Within, with_field};
 

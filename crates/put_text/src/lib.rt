@@ -1,5 +1,7 @@
 // Words, decimal numbers and lists of numbers, put into a lent slice of octets from a place on. Every function returns the place after what it put, so that
 // the next one goes on from there. The caller has seen to room.
+#![tactic(auto)]
+
 ghost use Rattle.std.specs.Prelude.{◌+◌, ◌≤◌, ◌≡◌, length, take};
 ghost use Rattle.text.specs.Text.{digits, spaced, listed};
 ghost use Rattle.text.specs.Put.{Put};

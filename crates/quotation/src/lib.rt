@@ -1,5 +1,7 @@
 // The quotations of a plan, one by one and all four at once, and the record of its figures. Each call takes the plan by value, refuses bad input by its row of
 // the table, and writes the walk that it shows, or the record, to the front of a lent slice.
+#![tactic(auto)]
+
 ghost use Rattle.std.specs.Prelude.{List, ◌≡◌, ℕ, ◌<◌, length};
 ghost use Rattle.graph.specs.declared.Asked.TheVariants.{One, LeastCountFor, GreatestCountFor};
 ghost use Rattle.graph.specs.declared.Which.TheVariants.{LeastDelay, GreatestDelay, LeastCount, GreatestCount};

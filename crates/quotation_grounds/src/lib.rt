@@ -1,4 +1,6 @@
 // The grounds on which a quotation is refused, apart from the plan value: the plan's limits, the team that it names, then the lent places.
+#![tactic(auto)]
+
 ghost use Rattle.std.specs.Prelude.{[], ◌∷◌, ◌++◌, ◌≡◌, ltb};
 ghost use Rattle.graph.specs.Class.{name_ok};
 ghost use Rattle.rules.specs.declared.Refusal.TheVariants.{BufferLength};

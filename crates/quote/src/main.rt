@@ -1,4 +1,6 @@
 // Reads an image on standard input and prints its four figures with their walks, or the number that it is refused by.
+#![tactic(auto)]
+
 use libc::STDIN_FILENO;
 use rules::Written;
 

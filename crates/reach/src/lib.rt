@@ -1,4 +1,6 @@
 // What the starts of a graph in lent arrays reach: one depth-first search through the starts and the unfinished states that they reach, and the hunt for a dead end.
+#![tactic(auto)]
+
 pub mod explore;
 
 // What the search from the starts found: no start; a loop, from a stack of so many states back to a place on it; a dead end; or neither, with so

@@ -1,4 +1,6 @@
 // The fields of the quotation record, put into a lent buffer: for each figure a kind of 2 bits and a number of 20.
+#![tactic(auto)]
+
 ghost use Rattle.std.specs.Prelude.{◌≡◌, ◌≤◌, ◌<◌, ◌^◌, length};
 ghost use Rattle.field.specs.Field.{Within, put_all};
 ghost use Rattle.graph.specs.declared.Which.{Which};

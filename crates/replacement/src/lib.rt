@@ -1,4 +1,6 @@
 // The octets that are to replace a plan, taken into arrays by what they are: an image or a text.
+#![tactic(auto)]
+
 ghost use Rattle.std.specs.Prelude.{◌≤◌, ◌<◌, ◌^◌, length};
 ghost use Rattle.arrays.specs.Tables.{fields};
 ghost use Rattle.text_lines.specs.Lines.{Room};

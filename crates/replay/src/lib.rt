@@ -1,4 +1,6 @@
 // A list of calls, lent as slices of numbers: made in turn from a fresh plan on the plan that three more lent slices hold, and the last plan quoted.
+#![tactic(auto)]
+
 ghost use Rattle.slices.specs.Lent.{slices};
 ghost use Rattle.replay.specs.Replayed.{LentReplay, places};
 

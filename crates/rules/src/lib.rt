@@ -1,4 +1,5 @@
 // The grounds on which a call is refused, and the answers of calls that edit a plan or fill a lent buffer. The rules themselves are definitions, in specs/.
+#![tactic(auto)]
 
 // A row of document 01's table of refused calls, as document 02 has changed it. specs/Refusal.antt gives the number of each.
 #[derive(Drop)]

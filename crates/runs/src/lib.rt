@@ -1,4 +1,6 @@
 // A list of calls, lent as slices of numbers, made in turn on the plan that three more lent slices hold.
+#![tactic(auto)]
+
 ghost use Rattle.calls.specs.Slices.{calls_in};
 ghost use Rattle.slices.specs.Lent.{Roomy, slices};
 ghost use Rattle.runs.specs.Turns.{Callable, LentTurns};

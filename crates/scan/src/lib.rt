@@ -1,5 +1,7 @@
 // Fixed words and decimal numbers, read from lent octets from a place on. A place says whether all was on form so far, so that one thing is read after another
 // without a test between them. A number may have any length: it is cut off where no test looks any more.
+#![tactic(auto)]
+
 ghost use Rattle.std.specs.Prelude.{true, false, ◌≡◌, ◌+◌, ◌≤◌, length, drop};
 ghost use Rattle.aldebaran.specs.Form.{is_digit, is_numeral, front};
 ghost use Rattle.scan.specs.Places.{Sound, standing, word_then, number_then, WordAt, more as moreOf, DigitsAt, Tells};

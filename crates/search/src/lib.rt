@@ -1,5 +1,7 @@
 // What the searches over arrays share: marks, transitions by state, and routes read off values. A graph is lent as its marks values and its
 // transitions' ends, a cost as a weight for each transition and a close for each state.
+#![tactic(auto)]
+
 pub mod chain;
 pub mod route;
 

@@ -1,4 +1,6 @@
 // The figures of a plan within the limits, with the walks that show them: what is asked for, or all four, by one search for what the starts reach.
+#![tactic(auto)]
+
 ghost use Rattle.std.specs.Prelude.{true, ◌≡◌, ◌≤◌, length};
 ghost use Rattle.plan.specs.View.{plan_of, view};
 ghost use Rattle.rules.specs.Limits.{within};

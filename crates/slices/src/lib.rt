@@ -2,6 +2,8 @@
 // high. Whether they have the room, a plan value loaded from them, and one stored in them,
 // by itself or as the plan of an accepted call. A call on the plan that they hold leaves the places past the new plan's counts, so only those up to them are
 // stored.
+#![tactic(auto)]
+
 ghost use Rattle.std.specs.Prelude.{◌≡◌, ◌+◌, ◌≤◌, length, take, drop};
 ghost use Rattle.std.proofs.Math.Seq.{paste};
 ghost use Rattle.slices.specs.Lent.{Roomy, roomy, lent_plan, plan_in, slices, storing, Finished, Updates};

@@ -1,4 +1,6 @@
 // Keys spread from the final states back, nearest first, until no nearer first step is left to find.
+#![tactic(auto)]
+
 ghost use Rattle.std.specs.Prelude.{cond, List, ◌≡◌, ℕ, ◌+◌, ◌≤◌, ◌<◌, min, length};
 ghost use Rattle.search.specs.Arrays.{arrays, at, Bounded, Below};
 ghost use Rattle.search.specs.Chain.{Chains};

@@ -1,4 +1,6 @@
 // The states that are marked start, counted over the array that holds a plan's marks.
+#![tactic(auto)]
+
 ghost use Rattle.std.specs.Prelude.{◌≤◌};
 ghost use Rattle.starts.specs.Found.{starts_in, Found};
 

@@ -1,4 +1,6 @@
 // Numbers put into octets, most significant octet first: four packed fields that fill octets are put at once.
+#![tactic(auto)]
+
 ghost use Rattle.std.specs.Prelude.{◌≡◌, ◌+◌, ◌*◌, ◌%◌, ◌^◌, ◌≤◌, ◌<◌, length};
 ghost use Rattle.field.specs.Field.{Spans, AllFit, fields_of, put_all, stored};
 

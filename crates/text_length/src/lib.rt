@@ -1,4 +1,6 @@
 // The length of a plan's text, from the arrays that hold its transitions.
+#![tactic(auto)]
+
 ghost use Rattle.std.specs.Prelude.{◌≡◌, ◌*◌, ◌≤◌, length};
 ghost use Rattle.aldebaran.specs.Text.{line_text, lines_text, text_of};
 ghost use Rattle.arrays.specs.Tables.{transition, transitions_of};

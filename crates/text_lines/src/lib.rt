@@ -1,5 +1,7 @@
 // The transitions' lines of a plan's text, read into the arrays that hold its transitions. The form of every line is looked at; of the grounds only the first one is
 // kept, and after it nothing more is stored.
+#![tactic(auto)]
+
 ghost use Rattle.std.specs.Prelude.{◌≡◌, ◌≤◌, ◌<◌, length, drop};
 ghost use Rattle.rules.specs.declared.Answer.TheVariants.{Accepted};
 ghost use Rattle.aldebaran.specs.Text.{read_lines};

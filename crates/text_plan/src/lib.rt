@@ -1,4 +1,6 @@
 // A plan made of a text and nothing else: the text is imported over a fresh plan.
+#![tactic(auto)]
+
 ghost use Rattle.rules.specs.declared.Format.TheVariants.{Text};
 ghost use Rattle.plan.specs.Promise.{Held};
 

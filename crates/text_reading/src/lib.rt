@@ -1,4 +1,6 @@
 // The lines of a plan's text, read from lent octets: the numbers of the first line, and those of a transition's.
+#![tactic(auto)]
+
 ghost use Rattle.aldebaran.specs.Text.{first_form, line_form};
 ghost use Rattle.scan.specs.Places.{Sound};
 ghost use Rattle.text_reading.specs.Forms.{form_then, TellsForm, first_numbers, line_numbers, begin};

@@ -1,4 +1,6 @@
 // A plan's text, put into a lent buffer from the arrays that hold its transitions: the first line, and a line for each transition.
+#![tactic(auto)]
+
 ghost use Rattle.std.specs.Prelude.{◌++◌, ◌+◌, ◌≤◌, length};
 ghost use Rattle.aldebaran.specs.Text.{line_text, lines_text, text_of};
 ghost use Rattle.arrays.specs.Tables.{transition, transitions_of};

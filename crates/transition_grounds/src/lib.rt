@@ -1,4 +1,6 @@
 // The grounds on which a transition is refused, in the calls that are given transitions.
+#![tactic(auto)]
+
 ghost use Rattle.std.specs.Prelude.{◌&&◌, ◌≡◌, leb};
 ghost use Rattle.rules.specs.Image.{transition_rows};
 ghost use Rattle.rules.specs.Refusal.{said};

@@ -1,4 +1,6 @@
 // Walks from what the search left behind: along the stack for a loop, and up the tree from a state to the start that it was reached from.
+#![tactic(auto)]
+
 ghost use Rattle.std.specs.Prelude.{List, ◌≡◌, ℕ, ◌≤◌, ◌<◌, length, drop};
 ghost use Rattle.search.specs.Arrays.{at};
 ghost use Rattle.tree.specs.Tree.{Climbable, Climbs, Climbed};

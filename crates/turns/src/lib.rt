@@ -1,6 +1,8 @@
 // A turn of the depth-first search through the starts and the unfinished states of a graph in lent arrays: the state on top of the stack is left, passes a transition, or
 // the state that it leads to is entered. A final state that a walk arrives at ends it, also where it is on the stack as the walk's start; a step to an unfinished state on the
 // stack is a walk that goes on forever.
+#![tactic(auto)]
+
 ghost use Rattle.std.specs.Prelude.{List, ◌≡◌, ℕ, ◌+◌, ◌<◌, set};
 ghost use Rattle.search.specs.Arrays.{arrays, at};
 ghost use Rattle.turns.specs.Search.{table, Underway, Turned};

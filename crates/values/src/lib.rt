@@ -1,5 +1,7 @@
 // The least or the greatest cost of a route over lent arrays, any cost, where the starts reach neither a loop nor a dead end, with a route that attains it: values,
 // what the best route from each state costs, are filled in the order in which the search left the states.
+#![tactic(auto)]
+
 ghost use Rattle.std.specs.Prelude.{List, ℕ, ◌≤◌, length};
 ghost use Rattle.arrays.specs.Tables.{cost_of};
 ghost use Rattle.graph.specs.Graph.{Graph};

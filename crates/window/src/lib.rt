@@ -1,5 +1,7 @@
 // The octets that hold packed fields, at most six, make one number, their window, and a field is a part of the window: four fields are taken at once from any
 // bit position, one after another.
+#![tactic(auto)]
+
 ghost use Rattle.std.specs.Prelude.{◌≡◌, ◌+◌, ◌/◌, ◌%◌, ◌^◌, ◌≤◌, ◌<◌, length, get_or};
 ghost use Rattle.std.proofs.Math.Seq.{slice};
 ghost use Rattle.field.specs.Field.{Spans, bits, number, four_at};

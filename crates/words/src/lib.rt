@@ -1,4 +1,6 @@
 // Puts the words of a line into a lent buffer: a figure's name, and its number or kind.
+#![tactic(auto)]
+
 ghost use Rattle.std.specs.Prelude.{◌+◌, ◌≤◌, length};
 ghost use Rattle.rules.specs.Quotations.{meant};
 ghost use Rattle.text.specs.Put.{Put};

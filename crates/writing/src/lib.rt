@@ -1,4 +1,6 @@
 // A plan's image, of version 2, written from the arrays that hold its marks, teams and transitions: its header, states and transitions as packed fields.
+#![tactic(auto)]
+
 ghost use Rattle.std.specs.Prelude.{◌≡◌, ◌+◌, ◌*◌, ◌%◌, ◌≤◌, ◌<◌, length, true};
 ghost use Rattle.field.specs.Field.{Spans, AllFit, put_all};
 ghost use Rattle.graph.specs.Graph.{state_with};

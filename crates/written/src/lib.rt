@@ -1,4 +1,6 @@
 // Write: the image of the plan that counts and arrays hold, put at the front of a lent buffer.
+#![tactic(auto)]
+
 ghost use Rattle.rules.specs.Image.{image};
 ghost use Rattle.rules.specs.Quotations.{Write};
 ghost use Rattle.rules.specs.Rules.{write_rule};
