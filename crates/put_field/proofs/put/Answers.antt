@@ -5,6 +5,7 @@ use Prim.Native.Nat.{ℕ, ◌+◌, ◌-◌, ◌*◌, ◌/◌, ◌%◌, ◌^◌, 
 use mathlib.Core.Path.{◌≡◌, ap, ◌∙◌}
 use native.Mathlib.Nat.{lt_of_lt_of_le}
 use native.Mathlib.Omega.{arith}
+use Rattle.std.proofs.Common.{rules}
 use lib.Bits.{bit_and}
 use lib.Pow.{pow_mono}
 use lib.ListN.{length}
@@ -13,9 +14,6 @@ use mathlib.Core.List.{List}
 use Rattle.field.specs.Field.{Within, number, bits, stored}
 use Rattle.field.proofs.Windows.{masked, window_lt, with_part, part-lt, shifted_lt, part-exact, stored-with_field}
 use Rattle.put_field.proofs.put.Goals as goal
-use Rattle.put_field.proofs.put.Tie as tie
-use Rattle.put_field.proofs.put.Lts as lts
-use Rattle.put_field.proofs.put.Reads as reads
 
 -- the machine's number is the window with the part made v
 machine : (n w a v : ℕ) → n < 2 ^ 40 → with_part n w a v < 2 ^ 40 → a < 64
@@ -46,36 +44,28 @@ known n os at w v h hv e =
           (pow_mono {i = 8 * (end_of at w - at / 8)} {j = 40} (omega arith)));
     }
 
-at-window : (c : lts.After-window tie.the-claims reads.Pre reads.Post) → Known c.window-whole.result c.args.octets.now c.args.at c.args.width c.args.value
-at-window c =
-    let a = c.args in
-    known c.window-whole.result a.octets.now a.at a.width a.value c.requires.within c.requires.value_bound c.window-whole.ensures
-
 pub overflow_add-before : goal.overflow_add-before
 overflow_add-before c =
     let a = c.args in
-    let k = at-window c.before.before in
+    let k = known c.window-whole.result a.octets.now a.at a.width a.value c.requires.within c.requires.value_bound c.window-whole.ensures in
     let h = shifted_lt c.window-whole.result a.width (8 * end_of a.at a.width - (a.at + a.width)) a.value k.small k.part in
     omega (arith, h)
 
 pub overflow_add-before-2 : goal.overflow_add-before-2
 overflow_add-before-2 c =
     let a = c.args in
-    let k = at-window c.before.before in
+    let k = known c.window-whole.result a.octets.now a.at a.width a.value c.requires.within c.requires.value_bound c.window-whole.ensures in
     let e = machine c.window-whole.result a.width (8 * end_of a.at a.width - (a.at + a.width)) a.value k.small k.part (omega arith) in
-    record { fits = rw e (omega (arith, k.part)) }
+    rw e (omega (arith, k.part))
 
 pub returns : goal.returns
 returns c =
-    let s = c.before.before.before in
-    let w = s.before.before in
-    let a = w.args in
-    let o = w.slice_known-1.given in
-    let k = at-window w in
+    let a = c.args in
+    let k = known c.window-whole.result a.octets.now a.at a.width a.value c.requires.within c.requires.value_bound c.window-whole.ensures in
     let after : ℕ = 8 * end_of a.at a.width - (a.at + a.width) in
-    s.store.ensures
+    c.store.ensures
     ∙ ap (λ (n : ℕ). stored a.octets.now (a.at / 8) (end_of a.at a.width) n)
-    (machine w.window-whole.result a.width after a.value k.small k.part (omega arith)
+    (machine c.window-whole.result a.width after a.value k.small k.part (omega arith)
     ∙ ap (λ (n : ℕ). with_part n a.width after a.value) k.is)
-    ∙ stored-with_field a.octets.now a.at a.width a.value (a.at / 8) (end_of a.at a.width) (omega arith) (omega arith) (omega arith) w.requires.value_bound
-    (λ i. (o i).fits)
+    ∙ stored-with_field a.octets.now a.at a.width a.value (a.at / 8) (end_of a.at a.width) (omega arith) (omega arith) (omega arith) c.requires.value_bound
+    (search rules)
