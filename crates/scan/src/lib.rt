@@ -10,7 +10,7 @@ ghost use Rattle.scan.specs.Places.{Sound, standing, word_then, number_then, Wor
 pub const MANY: usize = 10_000_000_000_000_000_000;
 
 // A place in a text: whether all before it was on form, and how many octets that was.
-#[derive(Drop)]
+#[derive(Clone, Copy)]
 pub struct Place {
     pub on: bool,
     pub at: usize,
