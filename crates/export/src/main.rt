@@ -1,28 +1,28 @@
 // Reads a plan's image on standard input and prints the plan's text, or the number that the image is refused by on standard error.
 #![tactic(auto)]
 
-use libc::STDIN_FILENO;
+use std::process::ExitCode;
 
 // The octets of the longest image, and one more, which says all that read has to know of a longer input.
 const ENOUGH: usize = 10_757;
 
 // Prints the text of the plan that an image holds.
-fn print(image: &[u8]) {
+fn print(rt: &HostRuntime, image: &[u8]) -> ExitCode {
     let mut buffer = [0u8; conversion::TEXT_ROOM];
     let result = conversion::to_text(image, &mut buffer);
     program::written(
+        rt,
         result,
         &buffer,
         b"export: standard output cannot be written\n",
-    );
+    )
 }
 
-fn main() {
+fn main(rt: HostRuntime) -> ExitCode {
     let mut octets = [0u8; ENOUGH];
-    let n = io::read_full(STDIN_FILENO, &mut octets);
-    if !program::is_read(n, ENOUGH) {
-        program::fault(b"export: standard input cannot be read\n");
-        return;
+    let n = program::read_full(&rt, &mut octets);
+    if !program::is_read(&rt, n, ENOUGH) {
+        return program::fault(&rt, b"export: standard input cannot be read\n");
     }
-    print(&octets[..n]);
+    print(&rt, &octets[..n])
 }

@@ -5,8 +5,8 @@
 ghost use Rattle.std.specs.Prelude.{◌≡◌, length};
 
 use arguments::Arguments;
-use libc::STDIN_FILENO;
 use program::Status;
+use std::process::ExitCode;
 
 // The octets of the longest arguments that are answered, 393,216, and one more, by which longer ones are known: three lines of 131,072, as long as Linux hands on.
 const ENOUGH: usize = 393_217;
@@ -19,18 +19,19 @@ fn room() -> [u8; ENOUGH]
 }
 
 // Prints the image of the plan that a seed makes.
-fn print(seed: u32, states: usize, transitions: usize) {
+fn print(rt: &HostRuntime, seed: u32, states: usize, transitions: usize) -> ExitCode {
     let mut buffer = [0u8; conversion::IMAGE_ROOM];
     let result = conversion::of_seed(seed, states, transitions, &mut buffer);
     program::written(
+        rt,
         result,
         &buffer,
         b"generate: standard output cannot be written\n",
-    );
+    )
 }
 
 // Answers the arguments: by an image, by a refusal, or by how the program is used.
-fn answer(octets: &[u8]) {
+fn answer(rt: &HostRuntime, octets: &[u8]) -> ExitCode {
     let arguments = arguments::read(octets);
     match arguments {
         Arguments::Misused => program::end(Status::Misused),
@@ -38,20 +39,18 @@ fn answer(octets: &[u8]) {
             seed,
             states,
             transitions,
-        } => print(seed, states, transitions),
+        } => print(rt, seed, states, transitions),
     }
 }
 
-fn main() {
+fn main(rt: HostRuntime) -> ExitCode {
     let mut octets = room();
-    let n = io::read_full(STDIN_FILENO, &mut octets);
-    if !program::is_read(n, ENOUGH) {
-        program::fault(b"generate: standard input cannot be read\n");
-        return;
+    let n = program::read_full(&rt, &mut octets);
+    if !program::is_read(&rt, n, ENOUGH) {
+        return program::fault(&rt, b"generate: standard input cannot be read\n");
     }
     if n == ENOUGH {
-        program::fault(b"generate: more than 393,216 octets of arguments\n");
-        return;
+        return program::fault(&rt, b"generate: more than 393,216 octets of arguments\n");
     }
-    answer(&octets[..n]);
+    answer(&rt, &octets[..n])
 }

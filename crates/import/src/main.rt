@@ -3,7 +3,7 @@
 
 ghost use Rattle.std.specs.Prelude.{◌≡◌, length};
 
-use libc::STDIN_FILENO;
+use std::process::ExitCode;
 
 // The octets of the longest text that is answered, 1,048,576, and one more, by which a longer one is known: what it is refused by can depend on all of it.
 const ENOUGH: usize = 1_048_577;
@@ -16,26 +16,28 @@ fn room() -> [u8; ENOUGH]
 }
 
 // Prints the image of the plan that a text holds.
-fn print(text: &[u8]) {
+fn print(rt: &HostRuntime, text: &[u8]) -> ExitCode {
     let mut buffer = [0u8; conversion::IMAGE_ROOM];
     let result = conversion::to_image(text, &mut buffer);
     program::written(
+        rt,
         result,
         &buffer,
         b"import: standard output cannot be written\n",
-    );
+    )
 }
 
-fn main() {
+fn main(rt: HostRuntime) -> ExitCode {
     let mut octets = room();
-    let n = io::read_full(STDIN_FILENO, &mut octets);
-    if !program::is_read(n, ENOUGH) {
-        program::fault(b"import: standard input cannot be read\n");
-        return;
+    let n = program::read_full(&rt, &mut octets);
+    if !program::is_read(&rt, n, ENOUGH) {
+        return program::fault(&rt, b"import: standard input cannot be read\n");
     }
     if n == ENOUGH {
-        program::fault(b"import: more than 1,048,576 octets on standard input\n");
-        return;
+        return program::fault(
+            &rt,
+            b"import: more than 1,048,576 octets on standard input\n",
+        );
     }
-    print(&octets[..n]);
+    print(&rt, &octets[..n])
 }

@@ -1,13 +1,13 @@
-// What the programs share. A program in Rattle has no exit status: it writes one octet to descriptor 3, the status that its launcher ends with
-// (programs/launch).
+// What the programs share. A program ends with the status that says how: its launcher goes by it (programs/launch).
 #![tactic(auto)]
 
 ghost use Rattle.std.specs.Prelude.{◌≡◌, ℕ, ◌≤◌, length};
 ghost use Rattle.rules.specs.declared.Refusal.TheVariants.{BufferLength};
 ghost use Rattle.rules.specs.declared.Written.{Written};
 
-use libc::{STDERR_FILENO, STDIN_FILENO, STDOUT_FILENO};
 use rules::{Refusal, Written};
+use std::io::{Print, Read};
+use std::process::ExitCode;
 
 // How a program ends: its answer printed; refused, where the answer is an image or a text; its input not read or its output not written; or its arguments none
 // of those that it takes, and then the launcher says how it is used.
@@ -19,41 +19,53 @@ pub enum Status {
     Misused,
 }
 
-// The launcher's descriptor for the status. Where nobody launched the program it is closed, and the status is lost.
-const STATUS_FILENO: i32 = 3;
-
-// Says how the program ends.
-pub fn end(status: Status) {
+// The status of a program that ends so.
+pub fn end(status: Status) -> ExitCode {
     match status {
-        Status::Answered => io::write_all(STATUS_FILENO, b"0"),
-        Status::Refused => io::write_all(STATUS_FILENO, b"1"),
-        Status::Faulty => io::write_all(STATUS_FILENO, b"2"),
-        Status::Misused => io::write_all(STATUS_FILENO, b"3"),
-    };
+        Status::Answered => ExitCode::SUCCESS,
+        Status::Refused => ExitCode::from(1),
+        Status::Faulty => ExitCode::from(2),
+        Status::Misused => ExitCode::from(3),
+    }
 }
 
-// Ends with a line on standard error.
-pub fn fault(line: &[u8]) {
-    io::write_all(STDERR_FILENO, line);
-    end(Status::Faulty);
+// Ends with a line on standard error, which is lost where it cannot be written.
+pub fn fault(rt: &HostRuntime, line: &[u8]) -> ExitCode {
+    rt.stderr().write_all(line).ok();
+    end(Status::Faulty)
+}
+
+// Reads standard input until the places are full, the input ends or a read fails, and says how many octets it put at their front.
+pub fn read_full(rt: &HostRuntime, octets: &mut [u8]) -> usize
+    ensures { result ≤ length octets.new }
+{
+    let mut input = rt.stdin();
+    let mut done = 0;
+    while done < octets.len() {
+        match input.read(&mut octets[done..]) {
+            Ok(0) => break,
+            Ok(n) => done += n,
+            Err(_) => break,
+        }
+    }
+    done
 }
 
 // Whether standard input, of which n octets were read, holds that many or is known to hold enough. After a read that failed it is not at its end: the
 // next one fails too, or finds more.
-pub fn is_read(n: usize, enough: usize) -> bool {
+pub fn is_read(rt: &HostRuntime, n: usize, enough: usize) -> bool {
     if n >= enough {
         return true;
     }
     let mut more = [0u8; 1];
-    libc::read(STDIN_FILENO, &mut more) == 0
+    matches!(rt.stdin().read(&mut more), Ok(0))
 }
 
 // Prints the answer and ends; with the line on standard error where it cannot be written.
-pub fn answer(text: &[u8], line: &[u8]) {
-    if io::write_all(STDOUT_FILENO, text) {
-        end(Status::Answered);
-    } else {
-        fault(line);
+pub fn answer(rt: &HostRuntime, text: &[u8], line: &[u8]) -> ExitCode {
+    match rt.stdout().write_all(text) {
+        Ok(()) => end(Status::Answered),
+        Err(_) => fault(rt, line),
     }
 }
 
@@ -61,21 +73,21 @@ pub fn answer(text: &[u8], line: &[u8]) {
 const REFUSED_ROOM: usize = 19;
 
 // Ends with the line of a refusal on standard error.
-fn refused(refusal: Refusal) {
+fn refused(rt: &HostRuntime, refusal: Refusal) -> ExitCode {
     let mut buffer = [0u8; REFUSED_ROOM];
     let length = line::refused(&mut buffer, 0, numbers::number(refusal));
-    io::write_all(STDERR_FILENO, &buffer[..length]);
-    end(Status::Refused);
+    rt.stderr().write_all(&buffer[..length]).ok();
+    end(Status::Refused)
 }
 
 // Ends a program that prints an image or a text: with what was put at the front of the buffer, or with the refusal. The buffer has room for any answer, so
 // 11 is never told.
-pub fn written(res: Written, buffer: &[u8], line: &[u8])
-    requires by_index { (n : ℕ) → res ≡ Written.Length n → n ≤ length buffer.now }
-    requires fact { res ≡ Written.Refused BufferLength → ⊥ }
+pub fn written(rt: &HostRuntime, res: Written, buffer: &[u8], line: &[u8]) -> ExitCode
+    requires within { (n : ℕ) → res ≡ Written.Length n → n ≤ length buffer.now }
+    requires room { res ≡ Written.Refused BufferLength → ⊥ }
 {
     match res {
-        Written::Length(length) => answer(&buffer[..length], line),
-        Written::Refused(refusal) => refused(refusal),
+        Written::Length(length) => answer(rt, &buffer[..length], line),
+        Written::Refused(refusal) => refused(rt, refusal),
     }
 }

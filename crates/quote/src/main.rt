@@ -1,30 +1,32 @@
 // Reads an image on standard input and prints its four figures with their walks, or the number that it is refused by.
 #![tactic(auto)]
 
-use libc::STDIN_FILENO;
+use program::Status;
 use rules::Written;
+use std::process::ExitCode;
 
 // The octets of the longest image, 10,756, and one more, which says all that read has to know of a longer input.
 const ENOUGH: usize = 10_757;
 
 // Prints what the octets are answered by. The buffer has the room that any answer needs, so it is never refused.
-fn print(octets: &[u8]) {
+fn print(rt: &HostRuntime, octets: &[u8]) -> ExitCode {
     let mut buffer = [0u8; lines::ROOM];
     let answer = lines::answer(octets, &mut buffer);
-    if let Written::Length(length) = answer {
-        program::answer(
+    match answer {
+        Written::Length(length) => program::answer(
+            rt,
             &buffer[..length],
             b"quote: standard output cannot be written\n",
-        );
+        ),
+        Written::Refused(_) => program::end(Status::Faulty),
     }
 }
 
-fn main() {
+fn main(rt: HostRuntime) -> ExitCode {
     let mut octets = [0u8; ENOUGH];
-    let n = io::read_full(STDIN_FILENO, &mut octets);
-    if !program::is_read(n, ENOUGH) {
-        program::fault(b"quote: standard input cannot be read\n");
-        return;
+    let n = program::read_full(&rt, &mut octets);
+    if !program::is_read(&rt, n, ENOUGH) {
+        return program::fault(&rt, b"quote: standard input cannot be read\n");
     }
-    print(&octets[..n]);
+    print(&rt, &octets[..n])
 }

@@ -1,4 +1,4 @@
-// A reader of a lent image, which counts the bits that it takes. Its functions over the struct are proved by hand, and are two: `take`, over the covered
+// A reader of a lent image, which counts the bits that it takes. Its functions over the struct are two: `take`, over the covered
 // `window::take_four`, and `next`, which lends a reader to it for a caller that has a slice and a position. All other code calls `counted`.
 #![tactic(auto)]
 
