@@ -20,7 +20,7 @@ use Rattle.rules.specs.declared.Answer.TheVariants.{Accepted}
 use Rattle.rules.specs.declared.Written.{Written}
 use Rattle.rules.specs.declared.Written.TheVariants.{Length, Refused as NotWritten}
 use Rattle.rules.specs.declared.Refusal.{Refusal}
-use Rattle.rules.specs.Calls.{Call, read, import, replacing, held_in, rows_of, effect_of, step, run, run_fresh}
+use Rattle.rules.specs.Calls.{Call, read, import, replacing, rows_of, effect_of, step, run, run_fresh}
 use Rattle.rules.specs.declared.Format.{Format}
 use Rattle.rules.specs.declared.Format.TheVariants.{Image, Text}
 use Rattle.rules.specs.Aldebaran.{starts, import_text, export_text, export_rows, export_rule, stripped}
@@ -36,7 +36,7 @@ use Rattle.rules.proofs.Tables.{accepted_only}
 use Rattle.rules.proofs.ReadWrite.{length-image_by, length-image, read-image, image-read, read-within}
 use Rattle.plan.specs.declared.Edited.{Edited}
 use Rattle.plan.specs.declared.Plan.{Plan}
-use Rattle.plan.specs.Promise.{Edit, Turn, Held, next_value, Obeyed, none, more}
+use Rattle.plan.specs.Promise.{Edit, Turn, Held, HeldIn, next_value, Obeyed, none, more}
 use Rattle.plan.specs.View.{view, no_plan}
 use Rattle.plan_limits.proofs.Limits.{states-out}
 use Rattle.plan.specs.Laws.{limits-view}
@@ -135,12 +135,12 @@ accepted-read old octets e x a =
     let m = came-to old (step (view old) (read octets)) e x a in
     sym (read_given (view old) octets (within-old old Image octets (view e.plan) m)) ∙ m
 
--- the same of a plan that was made of octets from nothing, and of what was written
-pub accepted-held : (format : Format) (octets : List ℕ) (e : Edited) → Held format octets e → e.answer ≡ Accepted → held_in format octets ≡ accepted (view e.plan)
-accepted-held format octets e x a = came-to no_plan (held_in format octets) e x a
+-- the same of a plan that was made of an image from nothing, and of what was written
+pub accepted-held : (octets : List ℕ) (e : Edited) → Held octets e → e.answer ≡ Accepted → read_image octets ≡ accepted (view e.plan)
+accepted-held octets e x a = came-to no_plan (read_image octets) e x a
 
 pub write-then-held : (p : Plan) (before after : List ℕ) (n : ℕ) (e : Edited) → Write (image (view p)) (write_rule (view p) before) before after (Length n)
-    → Held Image (take n after) e → (e.answer ≡ Accepted) × (view e.plan ≡ view p)
+    → Held (take n after) e → (e.answer ≡ Accepted) × (view e.plan ≡ view p)
 write-then-held p before after n e w x = comes_to_lem no_plan (read_image (take n after)) (view p) e x (written-holds p before after n w)
 
 -- every image read writes back as the version 2 image of its plan, into any buffer that has room
@@ -195,7 +195,7 @@ export-then-import p old before after n e h w x =
 
 -- and from nothing
 pub export-then-held : (p : Plan) (before after : List ℕ) (n : ℕ) (e : Edited) → Write (export_text (view p)) (export_rule (view p) before) before after (Length n)
-    → Held Text (take n after) e → (e.answer ≡ Accepted) × (view e.plan ≡ stripped (view p))
+    → HeldIn Text (take n after) e → (e.answer ≡ Accepted) × (view e.plan ≡ stripped (view p))
 export-then-held p before after n e w x = comes_to_lem no_plan (import_text (take n after)) (stripped (view p)) e x (exported_holds p before after n w)
 
 -- what an accepted import says: the text holds the new plan
@@ -214,6 +214,12 @@ text-then-export text g before after w r y room =
     let i : export_text g ≡ text = import-export text g r in
     puts (export_text g) text (export_rule g before) before after w y i
     (rw (import-within text g r, import-start text g r, i, le-ltb (length before) (length text) room))
+
+-- every text imported exports as those octets, into any buffer that has room
+pub import-then-export : (old : Plan) (text : List ℕ) (e : Edited) (before after : List ℕ) (w : Written) → Turn old (import text) e
+    → e.answer ≡ Accepted → Write (export_text (view e.plan)) (export_rule (view e.plan) before) before after w → length text ≤ length before
+    → (w ≡ Length (length text)) × (after ≡ text ++ drop (length text) before)
+import-then-export old text e before after w x a y room = text-then-export text (view e.plan) before after w (accepted-import old text e x a) y room
 
 -- ---- no plan
 

@@ -1,5 +1,5 @@
 -- Laws of the definitions beside this file, published with them, so that whoever reads a plan value by `view` needs nothing of the proofs of this crate. The counts
--- are the lists' lengths; a plan laid over arrays is what they then stand for, and so is the value after a call; the plan that an image or a text holds is within the limits.
+-- are the lists' lengths; a plan laid over arrays is what they then stand for, and so is the value after a call; the plan that an image holds is within the limits.
 -- Assumes nothing.
 use Rattle.std.specs.Prelude.{Bool, true, List, map, ◌≡◌, refl, ℕ, ◌<◌, length, get_or, drop}
 use Rattle.std.proofs.Common.{sym, ap, ap₂, ◌∙◌, arith}
@@ -7,8 +7,7 @@ use Rattle.std.proofs.lemmas.List.{length-map}
 use Rattle.std.proofs.Math.ListN.{get_or-append, get_or-map}
 use Rattle.graph.specs.Graph.{Graph, State, Transition, state_with, marked, states, count}
 use Rattle.rules.specs.declared.Answer.TheVariants.{Accepted}
-use Rattle.rules.specs.declared.Format.{Format}
-use Rattle.rules.specs.Calls.{held_in}
+use Rattle.rules.specs.Image.{read_image}
 use Rattle.rules.specs.Limits.{within}
 use Rattle.rules.specs.Refusal.{Result, accepted, refused, said}
 use Rattle.rules.specs.Rules.{next}
@@ -17,7 +16,7 @@ use Rattle.plan.specs.declared.Plan.{Plan}
 use Rattle.arrays.specs.Tables.{graph_of, state_of, transition_of, over}
 use Rattle.plan.specs.Promise.{next_value, Held}
 use Rattle.plan.specs.View.{view, laid, no_plan}
-use Rattle.rules.proofs.Kept.{held_in_within}
+use Rattle.rules.proofs.ReadWrite.{read-within}
 use Rattle.rules.proofs.Results.{accepted_as}
 use Rattle.rules.proofs.Tabulated.{tabulate_of}
 use Rattle.arrays.proofs.Lists.{states_of_lem, count_of, same-transition}
@@ -73,12 +72,12 @@ pub view-next : (p : Plan) (o : Result Graph) → view (next_value p o) ≡ next
 view-next p (accepted g) = view-laid p g
 view-next p (refused k) = refl
 
--- the plan of octets that are accepted
-pub held-plan : (format : Format) (octets : List ℕ) (f : Edited) → Held format octets f → (g : Graph) → held_in format octets ≡ accepted g → view f.plan ≡ g
-held-plan format octets f h g i = h.plan ∙ ap (next (view no_plan)) i
+-- the plan of an image that is accepted
+pub held-plan : (image : List ℕ) (f : Edited) → Held image f → (g : Graph) → read_image image ≡ accepted g → view f.plan ≡ g
+held-plan image f h g i = h.plan ∙ ap (next (view no_plan)) i
 
 -- and it is within the limits
-pub held-within : (format : Format) (octets : List ℕ) (f : Edited) → Held format octets f → f.answer ≡ Accepted → within (view f.plan) ≡ true
-held-within format octets f h a =
-    let s = accepted_as (held_in format octets) (sym (ap said a) ∙ h.answer) in
-    ap within (held-plan format octets f h s.0 s.1) ∙ held_in_within format octets s.0 s.1
+pub held-within : (image : List ℕ) (f : Edited) → Held image f → f.answer ≡ Accepted → within (view f.plan) ≡ true
+held-within image f h a =
+    let s = accepted_as (read_image image) (sym (ap said a) ∙ h.answer) in
+    ap within (held-plan image f h s.0 s.1) ∙ read-within image s.0 s.1

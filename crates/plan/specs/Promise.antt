@@ -6,9 +6,10 @@ use Rattle.rules.specs.declared.Answer.{Answer}
 use Rattle.rules.specs.declared.Format.{Format}
 use Rattle.rules.specs.declared.Refusal.{Refusal}
 use Rattle.rules.specs.Calls.{Call, step, held_in}
+use Rattle.rules.specs.Image.{read_image}
 use Rattle.rules.specs.Refusal.{Result, accepted, refused, answer_of, said}
 use Rattle.rules.specs.Rules.{next}
-use Rattle.taken.specs.Taken.{bits_in, bits_of}
+use Rattle.taken.specs.Taken.{bits_taken, bits_in, bits_of}
 use Rattle.plan.specs.declared.Plan.{Plan}
 use Rattle.plan.specs.declared.Edited.{Edited}
 use Rattle.plan.specs.View.{view, laid, no_plan}
@@ -40,11 +41,11 @@ Turn p call r = Edit p (step (view p) call) (bits_of (view p) call) r
 -- the plan that an image holds, made from nothing, by the image's grounds alone. "A refused fresh, or later call that makes a plan from nothing, makes none:
 -- any plan value beside the number has 0 states, all else zero, and every call refuses it by 0."
 abbrev pub Held : List ℕ → Edited → Type 0
-Held image r = Edit noPlan (read_image image) (bits_taken image) r
+Held image r = Edit no_plan (read_image image) (bits_taken image) r
 
 -- and so for an image or a text, by the grounds of its octets alone
 abbrev pub HeldIn : Format → List ℕ → Edited → Type 0
-HeldIn format octets r = Edit noPlan (held_in format octets) (bits_in format octets) r
+HeldIn format octets r = Edit no_plan (held_in format octets) (bits_in format octets) r
 
 -- a list of calls, each handed the plan value that the one before it returned: what the promises say of its answers and of the last plan value
 pub data Obeyed : Plan → List Call → List Answer → Plan → Type 0 where

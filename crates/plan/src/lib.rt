@@ -3,7 +3,6 @@
 #![tactic(auto)]
 
 ghost use Rattle.std.specs.Prelude.{◌≡◌};
-ghost use Rattle.rules.specs.declared.Format.TheVariants.{Image};
 ghost use Rattle.rules.specs.Limits.{within as withinLimits};
 ghost use Rattle.rules.specs.Aldebaran.{export_text, export_rule};
 ghost use Rattle.rules.specs.Image.{image};
@@ -233,7 +232,7 @@ pub fn replace(mut p: Plan, format: Format, octets: &[u8]) -> Edited
 
 // The plan that an image holds, or the refusal of it. A refusal makes none: the plan value beside it has 0 states, all else zero.
 pub fn held(octets: &[u8]) -> Edited
-    ensures { Held Image octets.now result }
+    ensures { Held octets.now result }
 {
     let mut marks = [0u8; 512];
     let mut teams = [0u8; 512];

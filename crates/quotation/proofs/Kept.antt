@@ -9,7 +9,6 @@ use borrow.Author.Tests.{ltb-false, lt-ltb, le-ltb}
 use lib.ListN.{length}
 use Rattle.graph.specs.declared.Asked.{Asked}
 use Rattle.graph.specs.Graph.{Graph, states}
-use Rattle.rules.specs.declared.Format.TheVariants.{Image}
 use Rattle.rules.specs.declared.Refusal.{Refusal}
 use Rattle.rules.specs.declared.Refusal.TheVariants.{BufferLength}
 use Rattle.rules.specs.declared.Quote.{Quote}
@@ -97,7 +96,7 @@ module _ (g : Graph) (places : List ℕ) where
 
 -- ---- all four of an image
 
-module _ (image before : List ℕ) (f : Edited) (e : Held Image image f) where
+module _ (image before : List ℕ) (f : Edited) (e : Held image f) where
   -- the answer of the read is that of the image's rows
   by_rows : said f.answer ≡ first (image_rows image)
   unfolding read_image
@@ -121,7 +120,7 @@ module _ (image before : List ℕ) (f : Edited) (e : Held Image image f) where
     read-plan : view f.plan ≡ graph_in image
     unfolding read_image
     read-plan =
-        held-plan Image image f e (graph_in image) (accepted_where (image_rows image) (graph_in image) (accepted_only (image_rows image) tt tt (sym by_rows ∙ ap said a)).0)
+        held-plan image f e (graph_in image) (accepted_where (image_rows image) (graph_in image) (accepted_only (image_rows image) tt tt (sym by_rows ∙ ap said a)).0)
 
     pub held-short : length before < 2048 → QuotesHeld image before before (NoneQuoted BufferLength)
     held-short h = record {

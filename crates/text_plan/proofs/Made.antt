@@ -18,7 +18,7 @@ use Rattle.rules.proofs.Results.{accepted_as, refused_as}
 use Rattle.plan.specs.declared.Edited.{Edited}
 use Rattle.plan.specs.declared.Plan.{Plan}
 use Rattle.plan.specs.Laws.{view-laid}
-use Rattle.plan.specs.Promise.{Edit, Turn, Held, next_value}
+use Rattle.plan.specs.Promise.{Edit, Turn, HeldIn, next_value}
 use Rattle.plan.specs.View.{view, laid, blank_plan, no_plan}
 
 -- the plan value of a fresh of one state, and a plan laid over it
@@ -42,7 +42,7 @@ module _ (text : List ℕ) (f : Edited) (y : Edit no_plan (fresh_rule 1) 0 f) (e
   blank : f.plan ≡ blank_plan 1
   blank = y.whole ∙ ap (next_value no_plan) done ∙ fresh-blank
 
-  pub accepts : e.answer ≡ Accepted → Held Text text e
+  pub accepts : e.answer ≡ Accepted → HeldIn Text text e
   accepts a =
       let (g, i) = accepted_as (import_text text) (ap said (sym a) ∙ alone.answer) in
       let whole : e.plan ≡ laid no_plan g = alone.whole ∙ ap (next_value f.plan) i ∙ ap (λ (p : Plan). laid p g) blank ∙ laid-blank g in
@@ -53,7 +53,7 @@ module _ (text : List ℕ) (f : Edited) (y : Edit no_plan (fresh_rule 1) 0 f) (e
         taken = alone.taken;
       }
 
-  pub refuses : (r : Refusal) → e.answer ≡ Refused r → (none : Edited) → Edit no_plan (fresh_rule 0) 0 none → Held Text text (record { answer = e.answer; plan = none.plan; taken = 0 })
+  pub refuses : (r : Refusal) → e.answer ≡ Refused r → (none : Edited) → Edit no_plan (fresh_rule 0) 0 none → HeldIn Text text (record { answer = e.answer; plan = none.plan; taken = 0 })
   refuses r a none z =
       let i : import_text text ≡ refused r = refused_as (import_text text) r (ap said (sym a) ∙ alone.answer) in
       let n : none.plan ≡ no_plan = z.whole ∙ ap (next_value no_plan) (fresh-refused 0 refl) in

@@ -2,14 +2,14 @@
 #![tactic(auto)]
 
 ghost use Rattle.rules.specs.declared.Format.TheVariants.{Text};
-ghost use Rattle.plan.specs.Promise.{Held};
+ghost use Rattle.plan.specs.Promise.{HeldIn};
 
 use plan::Edited;
 use rules::{Answer, Format};
 
 // The plan that a text holds, or the refusal of it. A refusal makes none: the plan value beside it has 0 states, all else zero.
 pub fn held(text: &[u8]) -> Edited
-    ensures { Held Text text.now result }
+    ensures { HeldIn Text text.now result }
 {
     let fresh = plan::fresh(1);
     let imported = plan::replace(fresh.plan, Format::Text, text);

@@ -1,5 +1,4 @@
 -- `quotation::held`: the image decides, then the places; what was read is quoted (proofs/Kept.antt). Assumes nothing.
-use Rattle.rules.specs.declared.Format.TheVariants.{Image}
 use Rattle.plan.specs.Laws.{held-within}
 use Rattle.quotation.proofs.Kept.{held-refused, held-short, held-quoted}
 use borrow.Author.Rules.{rules}
@@ -21,7 +20,7 @@ returns-2 c =
 show-all-requires : tie.Need-show-all-requires
 show-all-requires c κs =
     let held = c.before.before.before.before.before.before.before.before.before.before.before.held in
-    (held-within Image c.before.before.before.before.before.before.before.before.before.before.before.before.before.before.args.octets.now held.result held.ensures c.before.before.before.before.before.before.before.before.before.enum_told.given.1, c.before.before.before.before.before.before.before.before.if1.false)
+    (held-within c.before.before.before.before.before.before.before.before.before.before.before.before.before.before.args.octets.now held.result held.ensures c.before.before.before.before.before.before.before.before.before.enum_told.given.1, c.before.before.before.before.before.before.before.before.if1.false)
 
 returns-3 : tie.Need-returns-3
 returns-3 c =

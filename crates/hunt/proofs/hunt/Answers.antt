@@ -1,0 +1,86 @@
+-- `hunt::hunt` meets its contract, in whatever graph the states were entered. The invariant of the state loop: no dead end is known, and every state passed was
+-- looked at; of the transition loop: every transition of the state that was passed leads to a final state, or to one that has a transition.
+-- Assumes nothing.
+use Prim.Native.Nat.{ℕ, ◌<◌}
+use mathlib.Core.Bool.{true≢false}
+use mathlib.Core.List.{List}
+use mathlib.Core.Logic.{inl, inr, ⊎_elim}
+use mathlib.Core.Path.{◌≡◌, sym, ap, ◌∙◌}
+use native.Mathlib.Omega.{arith}
+use borrow.Author.Count.{below_more}
+use borrow.Author.Tests.{not-false}
+use Rattle.graph.specs.Graph.{final_mark}
+use Rattle.search.specs.Arrays.{Arrays, arrays, at, UnfinishedIn}
+use Rattle.search.proofs.Chained.{followed-next, followed-all}
+use Rattle.hunt.specs.Hunted.{Entered}
+use Rattle.hunt.proofs.Looking.{none-leaves, head_below, hunted_none}
+use Rattle.hunt.proofs.hunt.Goals as goal
+use Rattle.hunt.proofs.hunt.Tie as tie
+use Rattle.hunt.proofs.hunt.Lts as lts
+use Rattle.hunt.proofs.hunt.Reads as reads
+
+abbrev Start : Type 0
+Start = lts.Start tie.the-claims reads.Pre reads.Post goal.the-invariant-transitions goal.the-decreases-transitions goal.the-invariant-states goal.the-decreases-states
+
+abbrev graph : Start → ℕ → List ℕ → Arrays
+graph c m from = arrays c.args.n m c.args.marks.now from c.args.to.now
+
+abbrev Known : Start → ℕ → List ℕ → Type 0
+Known c m from = Entered (graph c m from) c.args.head.now c.args.link.now c.args.rank.now c.args.via.now
+
+pub transitions-preserved : goal.transitions-preserved
+transitions-preserved c =
+    let target : c.wide-v.result ≡ at c.args.to.now c.transitions.t =
+        c.wide-v.ensures in
+    let listed : (m : ℕ) (from : List ℕ) → Known c m from → (c.transitions.t < m) × (at from c.transitions.t ≡ c.states.s) =
+        λ m from e. (c.transitions.invariant.1 m from e).here c.transitions-test.true in
+    let arrives : (m : ℕ) (from : List ℕ) → Known c m from → c.wide-v.result < c.args.n =
+        λ m from e. omega (arith, target, e.linked.bounded.arrives c.transitions.t (listed m from e).0) in
+    let a = c.args in (
+      c.transitions.invariant.0,
+      λ m from e.
+          followed-next e.linked.chains _ (c.transitions.invariant.1 m from e) c.transitions-test.true
+          (⊎_elim
+          (λ x v. absurd (true≢false (sym (not-false _ x.3.left) ∙ x.2.ensures ∙ ap (λ (y : ℕ). final_mark (at a.marks.now y)) target ∙ v)))
+          (λ x v. rw (← target) (head_below e c.wide-v.result (arrives m from e) x.left))
+          c.if-head-v.branch)
+          c.wide-t-in-transitions.ensures,
+    )
+
+pub states-preserved : goal.states-preserved
+states-preserved c = let s = c.states.s in
+    let i = c.states.invariant in
+    let l = c.states-test.true in
+    ⊎_elim
+    (λ w. (
+      omega (arith, l),
+      w.6 ∙ w.4.inv.0,
+      below_more _ s i.2 (λ m from e r. record {
+        itself = λ q. ⊎_elim (λ x. absurd (omega (arith, q, x.2.left))) (λ x. head_below e s l (λ p. x.left (w.2.ensures ∙ p))) w.3.came;
+        behind = followed-all (w.4.inv.1 m from e) e.linked.bounded.count w.5.left;
+      }),
+    ))
+    (λ w. (omega (arith, l), w.1 ∙ i.1, below_more _ s i.2 (λ m from e r. absurd (omega (arith, w.0.left)))))
+    c.if-rank-s-gt0.branch
+
+pub returns-after-states : goal.returns-after-states
+returns-after-states c = let l = c.states in λ m from e. inr (l.invariant.1, hunted_none e (λ x h r. l.invariant.2 x (omega arith) m from e r))
+
+pub returns-then-not-is_final : goal.returns-then-not-is_final
+returns-then-not-is_final c =
+    let listed : (m : ℕ) (from : List ℕ) → Known c m from → (c.transitions.t < m) × (at from c.transitions.t ≡ c.states.s) =
+        λ m from e. (c.transitions.invariant.1 m from e).here c.transitions-test.true in
+    let target : c.wide-v.result ≡ at c.args.to.now c.transitions.t =
+        c.wide-v.ensures in
+    let arrives : (m : ℕ) (from : List ℕ) → Known c m from → c.wide-v.result < c.args.n =
+        λ m from e. omega (arith, target, e.linked.bounded.arrives c.transitions.t (listed m from e).0) in
+    let a = c.args in
+    let u : UnfinishedIn a.marks.now (at a.to.now c.transitions.t) =
+    ap (λ (x : ℕ). final_mark (at a.marks.now x)) (sym target) ∙ sym c.is_final.ensures ∙ c.if-not-is_final.true in
+    λ m from e.
+    let q = listed m from e in
+    inl (
+      arrives m from e,
+      rw target (e.onward c.states.s c.transitions.t c.states-test.true c.if-rank-s-gt0.true (record { listed = q.0; source = q.1 }) u),
+      none-leaves e _ (arrives m from e) c.if-head-v.true,
+    )
