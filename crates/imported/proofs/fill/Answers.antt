@@ -9,7 +9,6 @@ use Rattle.rules.specs.Aldebaran.{first_rows}
 use Rattle.rules.specs.Image.{transition_rows}
 use Rattle.rules.specs.Refusal.{Result, said}
 use Rattle.rules.specs.Table.{first, each}
-use Rattle.rules.proofs.ImportExport.{Head}
 use Rattle.arrays.specs.Tables.{Fields, fields}
 use Rattle.text_lines.specs.Lines.{onward}
 use Rattle.text_lines.proofs.Listing.{onward-accepted}
@@ -31,27 +30,21 @@ short c = search rules
 
 -- the arrays after the lines
 listed : (c : After-lines-listed) → Fields
-listed c = let l = c.lines-listed.new in fields l.1.1.1.1.1.0 l.1.1.1.1.1.1.0 l.1.1.1.1.1.1.1.0 l.1.1.1.1.1.1.1.1.0
+listed c = let l = c.lines-listed.new in fields l.from l.to l.low l.high
 
 -- the lines, on form
-read : (c : Else-not-end) → Read c.args.text.now (read_lines c.read_first-heading.result.transitions (drop c.read_first-heading.result.next.at c.args.text.now)) c.read_first-heading.result.states c.read_first-heading.result.transitions c.first_grounds-grounds.result (listed c.before.before.before) c.lines-listed.result
+read : (c : Else-not-end) → Read c.args.text.now (read_lines c.read_first-heading.result.transitions (drop c.read_first-heading.result.next.at c.args.text.now)) c.read_first-heading.result.states c.read_first-heading.result.transitions c.first_grounds-grounds.result (fields c.lines-listed.new.from c.lines-listed.new.to c.lines-listed.new.low c.lines-listed.new.high) c.lines-listed.result
 unfolding listed
 read c =
     let r = c.read_first-heading.result in
     let l = c.lines-listed in
-    lists-on c.args.text.now r.states r.transitions c.first_grounds-grounds.result (listed c.before.before.before) l.result _ l.ensures.1 (not-false l.result.next.on c.if-not-end.false)
+    lists-on c.args.text.now r.states r.transitions c.first_grounds-grounds.result (fields c.lines-listed.new.from c.lines-listed.new.to c.lines-listed.new.low c.lines-listed.new.high) l.result _ l.ensures.1 (not-false l.result.next.on c.if-not-end.false)
 
 -- the answer of all rows
 answered : (c : Else-not-end) → said c.lines-listed.result.answer ≡ onward (first (first_rows c.read_first-heading.result.initial c.read_first-heading.result.transitions c.read_first-heading.result.states)) (each (transition_rows c.read_first-heading.result.states) (read c).transitions)
 answered c =
     let r = c.read_first-heading.result in
     (read c).answered ∙ ap (λ (o : Result (Unit {0})). onward o (each (transition_rows r.states) (read c).transitions)) c.first_grounds-grounds.ensures
-
--- a first line and lines that are not refused
-clear : (c : In_default) → Head c.read_first-heading.result.initial c.read_first-heading.result.transitions c.read_first-heading.result.states
-clear c =
-    let r = c.read_first-heading.result in
-    not_refused r.initial r.transitions r.states (onward-accepted _ _ (sym (answered c.before.before.before.before) ∙ ap said c.in_default.is)).0
 
 pub returns-then-not-start : goal.returns-then-not-start
 returns-then-not-start c =
@@ -116,7 +109,7 @@ returns c =
     let r = c.read_first-heading.result in
     let l = c.lines-listed in
     let d = read (goal.at.returns c).Else-not-end in
-    let h = clear (goal.at.returns c).In_default in
+    let h = (not_refused r.initial r.transitions r.states (onward-accepted _ _ (sym (answered (goal.at.returns c).Else-not-end) ∙ ap said c.in_default.is)).0) in
     let f = listed (goal.at.returns c).After-lines-listed in
     let ok = c.in_default.is in
     record {
