@@ -4,46 +4,38 @@
 use Prim.Native.Nat.{ℕ, ◌<◌}
 use mathlib.Core.Bool.{true≢false}
 use mathlib.Core.List.{List}
-use mathlib.Core.Logic.{inl, inr, ⊎_elim}
+use mathlib.Core.Logic.{inl, inr}
 use mathlib.Core.Path.{◌≡◌, sym, ap, ◌∙◌}
 use native.Mathlib.Omega.{arith}
 use borrow.Author.Count.{below_more}
-use borrow.Author.Tests.{not-false}
 use Rattle.graph.specs.Graph.{final_mark}
 use Rattle.search.specs.Arrays.{Arrays, arrays, at, UnfinishedIn}
 use Rattle.search.proofs.Chained.{followed-next, followed-all}
 use Rattle.hunt.specs.Hunted.{Entered}
 use Rattle.hunt.proofs.Looking.{none-leaves, head_below, hunted_none}
+use Rattle.hunt.proofs.hunt.Goals.{then-rank-s-gt0+else-transitions-test, then-t-eq-NONE+else-via-s, else-t-eq-NONE, else-rank-s-gt0, then-head-v+else-not-is_final, else-head-v}
 use Rattle.hunt.proofs.hunt.Goals as goal
-use Rattle.hunt.proofs.hunt.Tie as tie
-use Rattle.hunt.proofs.hunt.Lts as lts
-use Rattle.hunt.proofs.hunt.Reads as reads
-
-abbrev Start : Type 0
-Start = lts.Start tie.the-claims reads.Pre reads.Post goal.the-invariant-transitions goal.the-decreases-transitions goal.the-invariant-states goal.the-decreases-states
-
-abbrev graph : Start → ℕ → List ℕ → Arrays
-graph c m from = arrays c.args.n m c.args.marks.now from c.args.to.now
-
-abbrev Known : Start → ℕ → List ℕ → Type 0
-Known c m from = Entered (graph c m from) c.args.head.now c.args.link.now c.args.rank.now c.args.via.now
 
 pub transitions-preserved : goal.transitions-preserved
 transitions-preserved c =
     let target : c.wide-v.result ≡ at c.args.to.now c.transitions.t =
-        c.wide-v.ensures in
-    let listed : (m : ℕ) (from : List ℕ) → Known c m from → (c.transitions.t < m) × (at from c.transitions.t ≡ c.states.s) =
-        λ m from e. (c.transitions.invariant.1 m from e).here c.transitions-test.true in
-    let arrives : (m : ℕ) (from : List ℕ) → Known c m from → c.wide-v.result < c.args.n =
-        λ m from e. omega (arith, target, e.linked.bounded.arrives c.transitions.t (listed m from e).0) in
+    c.wide-v.ensures in
+    let graph : ℕ → List ℕ → Arrays =
+    λ m from. arrays c.args.n m c.args.marks.now from c.args.to.now in
+    let Known : ℕ → List ℕ → Type 0 =
+    λ m from. Entered (graph m from) c.args.head.now c.args.link.now c.args.rank.now c.args.via.now in
+    let listed : (m : ℕ) (from : List ℕ) → Known m from → (c.transitions.t < m) × (at from c.transitions.t ≡ c.states.s) =
+    λ m from e. (c.transitions.invariant.1 m from e).here c.transitions-test.true in
+    let arrives : (m : ℕ) (from : List ℕ) → Known m from → c.wide-v.result < c.args.n =
+    λ m from e. omega (arith, target, e.linked.bounded.arrives c.transitions.t (listed m from e).0) in
     let a = c.args in (
       c.transitions.invariant.0,
       λ m from e.
           followed-next e.linked.chains _ (c.transitions.invariant.1 m from e) c.transitions-test.true
-          (⊎_elim
-          (λ x v. absurd (true≢false (sym (not-false _ x.3.left) ∙ x.2.ensures ∙ ap (λ (y : ℕ). final_mark (at a.marks.now y)) target ∙ v)))
-          (λ x v. rw (← target) (head_below e c.wide-v.result (arrives m from e) x.left))
-          c.if-head-v.branch)
+          (elim c.if-head-v.branch [
+            | then-head-v+else-not-is_final w ↦ λ v. absurd (true≢false (sym w.if-not-is_final.false ∙ w.is_final.ensures ∙ ap (λ (y : ℕ). final_mark (at a.marks.now y)) target ∙ v))
+            | else-head-v w ↦ λ v. rw (← target) (head_below e c.wide-v.result (arrives m from e) w.if-head-v.false)
+          ])
           c.wide-t-in-transitions.ensures,
     )
 
@@ -51,29 +43,36 @@ pub states-preserved : goal.states-preserved
 states-preserved c = let s = c.states.s in
     let i = c.states.invariant in
     let l = c.states-test.true in
-    ⊎_elim
-    (λ w. (
-      omega (arith, l),
-      w.6 ∙ w.4.inv.0,
-      below_more _ s i.2 (λ m from e r. record {
-        itself = λ q. ⊎_elim (λ x. absurd (omega (arith, q, x.2.left))) (λ x. head_below e s l (λ p. x.left (w.2.ensures ∙ p))) w.3.came;
-        behind = followed-all (w.4.inv.1 m from e) e.linked.bounded.count w.5.left;
-      }),
-    ))
-    (λ w. (omega (arith, l), w.1 ∙ i.1, below_more _ s i.2 (λ m from e r. absurd (omega (arith, w.0.left)))))
-    c.if-rank-s-gt0.branch
+    elim c.if-rank-s-gt0.branch [
+      | then-rank-s-gt0+else-transitions-test w ↦ (
+        omega (arith, l),
+        w.dead-is ∙ w.transitions.invariant.0,
+        below_more _ s i.2 (λ m from e r. record {
+          itself = elim w.if-t-eq-NONE.branch [
+            | then-t-eq-NONE+else-via-s x ↦ λ q. absurd (omega (arith, q, x.if-via-s.false))
+            | else-t-eq-NONE x ↦ λ q. head_below e s l (λ p. x.if-t-eq-NONE.false (w.wide-t.ensures ∙ p))
+          ];
+          behind = followed-all (w.transitions.invariant.1 m from e) e.linked.bounded.count w.transitions-test.false;
+        }),
+      )
+      | else-rank-s-gt0 w ↦ (omega (arith, l), w.dead-is ∙ i.1, below_more _ s i.2 (λ m from e r. absurd (omega (arith, w.if-rank-s-gt0.false))))
+    ]
 
 pub returns-after-states : goal.returns-after-states
 returns-after-states c = let l = c.states in λ m from e. inr (l.invariant.1, hunted_none e (λ x h r. l.invariant.2 x (omega arith) m from e r))
 
 pub returns-then-not-is_final : goal.returns-then-not-is_final
 returns-then-not-is_final c =
-    let listed : (m : ℕ) (from : List ℕ) → Known c m from → (c.transitions.t < m) × (at from c.transitions.t ≡ c.states.s) =
-        λ m from e. (c.transitions.invariant.1 m from e).here c.transitions-test.true in
+    let graph : ℕ → List ℕ → Arrays =
+    λ m from. arrays c.args.n m c.args.marks.now from c.args.to.now in
+    let Known : ℕ → List ℕ → Type 0 =
+    λ m from. Entered (graph m from) c.args.head.now c.args.link.now c.args.rank.now c.args.via.now in
+    let listed : (m : ℕ) (from : List ℕ) → Known m from → (c.transitions.t < m) × (at from c.transitions.t ≡ c.states.s) =
+    λ m from e. (c.transitions.invariant.1 m from e).here c.transitions-test.true in
     let target : c.wide-v.result ≡ at c.args.to.now c.transitions.t =
-        c.wide-v.ensures in
-    let arrives : (m : ℕ) (from : List ℕ) → Known c m from → c.wide-v.result < c.args.n =
-        λ m from e. omega (arith, target, e.linked.bounded.arrives c.transitions.t (listed m from e).0) in
+    c.wide-v.ensures in
+    let arrives : (m : ℕ) (from : List ℕ) → Known m from → c.wide-v.result < c.args.n =
+    λ m from e. omega (arith, target, e.linked.bounded.arrives c.transitions.t (listed m from e).0) in
     let a = c.args in
     let u : UnfinishedIn a.marks.now (at a.to.now c.transitions.t) =
     ap (λ (x : ℕ). final_mark (at a.marks.now x)) (sym target) ∙ sym c.is_final.ensures ∙ c.if-not-is_final.true in
