@@ -30,9 +30,9 @@ pub fn header(octets: &[u8], at: &mut usize, taken: &mut usize) -> Heading
     }
     let fields = image_fields::header(octets, at, taken);
     Heading {
-        answer: header_grounds::grounds(octets, fields),
         version: fields.first,
         states: fields.second,
         transitions: fields.third,
+        answer: header_grounds::grounds(octets, fields),
     }
 }
