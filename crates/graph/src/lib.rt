@@ -3,7 +3,7 @@
 #![tactic(auto)]
 
 // The four figures, in the record's order.
-#[derive(Drop)]
+#[derive(Clone, Copy)]
 pub enum Which {
     LeastDelay,
     GreatestDelay,
@@ -12,14 +12,14 @@ pub enum Which {
 }
 
 // "a duration taken from a plan is either a number or open" (document 02, E2)
-#[derive(Drop)]
+#[derive(Clone, Copy)]
 pub enum Duration {
     Seconds(u16),
     Open,
 }
 
 // "Team 0 is none, 1 to 9 wards, 10 to 19 clinics, 20 to 29 switchboards, 30 and 31 outside lines." (document 02, E4)
-#[derive(Drop)]
+#[derive(Clone, Copy)]
 pub enum Class {
     None,
     Wards,
@@ -29,7 +29,7 @@ pub enum Class {
 }
 
 // What is quoted: one of the four figures, or a count for the class of the team with that number.
-#[derive(Drop)]
+#[derive(Clone, Copy)]
 pub enum Asked {
     One(Which),
     LeastCountFor(usize),

@@ -2,7 +2,7 @@
 #![tactic(auto)]
 
 // A row of document 01's table of refused calls, as document 02 has changed it. specs/Refusal.antt gives the number of each.
-#[derive(Drop)]
+#[derive(Clone, Copy)]
 pub enum Refusal {
     // the plan value breaks a limit of a plan
     PlanLimits,
@@ -43,28 +43,28 @@ pub enum Refusal {
 }
 
 // What the octets that replace a plan are: its image, which is read, or its text, which is imported.
-#[derive(Drop)]
+#[derive(Clone, Copy)]
 pub enum Format {
     Image,
     Text,
 }
 
 // The answer of a call that makes or changes a plan.
-#[derive(Drop)]
+#[derive(Clone, Copy)]
 pub enum Answer {
     Accepted,
     Refused(Refusal),
 }
 
 // The answer of a call that fills the front of a lent buffer: how many octets it put there, or a refusal.
-#[derive(Drop)]
+#[derive(Clone, Copy)]
 pub enum Written {
     Length(usize),
     Refused(Refusal),
 }
 
 // A figure: its number or kind.
-#[derive(Drop)]
+#[derive(Clone, Copy)]
 pub enum Figure {
     Number(u32),
     None,
@@ -73,7 +73,7 @@ pub enum Figure {
 }
 
 // A figure, with the walk that was written for it: k transitions, and the place j for Endless.
-#[derive(Drop)]
+#[derive(Clone, Copy)]
 pub struct Quote {
     pub figure: Figure,
     pub k: usize,
@@ -81,14 +81,14 @@ pub struct Quote {
 }
 
 // The answer of a quotation.
-#[derive(Drop)]
+#[derive(Clone, Copy)]
 pub enum Quotation {
     Quoted(Quote),
     Refused(Refusal),
 }
 
 // The quotes of the four figures, in the record's order.
-#[derive(Drop)]
+#[derive(Clone, Copy)]
 pub struct FourQuotes {
     pub least_delay: Quote,
     pub greatest_delay: Quote,
@@ -97,14 +97,14 @@ pub struct FourQuotes {
 }
 
 // The answer of a quotation of all four figures.
-#[derive(Drop)]
+#[derive(Clone, Copy)]
 pub enum Quotations {
     Quoted(FourQuotes),
     Refused(Refusal),
 }
 
 // The answer of a quotation of all four figures of the plan that an image holds, and the bits that were taken of it.
-#[derive(Drop)]
+#[derive(Clone, Copy)]
 pub struct HeldQuotations {
     pub quotations: Quotations,
     pub taken: usize,

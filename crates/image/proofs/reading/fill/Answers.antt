@@ -12,19 +12,29 @@ use Rattle.arrays.proofs.Lists.{later_none, later_long}
 use Rattle.image.proofs.Filling.{states_rows, Head, header, begun, by_header, by_states, states-count, all-states, by_answer, transitions-count}
 use Rattle.taken.specs.Taken.{listed_rows}
 use Rattle.taken.proofs.Taken.{at-header, header_few, items_most}
-use borrow.Author.Rules.{rules}
-use Rattle.image.proofs.reading.fill.Statement.{statement}
-use Rattle.image.proofs.reading.fill.Tie as tie
+use Rattle.image.proofs.reading.fill.Goals as goal
+use Rattle.image.proofs.reading.fill.Goals.{In_default, In_default-marked}
 
 -- an array that nothing was stored in
 same : (k : ℕ) (f : Fields) → k ≤ length f.from → k ≤ length f.to → k ≤ length f.low → k ≤ length f.high → LaterFields k f f
 same k f a b c d = record { from = later_none k f.from a; to = later_none k f.to b; low = later_none k f.low c; high = later_none k f.high d }
 
-returns : tie.Need-returns
-returns c =
-    let os = c.before.before.before.before.before.before.before.args.octets.now in
-    let e = c.enum_told.given.1 in
-    let h = c.before.before.header.ensures in
+-- what is known once the header is accepted
+head : (c : In_default) → Head c.args.octets.now c.header-heading.result.states c.header-heading.result.transitions
+head c =
+    let h = c.header-heading.ensures in
+    let e = c.in_default.is in
+    record { rows = sym h.answer ∙ ap said e; states = h.states e; transitions = h.transitions e }
+
+-- no row of a state holds
+clear : (c : In_default-marked) → first (states_rows c.args.octets.now c.header-heading.result.states) ≡ accepted tt
+clear c = sym c.states-marked.ensures.answer ∙ ap said c.in_default-marked.is
+
+pub returns-in-Refused : goal.returns-in-Refused
+returns-in-Refused c =
+    let os = c.args.octets.now in
+    let e = c.in-Refused.is in
+    let h = c.header-heading.ensures in
     record {
       read = record {
         rule = rw e (sym (by_header os _ (sym h.answer ∙ ap said e)));
@@ -39,29 +49,22 @@ returns c =
       later = same 0 _ (omega arith) (omega arith) (omega arith) (omega arith);
     }
 
--- what is known once the header is accepted
-head : (c : tie.After-enum-told2) → Head c.before.before.before.before.before.before.before.args.octets.now c.before.before.header.result.states c.before.before.header.result.transitions
-head c =
-    let h = c.before.before.header.ensures in
-    let e = c.enum-told2.given.1 in
-    record { rows = sym h.answer ∙ ap said e; states = h.states e; transitions = h.transitions e }
-
-states-requires : tie.Need-states-requires
-states-requires c κs =
-    let h = head c.before.before.before.before in
+pub states-marked-requires : goal.states-marked-requires
+states-marked-requires c =
+    let h = head (goal.at.states-marked-requires c).In_default in
     let k = header _ _ _ h in
-    let e = c.before.before.before.before.enum-told2.given.1 in
-    let r = c.before.before.before.before.before.before.header.ensures in
+    let e = c.in_default.is in
+    let r = c.header-heading.ensures in
     (omega (arith, h.states, k), omega (arith, h.states, k), omega (arith, h.states, k), omega (arith, h.states, h.transitions, k), r.all e, omega (arith, r.bits, begun _ _ _ h), r.version e)
 
-returns-2 : tie.Need-returns-2
-returns-2 c =
-    let header-here = c.before.before.before.before.before.before.before.before.before.header in
-    let os = c.before.before.before.before.before.before.before.before.before.before.before.before.before.before.args.octets.now in
-    let h = head c.before.before.before.before.before.before.before in
+pub returns-in-Refused-marked : goal.returns-in-Refused-marked
+returns-in-Refused-marked c =
+    let header-here = c.header-heading in
+    let os = c.args.octets.now in
+    let h = head (goal.at.returns-in-Refused-marked c).In_default in
     let k = header _ _ _ h in
-    let s = c.before.before.states.ensures in
-    let e = c.enum-told3.given.1 in
+    let s = c.states-marked.ensures in
+    let e = c.in-Refused-marked.is in
     record {
       read = record {
         rule = rw e (sym (by_states os _ _ h _ (sym s.answer ∙ ap said e)));
@@ -83,33 +86,34 @@ returns-2 c =
       later = same _ _ (omega (arith, h.transitions, k)) (omega (arith, h.transitions, k)) (omega (arith, h.transitions, k)) (omega (arith, h.transitions, k));
     }
 
--- no row of a state holds
-clear : (c : tie.After-enum-told4) → first (states_rows c.before.before.before.before.before.before.before.before.before.before.before.before.before.before.args.octets.now c.before.before.before.before.before.before.before.before.before.header.result.states) ≡ accepted tt
-clear c = sym c.before.before.states.ensures.answer ∙ ap said c.enum-told4.given.1
+pub transitions-listed-requires-clause-n_bound : goal.transitions-listed-requires-clause-n_bound
+transitions-listed-requires-clause-n_bound c =
+    let states-here = c.states-marked in
+    let h = head (goal.at.transitions-listed-requires-clause-n_bound c).In_default in
+    omega (arith, h.states, h.transitions, header _ _ _ h, states-here.ensures.all c.in_default-marked.is, states-here.ensures.bits, all-states _ _ _ h (clear (goal.at.transitions-listed-requires-clause-n_bound c).In_default-marked), c.header-heading.ensures.bits, begun _ _ _ h)
 
-transitions-requires : tie.Need-transitions-requires
-transitions-requires c κs =
-    let states-here = c.before.before.before.before.before.before.before.states in
-    let h = head c.before.before.before.before.before.before.before.before.before.before.before.before in
-    omega (arith, h.states, h.transitions, header _ _ _ h, states-here.ensures.all c.before.before.before.before.before.enum-told4.given.1, states-here.ensures.bits, all-states _ _ _ h (clear c.before.before.before.before.before), c.before.before.before.before.before.before.before.before.before.before.before.before.before.before.header.ensures.bits, begun _ _ _ h)
+pub transitions-listed-requires-clause-m_in_bounds : goal.transitions-listed-requires-clause-m_in_bounds
+transitions-listed-requires-clause-m_in_bounds c =
+    let states-here = c.states-marked in
+    let h = head (goal.at.transitions-listed-requires-clause-m_in_bounds c).In_default in
+    omega (arith, h.states, h.transitions, header _ _ _ h, states-here.ensures.all c.in_default-marked.is, states-here.ensures.bits, all-states _ _ _ h (clear (goal.at.transitions-listed-requires-clause-m_in_bounds c).In_default-marked), c.header-heading.ensures.bits, begun _ _ _ h)
 
-returns-3 : tie.Need-returns-3
-returns-3 c =
-    let states-here = c.before.before.before.before.before.before.before.before.states in
-    let header-here = c.before.before.before.before.before.before.before.before.before.before.before.before.before.before.before.header in
-    let start = c.before.before.before.before.before.before.before.before.before.before.before.before.before.before.before.before.before.before.before.before in
-    let os = start.args.octets.now in
-    let p = start.requires in
-    let h = head c.before.before.before.before.before.before.before.before.before.before.before.before.before in
+pub returns : goal.returns
+returns c =
+    let states-here = c.states-marked in
+    let header-here = c.header-heading in
+    let os = c.args.octets.now in
+    let p = c.requires in
+    let h = head (goal.at.returns c).In_default in
     let k = header _ _ _ h in
     let s = states-here.ensures in
-    let t = c.transitions.ensures in
-    let st = states-here.new.1.1.1.1 in
-    let l = c.transitions.new.1.1.1.1.1 in
-    let clear = clear c.before.before.before.before.before.before in
+    let t = c.transitions-listed.ensures in
+    let st = states-here.new in
+    let l = c.transitions-listed.new in
+    let clear = clear (goal.at.returns c).In_default-marked in
     record {
       read = record {
-        rule = by_answer os _ _ h clear c.transitions.result st.1.0 st.1.1.0 l.0 l.1.0 l.1.1.0 l.1.1.1.0 t.answer (s.states c.before.before.before.before.before.before.enum-told4.given.1) t.transitions;
+        rule = by_answer os _ _ h clear c.transitions-listed.result st.marks st.teams l.from l.to l.low l.high t.answer (s.states c.in_default-marked.is) t.transitions;
         states = omega (arith, h.states, k);
         transitions = omega (arith, h.transitions, k);
         room = (
@@ -127,18 +131,3 @@ returns-3 c =
       later_teams = s.later_teams;
       later = t.later;
     }
-
-pub fill_spec : {M : Type 1} → statement M
-fill_spec =
-    tie.close
-    (tie.spec
-    (λ c κs. search rules)
-    (λ c. search rules)
-    returns
-    (λ c. search rules)
-    states-requires
-    (λ c. search rules)
-    returns-2
-    (λ c. search rules)
-    transitions-requires
-    returns-3)
