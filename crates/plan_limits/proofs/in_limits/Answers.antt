@@ -1,0 +1,33 @@
+-- `plan_limits::in_limits`: each test is one of the limits, over the counts and the arrays. Assumes nothing.
+use mathlib.Core.Bool.{true}
+use mathlib.Core.Path.{◌≡◌, sym, ◌∙◌}
+use native.Mathlib.Omega.{arith}
+use borrow.Author.Tests.{le-leb, lt-leb}
+use Rattle.rules.specs.Limits.{state_count_ok}
+use Rattle.plan_limits.proofs.Limits.{states-out, count-out, each-out, transitions-left}
+use Rattle.plan_limits.proofs.in_limits.Goals as goal
+use Rattle.plan_limits.proofs.in_limits.Goals.{Else-not-state_count_ok}
+
+-- past the first test the state count is within its limits
+some : (c : Else-not-state_count_ok) → state_count_ok c.args.n ≡ true
+some c = sym c.state_count_ok.ensures ∙ c.if-not-state_count_ok.false
+
+pub returns-then-not-state_count_ok : goal.returns-then-not-state_count_ok
+returns-then-not-state_count_ok c =
+    let a = c.args in
+    states-out a.n a.m a.marks.now a.teams.now a.from.now a.to.now a.low.now a.high.now (sym c.state_count_ok.ensures ∙ c.if-not-state_count_ok.true)
+
+pub returns-then-m-gt2048 : goal.returns-then-m-gt2048
+returns-then-m-gt2048 c =
+    let a = c.args in
+    count-out a.n a.m a.marks.now a.teams.now a.from.now a.to.now a.low.now a.high.now (some (goal.at.returns-then-m-gt2048 c).Else-not-state_count_ok) (lt-leb a.m 2048 (omega (arith, c.if-m-gt2048.true)))
+
+pub returns-then-not-states_within : goal.returns-then-not-states_within
+returns-then-not-states_within c =
+    let a = c.args in
+    each-out a.n a.m a.marks.now a.teams.now a.from.now a.to.now a.low.now a.high.now (some (goal.at.returns-then-not-states_within c).Else-not-state_count_ok) (le-leb a.m 2048 (omega (arith, c.if-m-gt2048.false))) (sym c.states_within.ensures ∙ c.if-not-states_within.true)
+
+pub returns : goal.returns
+returns c =
+    let a = c.args in
+    c.transitions_within.ensures ∙ transitions-left a.n a.m a.marks.now a.teams.now a.from.now a.to.now a.low.now a.high.now (some (goal.at.returns c).Else-not-state_count_ok) (le-leb a.m 2048 (omega (arith, c.if-m-gt2048.false))) (sym c.states_within.ensures ∙ c.if-not-states_within.false)

@@ -1,0 +1,8 @@
+-- `writing::state`: the four fields, each value within its width. Assumes nothing.
+use native.Mathlib.Omega.{arith}
+use Rattle.field.specs.Field.{AllFit}
+use Rattle.writing.proofs.state.Goals as goal
+
+pub put_four-requires-clause-all_fit : goal.put_four-requires-clause-all_fit
+unfolding AllFit
+put_four-requires-clause-all_fit c = (omega arith, (omega arith, (omega arith, (omega arith, tt))))
