@@ -1,10 +1,11 @@
 -- `keys::pass` meets its contract. The loop's invariant: over whatever graph the keys are, the pass is `Passing`; each turn is `pass-turn`. The measure is what is
 -- left of the transitions. Assumes nothing.
-use mathlib.Core.Logic.{inl, inr, ⊎_elim}
+use mathlib.Core.Logic.{inl, inr}
 use mathlib.Core.Path.{◌≡◌}
 use native.Mathlib.Numerals.{add-one}
 use native.Mathlib.Omega.{arith}
 use Rattle.keys.proofs.Lowered.{pass-turn}
+use Rattle.keys.proofs.pass.Goals.{then-relax, else-relax}
 use Rattle.keys.proofs.pass.Goals as goal
 
 pub relax-requires : goal.relax-requires
@@ -18,10 +19,13 @@ relax-requires c = let p = c.requires in
 
 pub loop-t-preserved : goal.loop-t-preserved
 loop-t-preserved c = let l = c.loop-t in (
-      omega arith,
-      λ n close k. rw add-one (pass-turn k.bounded c.loop-t-test.true (l.invariant.1 n close k) c.relax.ensures
-          (⊎_elim (λ w. inl (w.0.taken, w.1)) (λ w. inr (w.0.left, w.1)) c.if-relax.branch)),
-    )
+  omega arith,
+  λ n close k. rw add-one (pass-turn k.bounded c.loop-t-test.true (l.invariant.1 n close k) c.relax.ensures
+      (elim c.if-relax.branch [
+        | then-relax w ↦ inl (w.if-relax.true, w.lowered-is)
+        | else-relax w ↦ inr (w.if-relax.false, w.lowered-is)
+      ])),
+)
 
 pub returns : goal.returns
 returns c = let l = c.loop-t in

@@ -9,9 +9,9 @@ use Rattle.keys.proofs.settle.Goals as goal
 pub returns-then-not-pass : goal.returns-then-not-pass
 returns-then-not-pass c =
     let graph : Arrays =
-        arrays c.args.n c.args.m c.args.marks.now c.args.from.now c.args.to.now in
+    arrays c.args.n c.args.m c.args.marks.now c.args.from.now c.args.to.now in
     let passed : (close : List ℕ) → Keyed graph c.args.weight.now close c.args.key.now → Passing graph c.args.weight.now close c.first-first.result.cost c.args.m c.loop-first.key c.pass.result c.pass.new.key =
-        λ close k. c.pass.ensures c.args.n close (c.loop-first.invariant close k) in
+    λ close k. c.pass.ensures c.args.n close (c.loop-first.invariant close k) in
     λ close k.
     let p = passed close k in
     let (same, settled) = p.kept c.if-not-pass.true in
@@ -25,7 +25,7 @@ returns-then-not-pass c =
 pub loop-first-preserved : goal.loop-first-preserved
 loop-first-preserved c =
     let graph : Arrays =
-        arrays c.args.n c.args.m c.args.marks.now c.args.from.now c.args.to.now in
+    arrays c.args.n c.args.m c.args.marks.now c.args.from.now c.args.to.now in
     let passed : (close : List ℕ) → Keyed graph c.args.weight.now close c.args.key.now → Passing graph c.args.weight.now close c.first-first.result.cost c.args.m c.loop-first.key c.pass.result c.pass.new.key =
-        λ close k. c.pass.ensures c.args.n close (c.loop-first.invariant close k) in
+    λ close k. c.pass.ensures c.args.n close (c.loop-first.invariant close k) in
     λ close k. record { bounded = k.bounded; weighed = k.weighed; keys = (passed close k).keys }

@@ -1,0 +1,11 @@
+-- `costs::fill_closes`: the first s closes are filled. Assumes nothing.
+use Prim.Native.Nat.{ℕ}
+use mathlib.Core.Path.{sym, ap, ◌∙◌, subst}
+use borrow.Author.Rules.{rules}
+use lib.ListN.{length, length-replicate}
+use Rattle.costs.specs.Arrays.{Filled}
+use Rattle.costs.proofs.Filled.{filled_none}
+use Rattle.costs.proofs.fill_closes.Goals as goal
+
+pub loop-s-init : goal.loop-s-init
+loop-s-init c = (search rules, ap length c.requires.1 ∙ length-replicate {A = ℕ} 512 0, subst (Filled 0 _) (sym c.requires.1) (filled_none _ 512))
