@@ -55,7 +55,7 @@ C_TYPES = {"size_t": "usize", "uint8_t": "u8", "uint16_t": "u16", "uint32_t": "u
 
 
 def of_rattle(text):
-    pattern = r'#\[no_mangle\]\s+pub extern "C" fn (\w+)\(([^)]*)\)(?:\s*->\s*([^\s{]+))?'
+    pattern = r'#\[unsafe\(no_mangle\)\]\s+pub extern "C" fn (\w+)\(([^)]*)\)(?:\s*->\s*([^\s{]+))?'
     for name, parameters, result in re.findall(pattern, text):
         out = []
         for parameter in filter(None, map(str.strip, parameters.split(","))):
@@ -116,7 +116,7 @@ def constant(name):
 def comparisons(t):
     """Everything that is compared, as (what, in the source, found). Nothing in the source is no source, and wrong."""
     functions = list(of_rattle(t["binding"]))
-    yield "exported functions are all found", t["binding"].count("#[no_mangle]"), len(functions)
+    yield "exported functions are all found", t["binding"].count("#[unsafe(no_mangle)]"), len(functions)
     for place, found in ("header", of_c), ("archive", of_rust), ("proved", of_rust):
         declared = list(found(t[place]))
         yield f"{FILES[place]}: the functions", [f[0] for f in functions], [f[0] for f in declared]
@@ -127,10 +127,10 @@ def comparisons(t):
     answers = numbers(answers, r"(?m)^ *CALLPLAN_(\w+) = (\d+)")
     table = numbers(between(t["numbers"], "match refusal {", "}"), r"Refusal::(\w+) => (\d+),")
     yield "crates/numbers: number and its definition", table, numbers(t["refusal"], r"(?m)^number (\w+) = (\d+)$")
-    short = number(t["edits"], r"short : hasRoom before ≡ false → \(r ≡ (\d+)\)")
+    short = number(t["edits"], r"short : has_room before ≡ false → \(r ≡ (\d+)\)")
     accepted = number(t["refusal"], r"code \(accepted a\) = (\d+)")
-    yield "the answer with a length", accepted, number(t["lent"], r"lengthCode \(accepted n\) = (\d+) \+ n")
-    no_calls = number(t["lists"], r"areCalls kinds arguments octets ≡ false → \(r ≡ (\d+)\)")
+    yield "the answer with a length", accepted, number(t["lent"], r"length_code \(accepted n\) = (\d+) \+ n")
+    no_calls = number(t["lists"], r"are_calls kinds arguments octets ≡ false → \(r ≡ (\d+)\)")
     yield "short slices of a filling", short, number(t["lent"], r"short : .* ≡ false → \(r ≡ (\d+)\)")
     yield "short slices of a replay", short, number(t["lists"], r"short : .* ≡ false → \(r ≡ (\d+)\)")
     expected = [("REFUSED_" + constant(name), value) for name, value in table]
@@ -152,12 +152,12 @@ def comparisons(t):
     yield "reference: accepted", accepted, number(t["proved"], r"const ACCEPTED: u32 = (\d+)")
     yield "reference: short slices", short, number(t["proved"], r"const SHORT_SLICE: u32 = (\d+)")
 
-    states = number(t["limits"], r"stateCountOk n = leb 1 n && leb n (\d+)")
-    transitions = number(t["limits"], r"transitionCountOk m = leb m (\d+)")
-    length = re.findall(r"imageLength n m = (\d+) \+ n \+ (\d+) \* m", t["image"])
+    states = number(t["limits"], r"state_count_ok n = leb 1 n && leb n (\d+)")
+    transitions = number(t["limits"], r"transition_count_ok m = leb m (\d+)")
+    length = re.findall(r"image_length n m = (\d+) \+ n \+ (\d+) \* m", t["image"])
     octets = int(length[0][0]) + states + int(length[0][1]) * transitions if len(length) == 1 else None
-    duration = number(t["limits"], r"leb \(t \.high\) (\d+)")
-    (first, three), (line, four) = form(t["text"], "firstForm"), form(t["text"], "lineForm")
+    duration = number(t["limits"], r"leb t\.high (\d+)")
+    (first, three), (line, four) = form(t["text"], "first_form"), form(t["text"], "line_form")
     yield "the numbers of a text's lines", (3, 4), (three, four)
     first += len(f"{states - 1}{transitions}{states}")
     text = first + transitions * (line + len(f"{states - 1}{duration}{duration}{states - 1}"))
@@ -165,20 +165,20 @@ def comparisons(t):
         "MAX_STATES": states,
         "MAX_TRANSITIONS": transitions,
         "MAX_DURATION": duration,
-        "MAX_TEAM": number(t["class"], r"teamOk team = leb team (\d+)"),
+        "MAX_TEAM": number(t["class"], r"team_ok team = leb team (\d+)"),
         "OPEN_HIGH": number(t["route"], r"limit high = cond \(eqb high (\d+)\) Open"),
         "MAX_IMAGE_OCTETS": octets,
         "MAX_TEXT_OCTETS": text,
-        "RECORD_OCTETS": number(t["quotations"], r"recordRows g buffer = limitRow g ∷ bufferRow buffer (\d+)"),
+        "RECORD_OCTETS": number(t["quotations"], r"record_rows g buffer = limit_row g ∷ buffer_row buffer (\d+)"),
     }
-    yield "the record's length", constants["RECORD_OCTETS"], number(t["quotations"], r"byTable \(recordRows g buffer\) (\d+)")
+    yield "the record's length", constants["RECORD_OCTETS"], number(t["quotations"], r"by_table \(record_rows g buffer\) (\d+)")
     marks = {
-        "START": number(t["graph"], r"startBit v = v / (\d) % 2"),
-        "FINAL": number(t["graph"], r"finalBit v = v / (\d) % 2"),
-        "COUNTED": 1 if "countedBit v = v % 2" in t["graph"] else None,
+        "START": number(t["graph"], r"start_bit v = v / (\d) % 2"),
+        "FINAL": number(t["graph"], r"final_bit v = v / (\d) % 2"),
+        "COUNTED": 1 if "counted_bit v = v % 2" in t["graph"] else None,
     }
     # Each class by its name in words, with its first and its last team.
-    firsts, lasts = (dict(numbers(t["class"], rf"(?m)^{place} (\w+) = (\d+)$")) for place in ("firstTeam", "lastTeam"))
+    firsts, lasts = (dict(numbers(t["class"], rf"(?m)^{place} (\w+) = (\d+)$")) for place in ("first_team", "last_team"))
     classes = [(constant(name).replace("_", " ").lower(), first, lasts.get(name)) for name, first in firsts.items()]
     yield "the last team of the last class", constants["MAX_TEAM"], classes[-1][2] if classes else None
     for place, marker, pattern in (
@@ -202,7 +202,7 @@ def comparisons(t):
     yield "rust/callplan: the bounds of a number", bounds, [x.replace(",", "") for least, greatest, count in said for x in (least, greatest, count, count)]
     # How a seed makes a plan, in numbers: the words, and the durations that are drawn.
     rule = [number(t["words"], pattern) for pattern in (
-        r"cond \(ltb \(suc i\) (\d+)\)", r"plus \(back 1 words\) (\d+)", r"plus \(back (\d+) words\) \(back", r"\(back (\d+) words\)\)\n",
+        r"cond \(nat_lt \(suc i\) (\d+)\)", r"plus \(back 1 words\) (\d+)", r"plus \(back (\d+) words\) \(back", r"\(back (\d+) words\)\)\n",
         r"plus a b = \(a \+ b\) % (\d+)",
     )]
     durations = number(t["generated"], r"low = low % (\d+);")
@@ -217,7 +217,7 @@ def comparisons(t):
     declared = between(t["header"], "typedef enum callplan_kind {", "} callplan_kind;")
     yield "include/callplan.h: the kinds", kinds, numbers(declared, r"CALLPLAN_(\w+) = (\d)")
     # What the kinds are called: a number by the word of its kind in the record, the others by the words of quote's lines.
-    called = re.findall(r'(?m)^figureText (\w+) = octets "(\w+)"$', t["lines"])
+    called = re.findall(r'(?m)^figure_text (\w+) = octets "(\w+)"$', t["lines"])
     called = [(name, dict(called).get(name)) for name, _ in kinds[1:]]
     given = re.findall(r'case CALLPLAN_(\w+): return "([^"]*)";', between(t["header"], "callplan_kind_text(callplan_kind kind)", "\n}"))
     yield "include/callplan.h: what the kinds are called", [("NUMBER", "number"), *called], given
@@ -231,31 +231,31 @@ def comparisons(t):
         slices = between(t["header"], f"#define CALLPLAN_{name}(plan) \\\n", "\n")
         given = f"(plan)->counts, 2, callplan_private_{lent}(plan), 2 * CALLPLAN_MAX_STATES, (plan)->fields, 4 * CALLPLAN_MAX_TRANSITIONS"
         yield f"include/callplan.h: the slices, {name}", given, slices.strip()
-    out = number(t["quotations"], r"lentQuoteRows asked g walk out = .*bufferRow out (\d+) ∷")
+    out = number(t["quotations"], r"lent_quote_rows asked g walk out = .*buffer_row out (\d+) ∷")
     yield "include/callplan.h: the places of an answer", [str(out)] * 2, re.findall(r"figure->walk, CALLPLAN_MAX_STATES, out, (\d+)\)", t["header"])
     yield "reference: the places of a plan's states", 1, t["proved"].count("const STATES: usize = 2 * MAX_STATES;")
-    room = re.findall(r"(?s)\nheldRows image walks = [^\n]*bufferRow walks (\d+) ∷.*\nlentHeldRows image walks out = heldRows [^\n]*bufferRow out (\d+) ∷", t["quotations"])
+    room = re.findall(r"(?s)\nheld_rows image walks = [^\n]*buffer_row walks (\d+) ∷.*\nlent_held_rows image walks out = held_rows [^\n]*buffer_row out (\d+) ∷", t["quotations"])
     yield "the places of four answers", [(str(4 * states), str(4 * out))], room
     yield "include/callplan.h: the places of four answers", 1, t["header"].count("length, walks, 4 * CALLPLAN_MAX_STATES, out, 4 * 4)")
-    room = re.findall(r"bufferRow walks (\d+) ∷ bufferRow out (\d+) ∷", t["rows"])
+    room = re.findall(r"buffer_row walks (\d+) ∷ buffer_row out (\d+) ∷", t["rows"])
     yield "the places of a replay", [(str(4 * states), str(4 * out))], room
     given = "CALLPLAN_SLICES(plan), walks, 4 * CALLPLAN_MAX_STATES, out, 4 * 4)"
     yield "include/callplan.h: the places of a replay", 1, t["header"].count(given)
-    calls = re.findall(r"(?m)^callOf octets (\S+|\(.*?\)+) a b c d = (\w+) ", t["calls"])
+    calls = re.findall(r"(?m)^call_of octets (\S+|\(.*?\)+) a b c d = (\w+) ", t["calls"])
     calls = [(name.upper(), pattern.count("suc")) for pattern, name in calls]
     yield "include/callplan.h: the kinds of calls", calls, numbers(t["header"], r"CALLPLAN_CALL_(\w+) = (\d)")
     declared = numbers(between(t["replay"], "pub enum CallKind {", "\n}"), r"(?m)^    (\w+) = (\d),$")
     yield "rust/callplan: the kinds of calls", calls, [(constant(name), value) for name, value in declared]
     yield "rust/callplan: a kind of a call is an octet", 1, t["replay"].count("#[repr(u8)]\npub enum CallKind {")
     order = [(constant(name), place) for name, place in numbers(t["which"], r"(?m)^place (\w+) = (\d)$")]
-    yield "the figures in turn", [name for name, _ in order], list(map(constant, re.findall(r"f (\w+)", between(t["which"], "\ninTurn f =", "\n"))))
-    yield "the answers in turn", 1, t["answered"].count("fourNumbers q = inTurn (λ which. numbersOf (quoteOf q which))")
+    yield "the figures in turn", [name for name, _ in order], list(map(constant, re.findall(r"f (\w+)", between(t["which"], "\nin_turn f =", "\n"))))
+    yield "the answers in turn", 1, t["answered"].count("four_numbers q = in_turn (λ which. numbers_of (quote_of q which))")
     places = numbers(t["header"], r"CALLPLAN_((?:LEAST|GREATEST)_\w+) = (\d)")
     yield "include/callplan.h: the places of the figures", order, places
 
     version = re.findall(r'#define CALLPLAN_VERSION "([\d.]+)"', t["header"])
     first, second, third = map(int, version[0].split("."))
-    archive = number(t["binding"], r"fn callplan_lent_version\(\) -> u32\s+ensures \{ λ r\. ⌜ r ≡ (\d+) ⌝ \}")
+    archive = number(t["binding"], r"fn callplan_lent_version\(\) -> u32\s+ensures \{ result ≡ (\d+) \}")
     yield "the archive's version", 10000 * first + 100 * second + third, archive
     yield "include/callplan.h: the version's number", archive, number(t["header"], r"#define CALLPLAN_VERSION_NUMBER (\d+)")
     yield "rust/callplan: the version's number", archive, number(t["crate"], r"pub const VERSION_NUMBER: u32 = (\d+);")
@@ -290,8 +290,8 @@ DAMAGES = [
     ("binding", "    state: usize,\n    team: u32,\n) -> u32", "    state: usize,\n    team: u8,\n) -> u32"),
     ("binding", "    from: usize,\n    to: usize,\n    low: u32,", "    to: usize,\n    from: usize,\n    low: u32,"),
     ("binding", "    value: u32,\n) -> u32", "    value: u32,\n) -> u64"),
-    ("binding", "#[no_mangle]\n", "#[no_mangle]\npub extern \"C\" fn callplan_lent_more(n: usize) -> u32\n{ 0 }\n\n#[no_mangle]\n"),
-    ("binding", "#[no_mangle]\npub extern", "pub extern"),
+    ("binding", "#[unsafe(no_mangle)]\n", "#[unsafe(no_mangle)]\npub extern \"C\" fn callplan_lent_more(n: usize) -> u32\n{ 0 }\n\n#[unsafe(no_mangle)]\n"),
+    ("binding", "#[unsafe(no_mangle)]\npub extern", "pub extern"),
     ("numbers", "Refusal::Duration => 8", "Refusal::Duration => 9"),
     ("numbers", "Refusal::SpareBits => 6,", ""),
     ("numbers", "Refusal::TextForm => 15", "Refusal::TextForm => 14"),
@@ -307,34 +307,34 @@ DAMAGES = [
     ("lent", "= 256 + n", "= 255 + n"),
     ("lists", "(r ≡ 254)", "(r ≡ 253)"),
     ("lists", "(r ≡ 255)", "(r ≡ 254)"),
-    ("rows", "bufferRow walks 2048", "bufferRow walks 2047"),
-    ("rows", "bufferRow out 16", "bufferRow out 4"),
+    ("rows", "buffer_row walks 2048", "buffer_row walks 2047"),
+    ("rows", "buffer_row out 16", "buffer_row out 4"),
     ("calls", "a b c d = unjoin a", "a b c d = mark a b"),
     ("calls", "a b c d = team a b", "a b c d = mark a b"),
     ("room", "leb 8192 fields", "leb 8191 fields"),
     ("room", "leb 1024 states", "leb 512 states"),
-    ("class", "teamOk team = leb team 31", "teamOk team = leb team 32"),
-    ("class", "firstTeam Clinics = 10", "firstTeam Clinics = 9"),
-    ("class", "lastTeam Switchboards = 29", "lastTeam Switchboards = 30"),
-    ("answered", "inTurn (λ which.", "inTurn (λ other."),
+    ("class", "team_ok team = leb team 31", "team_ok team = leb team 32"),
+    ("class", "first_team Clinics = 10", "first_team Clinics = 9"),
+    ("class", "last_team Switchboards = 29", "last_team Switchboards = 30"),
+    ("answered", "in_turn (λ which.", "in_turn (λ other."),
     ("which", "place GreatestDelay = 1", "place GreatestDelay = 2"),
-    ("which", "inTurn f = f LeastDelay", "inTurn f = f LeastCount"),
+    ("which", "in_turn f = f LeastDelay", "in_turn f = f LeastCount"),
     ("limits", "leb n 512", "leb n 511"),
     ("limits", "leb m 2048", "leb m 4096"),
-    ("limits", "leb (t .high) 2047", "leb (t .high) 2046"),
+    ("limits", "leb t.high 2047", "leb t.high 2046"),
     ("image", "4 + n + 5 * m", "4 + n + 6 * m"),
     ("text", 'octets "des ("', 'octets "des  ("'),
     ("text", 'word (octets "..") ∷ number ∷ ', 'word (octets "..") ∷ '),
-    ("quotations", "bufferRow out 4 ∷", "bufferRow out 5 ∷"),
-    ("quotations", "imageRows image ++ (bufferRow walks 2048", "imageRows image ++ (bufferRow walks 2047"),
-    ("quotations", "bufferRow out 16 ∷", "bufferRow out 15 ∷"),
-    ("quotations", "bufferRow buffer 11", "bufferRow buffer 16"),
-    ("quotations", "(recordRows g buffer) 11", "(recordRows g buffer) 16"),
-    ("graph", "startBit v = v / 4", "startBit v = v / 8"),
-    ("graph", "finalBit v = v / 2", "finalBit v = v / 4"),
-    ("graph", "countedBit v = v % 2", "countedBit v = v / 8 % 2"),
+    ("quotations", "buffer_row out 4 ∷", "buffer_row out 5 ∷"),
+    ("quotations", "image_rows image ++ (buffer_row walks 2048", "image_rows image ++ (buffer_row walks 2047"),
+    ("quotations", "held_rows image walks ++ (buffer_row out 16 ∷", "held_rows image walks ++ (buffer_row out 15 ∷"),
+    ("quotations", "buffer_row buffer 11", "buffer_row buffer 16"),
+    ("quotations", "(record_rows g buffer) 11", "(record_rows g buffer) 16"),
+    ("graph", "start_bit v = v / 4", "start_bit v = v / 8"),
+    ("graph", "final_bit v = v / 2", "final_bit v = v / 4"),
+    ("graph", "counted_bit v = v % 2", "counted_bit v = v / 8 % 2"),
     ("figure", "kind STRANDED = 2", "kind STRANDED = 3"),
-    ("lines", 'figureText STRANDED = octets "STRANDED"', 'figureText STRANDED = octets "LOST"'),
+    ("lines", 'figure_text STRANDED = octets "STRANDED"', 'figure_text STRANDED = octets "LOST"'),
     ("header", 'case CALLPLAN_NONE: return "NONE";', 'case CALLPLAN_NONE: return "none";'),
     ("header", '    case CALLPLAN_ENDLESS: return "ENDLESS";\n', ""),
     ("header", 'case CALLPLAN_NUMBER: return "number";', 'case CALLPLAN_NUMBER: return "NUMBER";'),
@@ -347,7 +347,7 @@ DAMAGES = [
     ("words", "(back 55 words)", "(back 54 words)"),
     ("words", "word s (55 + k)", "word s (54 + k)"),
     ("words", "% 4294967296", "% 4294967295"),
-    ("words", "ltb (suc i) 55", "ltb (suc i) 56"),
+    ("words", "nat_lt (suc i) 55", "nat_lt (suc i) 56"),
     ("generated", "low = low % 2048;", "low = low % 2047;"),
     ("header", "plus 9E3779B9 hex", "plus 9E3779B8 hex"),
     ("header", "the word 24 back plus", "the word 31 back plus"),
@@ -438,7 +438,7 @@ DAMAGES = [
     ("header", "a transition's to is not below the state count\"", "a transition's from is not below the state count\""),
     ("header", '    case CALLPLAN_ACCEPTED: return "accepted";\n', ""),
     ("header", "CALLPLAN_VERSION_NUMBER 9", "CALLPLAN_VERSION_NUMBER 8"),
-    ("binding", "r ≡ 900 ⌝", "r ≡ 901 ⌝"),
+    ("binding", "result ≡ 900 }", "result ≡ 901 }"),
     ("crate", "VERSION_NUMBER: u32 = 9", "VERSION_NUMBER: u32 = 8"),
     ("launch", "version=0", "version=1"),
     ("page", '"callplan 0', '"callplan 1'),
