@@ -20,7 +20,7 @@ fn main() {
     println!("cargo:rerun-if-changed={}", archive.display());
     if !archive.is_file() {
         eprintln!("The proved library is not at {}.", archive.display());
-        eprintln!("Run `rt staticlib binding` at the root of the repository to make it,");
+        eprintln!("Run `./build-library` at the root of the repository to make it,");
         eprintln!("or name the folder that has libbinding.a in RT_STATICLIB_DIR.");
         eprintln!(
             "`cargo test --release --offline --no-default-features` does without the library."
