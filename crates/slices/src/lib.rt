@@ -12,7 +12,7 @@ use plan::{Edited, Plan};
 use rules::Answer;
 
 // Whether three lent slices have the places of a plan.
-pub fn has_room_lem(counts: usize, states: usize, fields: usize) -> bool
+pub fn has_room(counts: usize, states: usize, fields: usize) -> bool
     ensures { result ≡ roomy counts states fields }
 {
     (2 <= counts) & ((1024 <= states) & (8192 <= fields))
