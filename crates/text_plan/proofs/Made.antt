@@ -10,7 +10,7 @@ use Rattle.rules.specs.declared.Refusal.{Refusal}
 use Rattle.rules.specs.Aldebaran.{import_text}
 use Rattle.rules.specs.Calls.{import}
 use Rattle.rules.specs.Limits.{within}
-use Rattle.rules.specs.Refusal.{Result, accepted, refused, said}
+use Rattle.rules.specs.Refusal.{accepted, refused, said}
 use Rattle.rules.specs.Rules.{fresh_graph, fresh_rule, next}
 use Rattle.rules.proofs.Basic.{fresh_done, fresh-refused, import_given}
 use Rattle.rules.proofs.Kept.{fresh-within}
