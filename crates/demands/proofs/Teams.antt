@@ -29,7 +29,7 @@ use Rattle.rules.specs.declared.Quote.{Quote}
 use Rattle.rules.specs.declared.Refusal.TheVariants.{Version, StateNumber, TeamNumber}
 use Rattle.rules.specs.declared.Written.TheVariants.{Length}
 use Rattle.rules.specs.Aldebaran.{plan_of}
-use Rattle.rules.specs.Calls.{mark, team, import}
+use Rattle.rules.specs.Calls.{mark, import}
 use Rattle.rules.specs.Image.{image, image_rows, header_rows, state_rows, transition_rows, state_item, fourth_of, state_at, state_place, version_of, state_count_of, transition_count_of, transition_at, transition_place, graph_in, read_image}
 use Rattle.rules.specs.Limits.{within, state_ok, marks_ok}
 use Rattle.rules.specs.Quotations.{said_quotation, says_asked, Stated}
