@@ -1,7 +1,7 @@
 -- What was put lies within the buffer, since its length is that of the octets put at the front (`image-within`, `text-within`, `seed-within`). And a buffer of the rooms that
 -- the crate names is never too short: no image and no text is longer (`image_room`, `text_room`), and no ground of the octets' own, or of a test plan's numbers, is 11 (`image-enough`,
 -- `text-enough`, `seed-enough`). Assumes nothing.
-use mathlib.Core.Bool.{true, false, not, true≢false}
+use mathlib.Core.Bool.{Bool, true, false, not, true≢false}
 use mathlib.Core.List.{List, [], ◌∷◌, ◌++◌, append-nil}
 use mathlib.Core.Path.{◌≡◌, refl, sym, ap, ◌∙◌}
 use Prim.Native.Nat.{ℕ, ◌≤◌}
@@ -69,6 +69,11 @@ image_room rows g before i h =
     answer-first (rows ++ past_limits (write_rows g before)) (image_length (states g) (count g))
     ∙ tail-decides rows (past_limits (write_rows g before)) [] (λ none. rw (short none) refl) ∙ ap first (append-nil rows)
 
+-- a buffer that is not too short decides nothing
+start_alone : (b : Bool) → first ((StartCount, b) ∷ (BufferLength, false) ∷ []) ≡ first ((StartCount, b) ∷ [])
+start_alone true = refl
+start_alone false = refl
+
 -- the image alone decides, and then 14
 text_room : (octets before : List ℕ) → 51221 ≤ length before
     → answer_of (text_rule octets before) ≡ first (image_rows octets ++ ((StartCount, not (eqb (length (starts (graph_in octets))) 1)) ∷ []))
@@ -78,7 +83,7 @@ text_room octets before h =
     let short : NoneHolds (image_rows octets) → ltb (length before) (length (export_text g)) ≡ false =
     λ none. le-ltb (length before) (length (export_text g)) (omega (arith, text-short g (read-within octets g (accepted_where (image_rows octets) g none)))) in
     answer-first (image_rows octets ++ past_limits (export_rows g before)) (length (export_text g))
-    ∙ tail-decides (image_rows octets) (past_limits (export_rows g before)) ((StartCount, not (eqb (length (starts g)) 1)) ∷ []) (λ none. rw (short none) refl)
+    ∙ tail-decides (image_rows octets) (past_limits (export_rows g before)) ((StartCount, not (eqb (length (starts g)) 1)) ∷ []) (λ none. rw (short none) (start_alone (not (eqb (length (starts g)) 1))))
 
 -- ---- 11 is no ground of the octets' own, so no conversion is refused for such a buffer
 

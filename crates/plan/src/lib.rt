@@ -18,7 +18,7 @@ use image::reading;
 use rules::{Answer, Format, Refusal, Written};
 
 // A plan: the two counts, a marks value and a team for each state, and four fields for each transition. Places past the counts hold no part of it.
-#[derive(Drop)]
+#[derive(Clone, Copy)]
 pub struct Plan {
     pub states: usize,
     pub transitions: usize,

@@ -5,7 +5,7 @@ pub mod explore;
 
 // What the search from the starts found: no start; a loop, from a stack of so many states back to a place on it; a dead end; or neither, with so
 // many states left.
-#[derive(Drop)]
+#[derive(Clone, Copy)]
 pub enum Reach {
     NoStart,
     Looped { depth: usize, back: usize },
@@ -14,7 +14,7 @@ pub enum Reach {
 }
 
 // What the search found, with the arrays that it left behind: ranks, cursors, the stack, the order of leaving, and the transitions that led to the states.
-#[derive(Drop)]
+#[derive(Clone, Copy)]
 pub struct Searched {
     pub found: Reach,
     pub rank: [u16; 512],

@@ -7,7 +7,7 @@ use crate::NONE;
 use arrays::limits::wide;
 
 // The chains of the states. NONE ends a chain.
-#[derive(Drop)]
+#[derive(Clone, Copy)]
 pub struct Chain {
     pub head: [u16; 512],
     pub link: [u16; 2048],

@@ -50,7 +50,7 @@ tested c =
     let f = fields os c.args.fields c.requires.0 c.requires.1 in
     let v : version_ok (version_of os) ≡ true = ap version_ok (sym f.version) ∙ sym c.version_ok.ensures ∙ c.if-not-version_ok.false in
     let s : state_count_ok (state_count_of os) ≡ true = ap state_count_ok (sym f.states) ∙ sym c.state_count_ok.ensures ∙ c.if-not-state_count_ok.false in
-    let t : leb (transition_count_of os) 2048 ≡ true = ap (λ (x : ℕ). leb x 2048) (sym f.transitions) ∙ le-leb c.args.fields.third 2048 (omega (arith, c.if-m-gt2048.false)) in
+    let t : leb (transition_count_of os) 2048 ≡ true = ap (λ (x : ℕ). leb x 2048) (sym f.transitions) ∙ le-leb c.args.fields.third 2048 (omega arith) in
     let p : eqb (pad_of os) 0 ≡ true = eq-eqb (pad_of os) 0 (sym f.pad ∙ c.if-pad-ne0.false) in
     let n = c.args.fields.second in
     let h : state_count_ok n ≡ true = ap state_count_ok f.states ∙ s in
@@ -88,7 +88,7 @@ returns-then-m-gt2048 c =
     let f = fields os c.args.fields c.requires.0 c.requires.1 in
     let v : version_ok (version_of os) ≡ true = ap version_ok (sym f.version) ∙ sym c.version_ok.ensures ∙ c.if-not-version_ok.false in
     let s : state_count_ok (state_count_of os) ≡ true = ap state_count_ok (sym f.states) ∙ sym c.state_count_ok.ensures ∙ c.if-not-state_count_ok.false in
-    let t : leb (transition_count_of os) 2048 ≡ false = ap (λ (x : ℕ). leb x 2048) (sym f.transitions) ∙ lt-leb c.args.fields.third 2048 (omega (arith, c.if-m-gt2048.true)) in
+    let t : leb (transition_count_of os) 2048 ≡ false = ap (λ (x : ℕ). leb x 2048) (sym f.transitions) ∙ lt-leb c.args.fields.third 2048 (omega arith) in
     rw (f.there, v, s, t)
 
 pub returns-then-pad-ne0 : goal.returns-then-pad-ne0
@@ -98,7 +98,7 @@ returns-then-pad-ne0 c =
     let f = fields os c.args.fields c.requires.0 c.requires.1 in
     let v : version_ok (version_of os) ≡ true = ap version_ok (sym f.version) ∙ sym c.version_ok.ensures ∙ c.if-not-version_ok.false in
     let s : state_count_ok (state_count_of os) ≡ true = ap state_count_ok (sym f.states) ∙ sym c.state_count_ok.ensures ∙ c.if-not-state_count_ok.false in
-    let t : leb (transition_count_of os) 2048 ≡ true = ap (λ (x : ℕ). leb x 2048) (sym f.transitions) ∙ le-leb c.args.fields.third 2048 (omega (arith, c.if-m-gt2048.false)) in
+    let t : leb (transition_count_of os) 2048 ≡ true = ap (λ (x : ℕ). leb x 2048) (sym f.transitions) ∙ le-leb c.args.fields.third 2048 (omega arith) in
     let p : eqb (pad_of os) 0 ≡ false = ne_eqb (pad_of os) 0 (λ e. c.if-pad-ne0.true (f.pad ∙ e)) in
     rw (f.there, v, s, t, p)
 

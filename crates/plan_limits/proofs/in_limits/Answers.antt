@@ -20,14 +20,14 @@ returns-then-not-state_count_ok c =
 pub returns-then-m-gt2048 : goal.returns-then-m-gt2048
 returns-then-m-gt2048 c =
     let a = c.args in
-    count-out a.n a.m a.marks.now a.teams.now a.from.now a.to.now a.low.now a.high.now (some (goal.at.returns-then-m-gt2048 c).Else-not-state_count_ok) (lt-leb a.m 2048 (omega (arith, c.if-m-gt2048.true)))
+    count-out a.n a.m a.marks.now a.teams.now a.from.now a.to.now a.low.now a.high.now (some (goal.at.returns-then-m-gt2048 c).Else-not-state_count_ok) (lt-leb a.m 2048 (omega arith))
 
 pub returns-then-not-states_within : goal.returns-then-not-states_within
 returns-then-not-states_within c =
     let a = c.args in
-    each-out a.n a.m a.marks.now a.teams.now a.from.now a.to.now a.low.now a.high.now (some (goal.at.returns-then-not-states_within c).Else-not-state_count_ok) (le-leb a.m 2048 (omega (arith, c.if-m-gt2048.false))) (sym c.states_within.ensures ∙ c.if-not-states_within.true)
+    each-out a.n a.m a.marks.now a.teams.now a.from.now a.to.now a.low.now a.high.now (some (goal.at.returns-then-not-states_within c).Else-not-state_count_ok) (le-leb a.m 2048 (omega arith)) (sym c.states_within.ensures ∙ c.if-not-states_within.true)
 
 pub returns : goal.returns
 returns c =
     let a = c.args in
-    c.transitions_within.ensures ∙ transitions-left a.n a.m a.marks.now a.teams.now a.from.now a.to.now a.low.now a.high.now (some (goal.at.returns c).Else-not-state_count_ok) (le-leb a.m 2048 (omega (arith, c.if-m-gt2048.false))) (sym c.states_within.ensures ∙ c.if-not-states_within.false)
+    c.transitions_within.ensures ∙ transitions-left a.n a.m a.marks.now a.teams.now a.from.now a.to.now a.low.now a.high.now (some (goal.at.returns c).Else-not-state_count_ok) (le-leb a.m 2048 (omega arith)) (sym c.states_within.ensures ∙ c.if-not-states_within.false)

@@ -1,0 +1,56 @@
+-- `shown::show_all`: the limits give what the chains, the search and each figure ask for. The invariant: the figures before place i are shown, each in its part (`Showing`). The
+-- measure is how many are left. Assumes nothing.
+use mathlib.Core.Path.{◌≡◌, refl}
+use Prim.Native.Nat.{◌+◌, ◌*◌, ◌-◌}
+use native.Mathlib.Numerals.{add-one}
+use native.Mathlib.Omega.{arith}
+use Rattle.search.specs.Chain.{Linked}
+use Rattle.figures.specs.Figures.{arrays_of}
+use Rattle.figures.proofs.Held.{bounded_in, from_small, linked_in}
+use Rattle.plan.specs.declared.Plan.{Plan}
+use Rattle.plan.specs.View.{plan_of}
+use Rattle.shown.proofs.Parts.{cut-length, there, showing_part, all_shown}
+use Rattle.shown.proofs.show_all.Goals as goal
+
+pub chains-out-requires : goal.chains-out-requires
+chains-out-requires c =
+    let plan : Plan =
+    plan_of c.args.n c.args.m c.args.marks.now c.args.teams.now c.args.from.now c.args.to.now c.args.low.now c.args.high.now in
+    let p = plan in ((bounded_in p c.requires.0).count, from_small p c.requires.0)
+
+pub reach-reached-requires : goal.reach-reached-requires
+reach-reached-requires c =
+    let plan : Plan =
+    plan_of c.args.n c.args.m c.args.marks.now c.args.teams.now c.args.from.now c.args.to.now c.args.low.now c.args.high.now in
+    let linked : Linked (arrays_of plan) c.chains-out.result.head c.chains-out.result.link =
+    linked_in plan c.requires.0 c.chains-out.result c.chains-out.ensures in
+    (c.args.m, c.args.from.now, linked)
+
+pub figure-requires-clause-high_value : goal.figure-requires-clause-high_value
+figure-requires-clause-high_value c =
+    let plan : Plan =
+    plan_of c.args.n c.args.m c.args.marks.now c.args.teams.now c.args.from.now c.args.to.now c.args.low.now c.args.high.now in
+    let i = c.loop-i.i in
+    let k : 512 * i + 512 - 512 * i ≡ 512 = omega arith in
+    let l = cut-length (512 * i) c.loop-i.walks (there c.requires.1 c.loop-i-test.true c.loop-i.invariant.1) in
+    let n = (bounded_in plan c.requires.0).states in
+    (c.requires.0, rw k (omega (arith, l, n)))
+
+pub figure-requires-clause-chains : goal.figure-requires-clause-chains
+figure-requires-clause-chains c =
+    let plan : Plan =
+    plan_of c.args.n c.args.m c.args.marks.now c.args.teams.now c.args.from.now c.args.to.now c.args.low.now c.args.high.now in
+    let linked : Linked (arrays_of plan) c.chains-out.result.head c.chains-out.result.link =
+    linked_in plan c.requires.0 c.chains-out.result c.chains-out.ensures in
+    (c.chains-out.ensures, c.reach-reached.ensures c.args.m c.args.from.now linked)
+
+pub loop-i-preserved : goal.loop-i-preserved
+loop-i-preserved c = let i = c.loop-i.i in
+    let f = c.figure in
+    let s = rw c.figure_at-which.ensures at f.ensures in
+    let k : 512 * i + 512 - 512 * i ≡ 512 = omega arith in
+    (omega arith, rw add-one (showing_part c.requires.1 c.loop-i-test.true c.loop-i.invariant.1 f.result c.figure.new.walk (512 * i + 512 - 512 * i) k c.figure.auto.walk s))
+
+pub returns : goal.returns
+returns c = let e : c.loop-i.i ≡ 4 = omega (arith, c.loop-i.invariant.0, c.loop-i-test.false) in
+    all_shown _ (rw e at c.loop-i.invariant.1) refl refl refl refl
