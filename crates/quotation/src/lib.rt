@@ -5,13 +5,14 @@
 ghost use Rattle.std.specs.Prelude.{List, ◌≡◌, ℕ, ◌<◌, length};
 ghost use Rattle.graph.specs.declared.Asked.TheVariants.{One, LeastCountFor, GreatestCountFor};
 ghost use Rattle.graph.specs.declared.Which.TheVariants.{LeastDelay, GreatestDelay, LeastCount, GreatestCount};
+ghost use Rattle.plan.specs.Promise.{Held};
 ghost use Rattle.plan.specs.View.{view};
 ghost use Rattle.rules.specs.Quotations.{record_octets, record_rule, quote_rule, Quotes, QuotesAll, Write};
 ghost use Rattle.rules.specs.Refusal.{said};
 ghost use Rattle.taken.specs.Taken.{QuotesImage};
 
 use graph::{Asked, Which};
-use plan::Plan;
+use plan::{Edited, Plan};
 use rules::{Answer, HeldQuotations, Quotation, Quotations, Refusal, Written};
 
 // Whether a quotation is refused that was lent so many places: the plan's limits, the team that it names, then the places.
@@ -92,12 +93,20 @@ pub fn all(p: Plan, walks: &mut [u16]) -> Quotations
     ))
 }
 
+// The plan that an image holds, in a frame of its own: what it fills is not on the stack while the figures are searched for.
+#[inline(never)]
+fn plan_held(octets: &[u8]) -> Edited
+    ensures { Held octets.now result }
+{
+    plan::held(octets)
+}
+
 // All four figures of the plan that an image holds, with their walks, as `all` has them, and the bits that were taken of it. The plan that was read is within the
 // limits, so it is not looked at again.
 pub fn held(octets: &[u8], walks: &mut [u16]) -> HeldQuotations
     ensures { QuotesImage octets.now walks.old walks.new result }
 {
-    let edited = plan::held(octets);
+    let edited = plan_held(octets);
     let read = edited.answer;
     let taken = edited.taken;
     if let Answer::Refused(r) = read {

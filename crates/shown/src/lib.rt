@@ -1,10 +1,12 @@
 // The figures of a plan within the limits, with the walks that show them: what is asked for, or all four, by one search for what the starts reach.
 #![tactic(auto)]
 
-ghost use Rattle.std.specs.Prelude.{true, ◌≡◌, ◌≤◌, length};
+ghost use Rattle.std.specs.Prelude.{true, ◌≡◌, ◌≤◌, ◌<◌, ℕ, length};
 ghost use Rattle.plan.specs.View.{plan_of, view};
 ghost use Rattle.rules.specs.Limits.{within};
 ghost use Rattle.rules.specs.Quotations.{says_asked, Stated, AllStated};
+ghost use Rattle.search.specs.Arrays.{at};
+ghost use Rattle.search.specs.Chain.{Chains};
 ghost use Rattle.shown.specs.Places.{figure_at};
 
 use graph::{Asked, Which};
@@ -12,6 +14,7 @@ use plan::Plan;
 use reach::explore;
 use rules::{Figure, FourQuotes, Quote};
 use search::chain;
+use search::chain::Chain;
 
 // What is asked for of a plan, with the walk that shows it.
 pub fn show(asked: Asked, p: Plan, walk: &mut [u16]) -> Quote
@@ -39,6 +42,15 @@ fn figure_at(i: usize) -> Which
     }
 }
 
+// The transitions by the state that they leave, in a frame of its own: what it fills is not on the stack while the figures are searched for.
+#[inline(never)]
+fn chains(from: &[u16; 2048], m: usize) -> Chain
+    requires { (m ≤ 2048) × ((t : ℕ) → t < m → at from.now t < 512) }
+    ensures { Chains from.now m result.head result.link }
+{
+    chain::chains(from, m)
+}
+
 // The four figures of the plan in the arrays, by one search for what the starts reach; the walks stand in four parts of 512 places.
 pub fn show_all<'a>(
     n: usize,
@@ -56,7 +68,7 @@ pub fn show_all<'a>(
         (view (plan_of n m marks.now teams.now from.now to.now low.now high.now))
         result walks.old walks.new }
 {
-    let out = chain::chains(from, m);
+    let out = chains(from, m);
     let reached = explore::reach(n, marks, to, &out.head, &out.link);
     let mut quotes = [Quote {
         figure: Figure::None,

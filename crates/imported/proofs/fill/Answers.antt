@@ -17,7 +17,7 @@ use Rattle.text_reading.proofs.Reading.{Told, form_told, form_off}
 use Rattle.imported.proofs.Importing.{Read, not_refused, lists-on, lists-off, first_off, by_lines, by_end, by_rows, by_plan}
 use borrow.Author.Rules.{rules}
 use Rattle.imported.proofs.fill.Goals as goal
-use Rattle.imported.proofs.fill.Goals.{After-lines-listed, Else-not-end, Else-not-start, In_default}
+use Rattle.imported.proofs.fill.Goals.{After-lines-listed, Else-not-end, Else-not-start}
 
 -- the first line
 told : (c : Else-not-start) → Told c.args.text.now 0 first_form (first_numbers c.read_first-heading.result) c.read_first-heading.result.next

@@ -7,7 +7,6 @@ use Rattle.rules.specs.declared.Written.{Written}
 use Rattle.rules.specs.Refusal.{wrote}
 use Rattle.plan.specs.View.{view}
 use Rattle.slices.specs.Lent.{slices, has_room}
-use Rattle.slices.proofs.Stores.{has_room_lem}
 use Rattle.lent.specs.Written.{length_code}
 use Rattle.lent.proofs.Fills.{few, filled}
 use Rattle.lent.proofs.fill.Goals as goal

@@ -4,7 +4,6 @@ use mathlib.Core.Path.{sym, ◌∙◌}
 use lib.Seq.{length-take-le}
 use Rattle.plan.specs.View.{view}
 use Rattle.slices.specs.Lent.{slices}
-use Rattle.slices.proofs.Stores.{has_room_lem}
 use Rattle.answers.proofs.Handing.{handed-le}
 use Rattle.lent.proofs.Quotes.{small, four-places, quote-finished}
 use Rattle.lent.proofs.quote.Goals as goal

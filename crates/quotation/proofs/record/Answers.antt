@@ -1,6 +1,6 @@
 -- `quotation::record`: each test is the next row of the rule; 20 bits hold every figure, so what is put is the record (proofs/Recorded.antt). Assumes nothing.
 use mathlib.Core.Path.{sym, ◌∙◌}
-use native.Mathlib.Omega.{arith}
+use borrow.Author.Rules.{rules}
 use borrow.Author.Tests.{lt-ltb, le-ltb}
 use Rattle.plan.specs.View.{view}
 use Rattle.rules.specs.declared.Refusal.TheVariants.{PlanLimits, BufferLength}
@@ -20,4 +20,4 @@ put_record-requires-clause-which_bound c = quotes_fit (view c.args.p) _ _ _ c.sh
 pub returns : goal.returns
 returns c = let w = (sym c.within.ensures ∙ c.if-not-within.false) in
     record_acceptance (view c.args.p) _ _ (record_done (view c.args.p) _ w (le-ltb _ 11 c.if-buffer-lt11.false))
-    (c.put_record.ensures ∙ put_record (view c.args.p) _ _ _ c.show_all-quotes.ensures _ (λ i. omega (arith, c.slice_known-1.given i)) c.if-buffer-lt11.false)
+    (c.put_record.ensures ∙ put_record (view c.args.p) _ _ _ c.show_all-quotes.ensures _ (search rules) c.if-buffer-lt11.false)

@@ -18,7 +18,7 @@ use Rattle.taken.proofs.Taken.{items_all, items_to, refused_by}
 use Rattle.rules.proofs.Tabulated.{tabulate-same}
 use Rattle.image.proofs.Items.{Bits, state-fields}
 use Rattle.image.proofs.reading.states.Goals as goal
-use Rattle.image.proofs.reading.states.Goals.{After-is_spare, After-marks_of, After-state-fields}
+use Rattle.image.proofs.reading.states.Goals.{After-is_spare, After-state-fields}
 
 -- the fields that were taken are those of the state
 taken : (c : After-state-fields) → Bits c.args.octets.now (state_place c.loop-i.i) c.state-fields.result
