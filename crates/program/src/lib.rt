@@ -6,7 +6,7 @@ ghost use Rattle.rules.specs.declared.Refusal.TheVariants.{BufferLength};
 ghost use Rattle.rules.specs.declared.Written.{Written};
 
 use rules::{Refusal, Written};
-use std::io::{Print, Read};
+use std::io::{ErrorKind, Print, Read};
 use std::process::ExitCode;
 
 // How a program ends: its answer printed; refused, where the answer is an image or a text; its input not read or its output not written; or its arguments none
@@ -61,11 +61,19 @@ pub fn is_read(rt: &HostRuntime, n: usize, enough: usize) -> bool {
     matches!(rt.stdin().read(&mut more), Ok(0))
 }
 
+// The status of a program whose reader has gone: that of one which SIGPIPE ended. The kit's output raises no signal, and the launcher does.
+const READER_GONE: u8 = 141;
+
 // Prints the answer and ends; with the line on standard error where it cannot be written.
 pub fn answer(rt: &HostRuntime, text: &[u8], line: &[u8]) -> ExitCode {
     match rt.stdout().write_all(text) {
         Ok(()) => end(Status::Answered),
-        Err(_) => fault(rt, line),
+        Err(error) => {
+            if error.kind() == ErrorKind::BrokenPipe {
+                return ExitCode::from(READER_GONE);
+            }
+            fault(rt, line)
+        }
     }
 }
 
