@@ -872,16 +872,16 @@ fn vectors_are_parsed_and_none_may_be_missing() {
     let words_of = |seed: &str| {
         let words: Vec<String> = (1..=15).map(|word| word.to_string()).collect();
         format!(
-            "words-{seed} : tabulate 15 (draw {seed}) ≡ {} ∷ []",
+            "words_{seed} : tabulate 15 (draw {seed}) ≡ {} ∷ []",
             words.join(" ∷ ")
         )
     };
     let plan_of = |n: usize, m: usize| {
-        format!("plan-9-{n}-{m} : adler32 (image (generatedGraph 9 {n} {m})) ≡ 77")
+        format!("plan_9_{n}_{m} : adler32 (image (generated_graph 9 {n} {m})) ≡ 77")
     };
     let mut lines = vec!["-- a comment : and no fact".to_string()];
     lines.extend(["0", "1", "305419896", "4294967295"].map(words_of));
-    lines.push("words-0 = refl".to_string());
+    lines.push("words_0 = refl".to_string());
     for n in [1, 2, 512] {
         lines.extend([0, 1, 2048].map(|m| plan_of(n, m)));
     }
@@ -912,10 +912,10 @@ fn vectors_are_parsed_and_none_may_be_missing() {
         words_of("1").replace("draw 1", "draw 2"),
         words_of("1").replace(" ∷ []", ""),
         words_of("4294967296"),
-        plan_of(2, 1).replace("Graph 9", "Graph 8"),
+        plan_of(2, 1).replace("graph 9", "graph 8"),
         plan_of(2, 1).replace("9 2 1)", "9 1 2)"),
         plan_of(2, 1).replace("77", "4294967296"),
-        plan_of(2, 1).replace("plan-9-2-1", "plan-9-2"),
+        plan_of(2, 1).replace("plan_9_2_1", "plan_9_2"),
         plan_of(2, 1).replace("adler32", "crc32"),
     ] {
         assert!(parse(&wrong).is_err(), "{wrong}");

@@ -2,8 +2,8 @@
 //! that no number of them is written a second time. A fact is a line of its own:
 //!
 //! ```text
-//! words-S : tabulate 15 (draw S) ≡ W ∷ W ∷ .. ∷ []
-//! plan-S-N-M : adler32 (image (generatedGraph S N M)) ≡ C
+//! words_S : tabulate 15 (draw S) ≡ W ∷ W ∷ .. ∷ []
+//! plan_S_N_M : adler32 (image (generated_graph S N M)) ≡ C
 //! ```
 
 use std::collections::BTreeMap;
@@ -46,10 +46,10 @@ pub fn parse(text: &str) -> Result<Vectors, String> {
         let Some((name, fact)) = line.split_once(" : ") else {
             continue;
         };
-        let is_new = if let Some(seed) = name.strip_prefix("words-") {
+        let is_new = if let Some(seed) = name.strip_prefix("words_") {
             let words = words(seed, fact).ok_or(format!("not of the form: {line}"))?;
             vectors.words.insert(words.0, words.1).is_none()
-        } else if let Some(made) = name.strip_prefix("plan-") {
+        } else if let Some(made) = name.strip_prefix("plan_") {
             let plan = plan(made, fact).ok_or(format!("not of the form: {line}"))?;
             vectors.plans.insert(plan.0, plan.1).is_none()
         } else {
@@ -72,8 +72,8 @@ fn words(seed: &str, fact: &str) -> Option<(u32, Vec<u64>)> {
 
 /// The seed, the counts and the checksum of a fact about a plan.
 fn plan(made: &str, fact: &str) -> Option<(Made, u32)> {
-    let [seed, n, m]: [&str; 3] = made.split('-').collect::<Vec<_>>().try_into().ok()?;
-    let left = format!("adler32 (image (generatedGraph {seed} {n} {m})) ≡ ");
+    let [seed, n, m]: [&str; 3] = made.split('_').collect::<Vec<_>>().try_into().ok()?;
+    let left = format!("adler32 (image (generated_graph {seed} {n} {m})) ≡ ");
     let sum = fact.strip_prefix(&left)?.parse().ok()?;
     Some(((seed.parse().ok()?, n.parse().ok()?, m.parse().ok()?), sum))
 }
@@ -82,7 +82,7 @@ fn plan(made: &str, fact: &str) -> Option<(Made, u32)> {
 pub fn missing(vectors: &Vectors) -> Option<String> {
     let mut seeds = SEEDS.into_iter();
     if let Some(seed) = seeds.find(|seed| !vectors.words.contains_key(seed)) {
-        return Some(format!("words-{seed}"));
+        return Some(format!("words_{seed}"));
     }
     let mut sizes = STATES
         .into_iter()
