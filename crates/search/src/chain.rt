@@ -4,7 +4,6 @@ ghost use Rattle.search.specs.Arrays.{at};
 ghost use Rattle.search.specs.Chain.{Chains};
 
 use crate::NONE;
-use arrays::limits::wide;
 
 // The chains of the states. NONE ends a chain.
 #[derive(Clone, Copy)]
@@ -20,10 +19,8 @@ pub fn chains(keys: &[u16; 2048], m: usize) -> Chain
 {
     let mut head = [NONE as u16; 512];
     let mut link = [0u16; 2048];
-    let mut i = m;
-    while 0 < i {
-        i -= 1;
-        let s = wide(keys[i]);
+    for i in (0..m).rev() {
+        let s = usize::from(keys[i]);
         link[i] = head[s];
         head[s] = i as u16;
     }

@@ -4,88 +4,84 @@ ghost use Rattle.search.specs.Arrays.{Arrays, arrays, at, Leaves};
 ghost use Rattle.search.specs.Chain.{Chains};
 ghost use Rattle.search.specs.Route.{Accounts, Addable, Readable, Traced, TracedBy};
 
+use crate::chain::Chain;
 use crate::{NONE, is_final};
-use arrays::limits::wide;
 
 // The first transition that leaves the state and accounts for its value.
 fn accounting(
     s: usize,
     to: &[u16; 2048],
-    head: &[u16; 512],
-    link: &[u16; 2048],
+    out: &Chain,
     weight: &[u32; 2048],
     value: &[u32; 512],
 ) -> usize
-    requires { (A : Arrays) × (s < 512) × (A.m ≤ 2048) × Chains A.from A.m head.now link.now
+    requires { (A : Arrays) × (s < 512) × (A.m ≤ 2048) × Chains A.from A.m out.now.head out.now.link
         × Addable A.m to.now weight.now value.now
         × ((t : ℕ) × Leaves A s t × Accounts to.now weight.now value.now s t) }
     ensures { Accounts to.now weight.now value.now s result
-        × ((A : Arrays) → Chains A.from A.m head.now link.now → Leaves A s result) }
+        × ((A : Arrays) → Chains A.from A.m out.now.head out.now.link → Leaves A s result) }
 {
-    let mut t = wide(head[s]);
+    let mut t = usize::from(out.head[s]);
     while t < NONE {
-        if value[s] == weight[t] + value[wide(to[t])] {
+        if value[s] == weight[t] + value[usize::from(to[t])] {
             break;
         }
-        t = wide(link[t]);
+        t = usize::from(out.link[t]);
     }
     t
 }
 
 // Writes the route from a state to the front of the places, and returns how many transitions it has.
-fn follow<'a>(
+fn follow(
     s: usize,
     marks: &[u8; 512],
     to: &[u16; 2048],
-    head: &'a [u16; 512],
-    link: &'a [u16; 2048],
+    out: &Chain,
     weight: &[u32; 2048],
     value: &[u32; 512],
     walk: &mut [u16],
 ) -> usize
     requires { (n m : ℕ) × (from close : List ℕ) × (n ≤ suc (length walk.old))
-        × Readable (arrays n m marks.now from to.now) head.now link.now weight.now close value.now s }
+        × Readable (arrays n m marks.now from to.now) out.now.head out.now.link weight.now close value.now s }
     ensures { (n m : ℕ) (from close : List ℕ)
-        → (r : Readable (arrays n m marks.now from to.now) head.now link.now weight.now close value.now s)
+        → (r : Readable (arrays n m marks.now from to.now) out.now.head out.now.link weight.now close value.now s)
         → Traced (arrays n m marks.now from to.now) weight.now close value.now r.rank s result
         walk.old walk.new }
 {
     let mut x = s;
     let mut k = 0;
     while !is_final(marks[x]) {
-        let t = accounting(x, to, head, link, weight, value);
+        let t = accounting(x, to, out, weight, value);
         walk[k] = t as u16;
         k += 1;
-        x = wide(to[t]);
+        x = usize::from(to[t]);
     }
     k
 }
 
 // Writes the route that begins with a transition to the front of the places, and returns how many transitions it has.
-pub fn trace<'a>(
+pub fn trace(
     t: usize,
     marks: &[u8; 512],
     to: &[u16; 2048],
-    head: &'a [u16; 512],
-    link: &'a [u16; 2048],
+    out: &Chain,
     weight: &[u32; 2048],
     value: &[u32; 512],
     walk: &mut [u16],
 ) -> usize
     requires { (n m : ℕ) × (from close : List ℕ) × (n ≤ length walk.old) × (t < m)
-        × Readable (arrays n m marks.now from to.now) head.now link.now weight.now close value.now (at to.now t) }
+        × Readable (arrays n m marks.now from to.now) out.now.head out.now.link weight.now close value.now (at to.now t) }
     ensures { (n m : ℕ) (from close : List ℕ)
-        → (r : Readable (arrays n m marks.now from to.now) head.now link.now weight.now close value.now (at to.now t))
+        → (r : Readable (arrays n m marks.now from to.now) out.now.head out.now.link weight.now close value.now (at to.now t))
         → TracedBy (arrays n m marks.now from to.now) weight.now close value.now r.rank t result
         walk.old walk.new }
 {
     walk[0] = t as u16;
     let k = follow(
-        wide(to[t]),
+        usize::from(to[t]),
         marks,
         to,
-        head,
-        link,
+        out,
         weight,
         value,
         &mut walk[1..],

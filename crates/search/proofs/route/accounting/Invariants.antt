@@ -8,7 +8,7 @@ use Rattle.search.proofs.Chained.{Followed}
 use Rattle.search.proofs.route.accounting.Given as goal
 
 abbrev pub invariant-loop-t : goal.invariant-loop-t
-invariant-loop-t l = (A : Arrays) → Chains A.from A.m l.head l.link → Followed A.from A.m (λ k. Accounts l.to l.weight l.value l.s k → ⊥) l.s l.t
+invariant-loop-t l = (A : Arrays) → Chains A.from A.m l.out.head l.out.link → Followed A.from A.m (λ k. Accounts l.to l.weight l.value l.s k → ⊥) l.s l.t
 
 abbrev pub decreases-loop-t : goal.decreases-loop-t
 decreases-loop-t l = 2048 - l.t

@@ -119,7 +119,7 @@ loop-t-preserved c =
     omega (arith, traced_room p.5 traced _ unfinished (q.1 _ p.5.linked.chains) q.0, p.4, c.loop-t.invariant.0) in
     let q = c.accounting-t.ensures in (
       length-set c.loop-t.walk _ _ ∙ c.loop-t.invariant.0,
-      λ n m from close r. rw (c.wide-x.ensures, add-one)
+      λ n m from close r. rw (c.from-x.ensures, add-one)
           (traced-turn r (c.loop-t.invariant.1 n m from close r) _ unfinished (q.1 _ r.linked.chains) q.0 k-room),
     )
 

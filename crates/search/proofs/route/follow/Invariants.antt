@@ -11,7 +11,7 @@ use Rattle.search.proofs.route.follow.Given as goal
 
 abbrev pub invariant-loop-t : goal.invariant-loop-t
 invariant-loop-t l = (length l.walk ≡ length l.initial.walk)
-    × ((n m : ℕ) (from close : List ℕ) (r : Readable (arrays n m l.marks from l.to) l.head l.link l.weight close l.value l.s) → Tracing r l.x l.k l.initial.walk l.walk)
+    × ((n m : ℕ) (from close : List ℕ) (r : Readable (arrays n m l.marks from l.to) l.out.head l.out.link l.weight close l.value l.s) → Tracing r l.x l.k l.initial.walk l.walk)
 
 abbrev pub decreases-loop-t : goal.decreases-loop-t
 decreases-loop-t l = length l.initial.walk - l.k
