@@ -9,7 +9,7 @@ ghost use Rattle.search.specs.Chain.{Chains};
 ghost use Rattle.search.specs.Route.{Addable};
 ghost use Rattle.best_step.specs.Steps.{Better, last as last_of, BestStep};
 
-use arrays::limits::wide;
+use search::chain::Chain;
 use search::{FAR, NONE, is_start};
 
 // A transition, NONE for none, and what it weighs with the value behind it.
@@ -49,26 +49,25 @@ pub fn out_of(
     s: usize,
     best: Step,
     to: &[u16; 2048],
-    head: &[u16; 512],
-    link: &[u16; 2048],
+    out: &Chain,
     weight: &[u32; 2048],
     value: &[u32; 512],
 ) -> Step
-    requires { (s < 512) × ((m : ℕ) × (from : List ℕ) × Chains from m head.now link.now × Addable m to.now weight.now value.now) }
-    ensures { (m : ℕ) (from : List ℕ) → m ≤ 2048 → Chains from m head.now link.now
+    requires { (s < 512) × ((m : ℕ) × (from : List ℕ) × Chains from m out.now.head out.now.link × Addable m to.now weight.now value.now) }
+    ensures { (m : ℕ) (from : List ℕ) → m ≤ 2048 → Chains from m out.now.head out.now.link
         → (inside : ℕ → Bool) → BestStep least m from to.now weight.now value.now inside best
         → BestStep least m from to.now weight.now value.now (λ x. inside x || eqb x s) result }
 {
     let mut transition = best.transition;
     let mut cost = best.cost;
-    let mut t = wide(head[s]);
+    let mut t = usize::from(out.head[s]);
     while t < NONE {
-        let x = weight[t] + value[wide(to[t])];
+        let x = weight[t] + value[usize::from(to[t])];
         if !better(least, cost, x) {
             transition = t;
             cost = x;
         }
-        t = wide(link[t]);
+        t = usize::from(out.link[t]);
     }
     Step { transition, cost }
 }
@@ -79,23 +78,20 @@ pub fn first(
     n: usize,
     marks: &[u8; 512],
     to: &[u16; 2048],
-    head: &[u16; 512],
-    link: &[u16; 2048],
+    out: &Chain,
     weight: &[u32; 2048],
     value: &[u32; 512],
 ) -> Step
-    requires { (n ≤ 512) × ((m : ℕ) × (from : List ℕ) × Chains from m head.now link.now × Addable m to.now weight.now value.now) }
-    ensures { (m : ℕ) (from : List ℕ) → m ≤ 2048 → Chains from m head.now link.now → ((t : ℕ) → t < m → at from t < n)
+    requires { (n ≤ 512) × ((m : ℕ) × (from : List ℕ) × Chains from m out.now.head out.now.link × Addable m to.now weight.now value.now) }
+    ensures { (m : ℕ) (from : List ℕ) → m ≤ 2048 → Chains from m out.now.head out.now.link → ((t : ℕ) → t < m → at from t < n)
         → BestStep least m from to.now weight.now value.now (λ x. start_mark (at marks.now x)) result }
 {
     let mut best = none(least);
-    let mut s = 0;
-    while s < n {
+    for s in 0..n {
         let mark = marks[s];
         if is_start(mark) {
-            best = out_of(least, s, best, to, head, link, weight, value);
+            best = out_of(least, s, best, to, out, weight, value);
         }
-        s += 1;
     }
     best
 }

@@ -10,8 +10,8 @@ use Rattle.best_step.proofs.Choosing.{Choosing}
 use Rattle.best_step.proofs.out_of.Given as goal
 
 abbrev pub invariant-loop-t : goal.invariant-loop-t
-invariant-loop-t l = ((m : ℕ) (from : List ℕ) → Chains from m l.head l.link → Followed from m (λ k. Unit {0}) l.s l.t)
-    × ((m : ℕ) (from : List ℕ) → Chains from m l.head l.link → (inside : ℕ → Bool)
+invariant-loop-t l = ((m : ℕ) (from : List ℕ) → Chains from m l.out.head l.out.link → Followed from m (λ k. Unit {0}) l.s l.t)
+    × ((m : ℕ) (from : List ℕ) → Chains from m l.out.head l.out.link → (inside : ℕ → Bool)
     → BestStep l.least m from l.to l.weight l.value inside (record { «transition» = l.initial.transition; «cost» = l.initial.cost }) → Choosing l.least m from l.to l.weight l.value inside l.s l.transition l.cost l.t)
 
 abbrev pub decreases-loop-t : goal.decreases-loop-t
