@@ -18,56 +18,22 @@ pub fn has_room(counts: usize, states: usize, fields: usize) -> bool
     (2 <= counts) & ((1024 <= states) & (8192 <= fields))
 }
 
-// The 512 octets of a slice from a place on, as an array.
-fn states_of(places: &[u8], at: usize) -> [u8; 512]
-    requires { at + 512 ≤ length places.now }
-    ensures { result ≡ take 512 (drop at places.now) }
+// The N places of a slice from a place on, as an array.
+fn part<T: Copy + Default, const N: usize>(places: &[T], at: usize) -> [T; N]
+    requires { at + N ≤ length places.now }
+    ensures { result ≡ take N (drop at places.now) }
 {
-    let mut out = [0u8; 512];
-    let mut i = 0;
-    while i < 512 {
-        out[i] = places[at + i];
-        i += 1;
-    }
+    let mut out = [T::default(); N];
+    out.copy_from_slice(&places[at..at + N]);
     out
 }
 
-// The 2,048 numbers of a slice from a place on, as an array.
-fn field_of(places: &[u16], at: usize) -> [u16; 2048]
-    requires { at + 2048 ≤ length places.now }
-    ensures { result ≡ take 2048 (drop at places.now) }
+// Puts the first n places of a part into a slice, from a place on.
+fn put<T: Copy>(places: &mut [T], at: usize, part: &[T], n: usize)
+    requires { (n ≤ length part.now) × (at + n ≤ length places.old) }
+    ensures { places.new ≡ paste places.old at part.now n }
 {
-    let mut out = [0u16; 2048];
-    let mut i = 0;
-    while i < 2048 {
-        out[i] = places[at + i];
-        i += 1;
-    }
-    out
-}
-
-// Puts the first n of 512 octets into a slice, from a place on.
-fn put_states(places: &mut [u8], at: usize, octets: &[u8; 512], n: usize)
-    requires { (n ≤ 512) × (at + 512 ≤ length places.old) × (length octets.now ≡ 512) }
-    ensures { places.new ≡ paste places.old at octets.now n }
-{
-    let mut i = 0;
-    while i < n {
-        places[at + i] = octets[i];
-        i += 1;
-    }
-}
-
-// Puts the first n of 2,048 numbers into a slice, from a place on.
-fn put_field(places: &mut [u16], at: usize, field: &[u16; 2048], n: usize)
-    requires { (n ≤ 2048) × (at + 2048 ≤ length places.old) × (length field.now ≡ 2048) }
-    ensures { places.new ≡ paste places.old at field.now n }
-{
-    let mut i = 0;
-    while i < n {
-        places[at + i] = field[i];
-        i += 1;
-    }
+    places[at..at + n].copy_from_slice(&part[..n]);
 }
 
 // The plan value that three lent slices hold.
@@ -78,12 +44,12 @@ pub fn load(counts: &[usize], states: &[u8], fields: &[u16]) -> Plan
     Plan {
         states: counts[0],
         transitions: counts[1],
-        marks: states_of(states, 0),
-        teams: states_of(states, 512),
-        from: field_of(fields, 0),
-        to: field_of(fields, 2048),
-        low: field_of(fields, 4096),
-        high: field_of(fields, 6144),
+        marks: part(states, 0),
+        teams: part(states, 512),
+        from: part(fields, 0),
+        to: part(fields, 2048),
+        low: part(fields, 4096),
+        high: part(fields, 6144),
     }
 }
 
@@ -96,12 +62,12 @@ pub fn store(plan: Plan, counts: &mut [usize], states: &mut [u8], fields: &mut [
 {
     counts[0] = plan.states;
     counts[1] = plan.transitions;
-    put_states(states, 0, &plan.marks, 512);
-    put_states(states, 512, &plan.teams, 512);
-    put_field(fields, 0, &plan.from, 2048);
-    put_field(fields, 2048, &plan.to, 2048);
-    put_field(fields, 4096, &plan.low, 2048);
-    put_field(fields, 6144, &plan.high, 2048);
+    put(states, 0, &plan.marks, 512);
+    put(states, 512, &plan.teams, 512);
+    put(fields, 0, &plan.from, 2048);
+    put(fields, 2048, &plan.to, 2048);
+    put(fields, 4096, &plan.low, 2048);
+    put(fields, 6144, &plan.high, 2048);
 }
 
 // Stores the plan of an accepted call, and gives the number of its answer.
@@ -138,11 +104,11 @@ pub fn update(edited: Edited, counts: &mut [usize], states: &mut [u8], fields: &
     let m = edited.plan.transitions;
     counts[0] = n;
     counts[1] = m;
-    put_states(states, 0, &edited.plan.marks, n);
-    put_states(states, 512, &edited.plan.teams, n);
-    put_field(fields, 0, &edited.plan.from, m);
-    put_field(fields, 2048, &edited.plan.to, m);
-    put_field(fields, 4096, &edited.plan.low, m);
-    put_field(fields, 6144, &edited.plan.high, m);
+    put(states, 0, &edited.plan.marks, n);
+    put(states, 512, &edited.plan.teams, n);
+    put(fields, 0, &edited.plan.from, m);
+    put(fields, 2048, &edited.plan.to, m);
+    put(fields, 4096, &edited.plan.low, m);
+    put(fields, 6144, &edited.plan.high, m);
     256
 }

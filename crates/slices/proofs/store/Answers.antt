@@ -18,9 +18,9 @@ returns c =
     let a = c.args in
     let p = a.plan in
     let P : List ℕ → ℕ → List ℕ → List ℕ = λ d at s. paste d at s 2048 in
-    stored p (sized (goal.at.returns c).Start) a.counts.now a.states.now a.fields.now c.put_states-2.new.places c.put_field-4.new.places c.requires
-    (c.put_states-2.ensures ∙ ap (λ (d : List ℕ). paste d 512 p.teams 512) c.put_states.ensures)
-    (c.put_field-4.ensures
+    stored p (sized (goal.at.returns c).Start) a.counts.now a.states.now a.fields.now c.put-2.new.places c.put-6.new.places c.requires
+    (c.put-2.ensures ∙ ap (λ (d : List ℕ). paste d 512 p.teams 512) c.put.ensures)
+    (c.put-6.ensures
     ∙ ap (λ (d : List ℕ). P d 6144 p.high)
-    (c.put_field-3.ensures
-    ∙ ap (λ (d : List ℕ). P d 4096 p.low) (c.put_field-2.ensures ∙ ap (λ (d : List ℕ). P d 2048 p.to) c.put_field.ensures)))
+    (c.put-5.ensures
+    ∙ ap (λ (d : List ℕ). P d 4096 p.low) (c.put-4.ensures ∙ ap (λ (d : List ℕ). P d 2048 p.to) c.put-3.ensures)))

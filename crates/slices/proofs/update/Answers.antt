@@ -26,8 +26,8 @@ returns c =
     let p = a.edited.plan in
     let P : List ℕ → ℕ → List ℕ → List ℕ = λ d at s. paste d at s p.transitions in
     let e : a.edited.answer ≡ Answer.Accepted = c.in_default.is in
-    let w = fronts_stored p (sized (goal.at.returns c).Start) a.counts.now a.states.now a.fields.now c.requires.0 (later (goal.at.returns c).In_default) c.put_states-2.new.places c.put_field-4.new.places
-    (c.put_states-2.ensures ∙ ap (λ (d : List ℕ). paste d 512 p.teams p.states) c.put_states.ensures)
-    (c.put_field-4.ensures
-    ∙ ap (λ (d : List ℕ). P d 6144 p.high) (c.put_field-3.ensures ∙ ap (λ (d : List ℕ). P d 4096 p.low) (c.put_field-2.ensures ∙ ap (λ (d : List ℕ). P d 2048 p.to) c.put_field.ensures))) in
+    let w = fronts_stored p (sized (goal.at.returns c).Start) a.counts.now a.states.now a.fields.now c.requires.0 (later (goal.at.returns c).In_default) c.put-2.new.places c.put-6.new.places
+    (c.put-2.ensures ∙ ap (λ (d : List ℕ). paste d 512 p.teams p.states) c.put.ensures)
+    (c.put-6.ensures
+    ∙ ap (λ (d : List ℕ). P d 6144 p.high) (c.put-5.ensures ∙ ap (λ (d : List ℕ). P d 4096 p.low) (c.put-4.ensures ∙ ap (λ (d : List ℕ). P d 2048 p.to) c.put-3.ensures))) in
     rw e (refl, w.0, w.1)
