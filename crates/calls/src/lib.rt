@@ -16,20 +16,17 @@ use rules::{Answer, Refusal};
 fn part_ok(start: usize, end: usize, long: usize) -> bool
     ensures { result ≡ (leb start end && leb end long) }
 {
-    if start <= end { end <= long } else { false }
+    start <= end && end <= long
 }
 
 // Whether a kind and its first two arguments are a call's.
 fn is_call(kind: u8, a: usize, b: usize, long: usize) -> bool
     ensures { result ≡ is_one long kind a b }
 {
-    if kind < 3 {
-        return true;
-    }
-    if kind < 5 {
-        part_ok(a, b, long)
-    } else {
-        kind == 5
+    match kind {
+        0..=2 | 5 => true,
+        3 | 4 => part_ok(a, b, long),
+        _ => false,
     }
 }
 
@@ -38,13 +35,11 @@ fn each_call(kinds: &[u8], arguments: &[usize], long: usize) -> bool
     requires { length kinds.now ≤ length arguments.now / 4 }
     ensures { result ≡ all (is_call long) (tabulate (length kinds.now) (item_at kinds.now arguments.now)) }
 {
-    let mut i = 0;
-    while i < kinds.len() {
+    for i in 0..kinds.len() {
         let at = 4 * i;
         if !is_call(kinds[i], arguments[at], arguments[at + 1], long) {
             return false;
         }
-        i += 1;
     }
     true
 }

@@ -1,5 +1,5 @@
 -- `calls::each_call` meets its contract. The invariant: every item passed is a call. An item that is none answers for the whole list (`not_all-tabulate`), and after the last one all
--- are calls (`all-tabulate`). The measure is what is left of the kinds. Assumes nothing.
+-- are calls (`all-tabulate`). Assumes nothing.
 use mathlib.Core.Path.{sym, ◌∙◌}
 use native.Mathlib.Omega.{arith}
 use lib.ListN.{length}
@@ -16,4 +16,4 @@ returns-then-not-is_call c =
 pub returns : goal.returns
 returns c =
     let a = c.args in
-    sym (all-tabulate (is_call a.long) (length a.kinds.now) (item_at a.kinds.now a.arguments.now) (λ k h. c.loop-i.invariant.1 k (omega arith)))
+    sym (all-tabulate (is_call a.long) (length a.kinds.now) (item_at a.kinds.now a.arguments.now) (λ k h. c.loop-i.invariant k (omega arith)))
