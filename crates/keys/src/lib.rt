@@ -8,8 +8,8 @@ ghost use Rattle.search.specs.Chain.{Chains};
 ghost use Rattle.search.specs.Sizes.{far, heaviest};
 ghost use Rattle.keys.specs.Keys.{Keyed, Passing, Ready, Relaxed};
 
-use arrays::limits::wide;
 use best_step::Step;
+use search::chain::Chain;
 use search::is_final;
 
 // Lowers the key of the state that t leaves, where the way by t is cheaper, and cheaper than the bound. Returns whether it did.
@@ -26,8 +26,8 @@ fn relax(
         × (at key.old (at to.now t) ≤ far) × (512 ≤ length key.old) }
     ensures { Relaxed marks.now from.now to.now weight.now bound t key.old result key.new }
 {
-    let behind = wide(from[t]);
-    let ahead = wide(to[t]);
+    let behind = usize::from(from[t]);
+    let ahead = usize::from(to[t]);
     let x = weight[t] + key[ahead];
     if key[behind] <= x {
         return false;
@@ -57,12 +57,10 @@ fn pass(
         → Passing (arrays n m marks.now from.now to.now) weight.now close bound m key.old result key.new }
 {
     let mut lowered = false;
-    let mut t = 0;
-    while t < m {
+    for t in 0..m {
         if relax(t, bound, marks, from, to, weight, key) {
             lowered = true;
         }
-        t += 1;
     }
     lowered
 }
@@ -74,17 +72,16 @@ pub fn settle(
     marks: &[u8; 512],
     from: &[u16; 2048],
     to: &[u16; 2048],
-    head: &[u16; 512],
-    link: &[u16; 2048],
+    out: &Chain,
     weight: &[u32; 2048],
     key: &mut [u32; 512],
 ) -> Step
-    requires { ((close : List ℕ) × Keyed (arrays n m marks.now from.now to.now) weight.now close key.old) × Chains from.now m head.now link.now }
+    requires { ((close : List ℕ) × Keyed (arrays n m marks.now from.now to.now) weight.now close key.old) × Chains from.now m out.now.head out.now.link }
     ensures { (close : List ℕ) → Keyed (arrays n m marks.now from.now to.now) weight.now close key.old
         → Ready (arrays n m marks.now from.now to.now) weight.now close result key.new }
 {
     loop {
-        let first = best_step::first(true, n, marks, to, head, link, weight, key);
+        let first = best_step::first(true, n, marks, to, out, weight, key);
         if !pass(m, first.cost, marks, from, to, weight, key) {
             return first;
         }

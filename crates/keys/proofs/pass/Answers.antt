@@ -1,5 +1,5 @@
--- `keys::pass` meets its contract. The loop's invariant: over whatever graph the keys are, the pass is `Passing`; each turn is `pass-turn`. The measure is what is
--- left of the transitions. Assumes nothing.
+-- `keys::pass` meets its contract. The loop's invariant: over whatever graph the keys are, the pass is `Passing`; each turn is `pass-turn`.
+-- Assumes nothing.
 use mathlib.Core.Logic.{inl, inr}
 use mathlib.Core.Path.{◌≡◌}
 use native.Mathlib.Numerals.{add-one}
@@ -13,21 +13,19 @@ relax-requires c = let p = c.requires in
     let l = c.loop-t in
     let h = c.loop-t-test.true in
     let k = p.2 in
-    let q = (l.invariant.1 p.0 p.1 k).keys in
+    let q = (l.invariant p.0 p.1 k).keys in
     let d = k.bounded.arrives l.t h in
     (omega (arith, k.bounded.count), omega (arith, k.bounded.leaves l.t h, k.bounded.states), omega (arith, k.bounded.states), k.weighed.most l.t, q.most _ d, q.sized)
 
 pub loop-t-preserved : goal.loop-t-preserved
-loop-t-preserved c = let l = c.loop-t in (
-  omega arith,
-  λ n close k. rw add-one (pass-turn k.bounded c.loop-t-test.true (l.invariant.1 n close k) c.relax.ensures
-      (elim c.if-relax.branch [
-        | then-relax w ↦ inl (w.if-relax.true, w.lowered-is)
-        | else-relax w ↦ inr (w.if-relax.false, w.lowered-is)
-      ])),
-)
+loop-t-preserved c = let l = c.loop-t in
+    λ n close k. rw add-one (pass-turn k.bounded c.loop-t-test.true (l.invariant n close k) c.relax.ensures
+    (elim c.if-relax.branch [
+      | then-relax w ↦ inl (w.if-relax.true, w.lowered-is)
+      | else-relax w ↦ inr (w.if-relax.false, w.lowered-is)
+    ]))
 
 pub returns : goal.returns
 returns c = let l = c.loop-t in
     let e : l.t ≡ c.args.m = omega arith in
-    λ n close k. rw e at (l.invariant.1 n close k)
+    λ n close k. rw e at (l.invariant n close k)
