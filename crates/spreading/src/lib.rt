@@ -7,7 +7,7 @@ ghost use Rattle.search.specs.Chain.{Chains};
 ghost use Rattle.search.specs.Sizes.{heaviest};
 ghost use Rattle.keys.specs.Keys.{Weighed, Keys, Spreading, Offered};
 
-use arrays::limits::wide;
+use search::chain::Chain;
 use search::{FAR, NONE, is_final, is_start};
 
 // How many states are pending, and what the nearest first step found so far costs, FAR before one is: a start and a transition out of it to a state that was taken.
@@ -40,7 +40,7 @@ fn offer(
     }
     key[s] = x;
     if old < FAR {
-        let at = wide(place[s]);
+        let at = usize::from(place[s]);
         heap::rise(heap, place, key, at, s as u16);
         return size;
     }
@@ -79,8 +79,7 @@ fn seed(
         × Below n heap.new × Below 512 place.new }
 {
     let mut size = 0;
-    let mut s = 0;
-    while s < n {
+    for s in 0..n {
         if is_final(marks[s]) {
             let last = close[s];
             key[s] = last;
@@ -89,71 +88,67 @@ fn seed(
         } else {
             key[s] = FAR;
         }
-        s += 1;
     }
     size
 }
 
 // Offers the state behind each transition into s what the way through s costs. A start takes no key from it where it is final, and is a first step all the same.
 // Lent one by one: a struct of the arrays would be copied for every state.
-fn relax_into<'a>(
+fn relax_into(
     s: usize,
     marks: &[u8; 512],
     from: &[u16; 2048],
     weight: &[u32; 2048],
-    head: &'a [u16; 512],
-    link: &'a [u16; 2048],
+    into: &Chain,
     key: &mut [u32; 512],
     heap: &mut [u16; 512],
     place: &mut [u16; 512],
     pending: Pending,
 ) -> Pending
     requires { (pending.size ≤ 512) × Below 512 place.old × ((n m : ℕ) × (to close : List ℕ) × (s < n)
-        × Spreading (arrays n m marks.now from.now to) weight.now close head.now link.now key.old × Below n heap.old) }
+        × Spreading (arrays n m marks.now from.now to) weight.now close into.now.head into.now.link key.old × Below n heap.old) }
     ensures { (result.size ≤ 512) × Below 512 place.new × ((n m : ℕ) (to close : List ℕ) → s < n
-        → Spreading (arrays n m marks.now from.now to) weight.now close head.now link.now key.old → Below n heap.old
+        → Spreading (arrays n m marks.now from.now to) weight.now close into.now.head into.now.link key.old → Below n heap.old
         → Keys (arrays n m marks.now from.now to) weight.now close key.new × Below n heap.new) }
 {
     let mut size = pending.size;
     let mut nearest = pending.nearest;
-    let mut t = wide(head[s]);
+    let mut t = usize::from(into.head[s]);
     while t < NONE {
         let x = weight[t] + key[s];
-        let behind = wide(from[t]);
+        let behind = usize::from(from[t]);
         size = offer(behind, x, marks, key, heap, place, size);
         nearest = nearer(is_start(marks[behind]), x, nearest);
-        t = wide(link[t]);
+        t = usize::from(into.link[t]);
     }
     Pending { size, nearest }
 }
 
 // Spreads keys from the final states back, nearest first, until a first step is as near as the nearest state. Each state is taken once. Whatever the keys were before is
 // lost.
-pub fn spread<'a, 'b>(
+pub fn spread(
     n: usize,
     marks: &[u8; 512],
     from: &[u16; 2048],
-    weight: &'a [u32; 2048],
-    close: &'a [u32; 512],
-    head: &'b [u16; 512],
-    link: &'b [u16; 2048],
+    weight: &[u32; 2048],
+    close: &[u32; 512],
+    into: &Chain,
     key: &mut [u32; 512],
 )
     requires in_bounds { 512 ≤ length key.old }
-    requires by_index { (m : ℕ) × (to : List ℕ) × Bounded (arrays n m marks.now from.now to) × Weighed m weight.now close.now × Chains to m head.now link.now }
+    requires by_index { (m : ℕ) × (to : List ℕ) × Bounded (arrays n m marks.now from.now to) × Weighed m weight.now close.now × Chains to m into.now.head into.now.link }
     ensures { (m : ℕ) (to : List ℕ) → Bounded (arrays n m marks.now from.now to) → Weighed m weight.now close.now
-        → Chains to m head.now link.now → Keys (arrays n m marks.now from.now to) weight.now close.now key.new }
+        → Chains to m into.now.head into.now.link → Keys (arrays n m marks.now from.now to) weight.now close.now key.new }
 {
     let mut heap = [0u16; 512];
     let mut place = [0u16; 512];
     let mut size = seed(n, marks, close, key, &mut heap, &mut place);
     let mut nearest = FAR;
-    let mut taken = 0;
-    while taken < n {
+    for _ in 0..n {
         if size == 0 {
             break;
         }
-        let s = wide(heap[0]);
+        let s = usize::from(heap[0]);
         if nearest <= key[s] {
             break;
         }
@@ -165,8 +160,7 @@ pub fn spread<'a, 'b>(
             marks,
             from,
             weight,
-            head,
-            link,
+            into,
             key,
             &mut heap,
             &mut place,
@@ -174,6 +168,5 @@ pub fn spread<'a, 'b>(
         );
         size = pending.size;
         nearest = pending.nearest;
-        taken += 1;
     }
 }

@@ -24,9 +24,9 @@ offer-size-requires c =
     arrays c.requires.2.0 c.requires.2.1 c.args.marks.now c.args.from.now c.requires.2.2 in
     let relaxing : Relaxing graph c.args.weight.now c.requires.2.3 c.loop-t.key c.loop-t.heap c.args.s c.loop-t.t =
     let p = c.requires.2 in c.loop-t.invariant.2 p.0 p.1 p.2 p.3 p.4 p.5 p.6 in
-    let behind-below : c.wide-behind.result < 512 =
+    let behind-below : c.from-behind.result < 512 =
     let k = c.requires.2.5.keyed.bounded in
-    omega (arith, c.wide-behind.ensures, k.leaves c.loop-t.t (relaxing.followed.here c.loop-t-test.true).0, k.states) in
+    omega (arith, c.from-behind.ensures, k.leaves c.loop-t.t (relaxing.followed.here c.loop-t-test.true).0, k.states) in
     let i = c.loop-t.invariant in
     let r = relaxing in
     (behind-below, i.0, r.keys.sized, below_weaken c.loop-t.heap c.requires.2.5.keyed.bounded.states r.pending, i.1)
@@ -37,9 +37,9 @@ bounds-marks-behind c =
     arrays c.requires.2.0 c.requires.2.1 c.args.marks.now c.args.from.now c.requires.2.2 in
     let relaxing : Relaxing graph c.args.weight.now c.requires.2.3 c.loop-t.key c.loop-t.heap c.args.s c.loop-t.t =
     let p = c.requires.2 in c.loop-t.invariant.2 p.0 p.1 p.2 p.3 p.4 p.5 p.6 in
-    let behind-below : c.wide-behind.result < 512 =
+    let behind-below : c.from-behind.result < 512 =
     let k = c.requires.2.5.keyed.bounded in
-    omega (arith, c.wide-behind.ensures, k.leaves c.loop-t.t (relaxing.followed.here c.loop-t-test.true).0, k.states) in
+    omega (arith, c.from-behind.ensures, k.leaves c.loop-t.t (relaxing.followed.here c.loop-t-test.true).0, k.states) in
     omega (arith, behind-below)
 
 pub loop-t-smaller : goal.loop-t-smaller
@@ -48,10 +48,10 @@ loop-t-smaller c =
     arrays c.requires.2.0 c.requires.2.1 c.args.marks.now c.args.from.now c.requires.2.2 in
     let relaxing : Relaxing graph c.args.weight.now c.requires.2.3 c.loop-t.key c.loop-t.heap c.args.s c.loop-t.t =
     let p = c.requires.2 in c.loop-t.invariant.2 p.0 p.1 p.2 p.3 p.4 p.5 p.6 in
-    omega (arith, c.wide-t-in-loop-t.ensures, followed-rises c.requires.2.5.chains _ relaxing.followed c.loop-t-test.true)
+    omega (arith, c.from-t-in-loop-t.ensures, followed-rises c.requires.2.5.chains _ relaxing.followed c.loop-t-test.true)
 
 pub loop-t-preserved : goal.loop-t-preserved
-loop-t-preserved c = let b = c.wide-behind.ensures in
+loop-t-preserved c = let b = c.from-behind.ensures in
     let o = c.offer-size.ensures in (
       o.0,
       o.2,
@@ -61,7 +61,7 @@ loop-t-preserved c = let b = c.wide-behind.ensures in
           record {
             keys = keys_offered c.loop-t.t _ w.keyed.bounded q.0 (rw q.1 refl) (rw b at o.1) r.keys;
             pending = o.3 _ (rw b (w.keyed.bounded.leaves c.loop-t.t q.0)) r.pending;
-            followed = followed-next w.chains _ r.followed c.loop-t-test.true q.1 c.wide-t-in-loop-t.ensures;
+            followed = followed-next w.chains _ r.followed c.loop-t-test.true q.1 c.from-t-in-loop-t.ensures;
           },
     )
 

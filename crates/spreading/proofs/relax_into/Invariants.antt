@@ -16,7 +16,7 @@ pub record Relaxing (A : Arrays) (weight close key heap : List ℕ) (s t : ℕ) 
 
 abbrev pub invariant-loop-t : goal.invariant-loop-t
 invariant-loop-t l = (l.size ≤ 512) × Below 512 l.place
-    × ((n m : ℕ) (to close : List ℕ) → l.s < n → Spreading (arrays n m l.marks l.from to) l.weight close l.head l.link l.initial.key → Below n l.initial.heap
+    × ((n m : ℕ) (to close : List ℕ) → l.s < n → Spreading (arrays n m l.marks l.from to) l.weight close l.into.head l.into.link l.initial.key → Below n l.initial.heap
     → Relaxing (arrays n m l.marks l.from to) l.weight close l.key l.heap l.s l.t)
 
 abbrev pub decreases-loop-t : goal.decreases-loop-t

@@ -1,15 +1,12 @@
--- `spreading::spread` meets its contract. The loop's invariant: in whatever graph it is, the keys are kept; and the pending states are states. Each turn takes one of n, so
--- the measure is what is left of n. Assumes nothing.
-use Prim.Native.Nat.{ℕ, ◌-◌, ◌≤◌}
+-- `spreading::spread` meets its contract. The loop's invariant: in whatever graph it is, the keys are kept; and the pending states are states.
+-- Assumes nothing.
+use Prim.Native.Nat.{ℕ, ◌≤◌}
 use mathlib.Core.List.{List}
 use Rattle.search.specs.Arrays.{arrays, Bounded, Below}
 use Rattle.search.specs.Chain.{Chains}
 use Rattle.keys.specs.Keys.{Weighed, Keys}
 use Rattle.spreading.proofs.spread.Given as goal
 
-abbrev pub invariant-loop-taken : goal.invariant-loop-taken
-invariant-loop-taken l = (l.taken ≤ l.n) × (l.size ≤ 512) × Below l.n l.heap × Below 512 l.place
-    × ((m : ℕ) (to : List ℕ) → Bounded (arrays l.n m l.marks l.from to) → Weighed m l.weight l.close → Chains to m l.head l.link → Keys (arrays l.n m l.marks l.from to) l.weight l.close l.key)
-
-abbrev pub decreases-loop-taken : goal.decreases-loop-taken
-decreases-loop-taken l = l.n - l.taken
+abbrev pub invariant-loop : goal.invariant-loop
+invariant-loop l = (l.size ≤ 512) × Below l.n l.heap × Below 512 l.place
+    × ((m : ℕ) (to : List ℕ) → Bounded (arrays l.n m l.marks l.from to) → Weighed m l.weight l.close → Chains to m l.into.head l.into.link → Keys (arrays l.n m l.marks l.from to) l.weight l.close l.key)
