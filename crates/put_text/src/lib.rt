@@ -11,12 +11,9 @@ pub fn word(buffer: &mut [u8], at: usize, octets: &[u8]) -> usize
     requires { at + length octets.now ≤ length buffer.old }
     ensures { Put buffer.old at octets.now buffer.new result }
 {
-    let mut i = 0;
-    while i < octets.len() {
-        buffer[at + i] = octets[i];
-        i += 1;
-    }
-    at + i
+    let end = at + octets.len();
+    buffer[at..end].copy_from_slice(octets);
+    end
 }
 
 // The number of digits of x.
@@ -65,10 +62,8 @@ pub fn list(buffer: &mut [u8], at: usize, numbers: &[u16], k: usize) -> usize
     ensures { Put buffer.old at (listed (take k numbers.now)) buffer.new result }
 {
     let mut place = at;
-    let mut i = 0;
-    while i < k {
-        place = spaced(buffer, place, numbers[i] as u32);
-        i += 1;
+    for &x in &numbers[..k] {
+        place = spaced(buffer, place, u32::from(x));
     }
     place
 }

@@ -1,34 +1,39 @@
--- `put_text::list` meets its contract. The loop's invariant: the first i numbers are put. Assumes nothing.
-use Prim.Native.Nat.{suc}
-use mathlib.Core.List.{◌++◌}
-use mathlib.Core.Path.{◌≡◌, refl, ap}
+-- `put_text::list` meets its contract. The loop's invariant: the numbers passed are put. Assumes nothing.
+use Prim.Native.Nat.{ℕ, suc}
+use mathlib.Core.List.{List, ◌++◌}
+use mathlib.Core.Path.{◌≡◌, ap}
 use native.Mathlib.Omega.{arith}
-use borrow.Author.Rules.{rules}
-use lib.ListN.{length, get_or, take}
 use native.Mathlib.Numerals.{add-one}
+use lib.ListN.{length, get_or, take}
+use lib.Seq.{take-length}
 use Rattle.text.proofs.Puts.{put-none, put_room, put_then}
 use Rattle.text.proofs.Listed.{listed_more, listed_front}
 use Rattle.text.specs.Text.{spaced, listed}
 use Rattle.put_text.proofs.list.Goals as goal
 
-pub loop-i-init : goal.loop-i-init
+pub loop-x-init : goal.loop-x-init
 unfolding listed
-loop-i-init c = (search rules, refl, put-none c.args.buffer.now c.args.at)
+loop-x-init c = put-none c.args.buffer.now c.args.at
 
 pub spaced-place-requires : goal.spaced-place-requires
 spaced-place-requires c =
-    let a = c.args in
-    let l = c.loop-i in
-    let more : listed (take (suc l.i) a.numbers.now) ≡ listed (take l.i a.numbers.now) ++ spaced (get_or a.numbers.now l.i 0) = listed_more a.numbers.now l.i (omega arith) in
-    put_room l.invariant.2 (spaced (get_or a.numbers.now l.i 0))
-    (omega (arith, ap length more, listed_front a.numbers.now (suc l.i) a.k (omega arith)))
+    let xs = take c.args.k c.args.numbers.now in
+    let i = c.loop-x.x-index in
+    let more : listed (take (suc i) xs) ≡ listed (take i xs) ++ spaced (get_or xs i 0) = listed_more xs i (omega arith) in
+    let whole : length (listed (take (length xs) xs)) ≡ length (listed xs) = ap (λ (l : List ℕ). length (listed l)) (take-length xs) in
+    rw c.from.ensures
+    (put_room c.loop-x.invariant (spaced (get_or xs i 0))
+    (omega (arith, ap length more, whole, listed_front xs (suc i) (length xs) (omega arith))))
 
-pub loop-i-preserved : goal.loop-i-preserved
-loop-i-preserved c =
-    let a = c.args in
-    let l = c.loop-i in (
-      omega arith,
-      search rules,
-      rw (add-one, listed_more a.numbers.now l.i (omega arith))
-          (put_then l.invariant.2 (omega arith) c.spaced-place.ensures),
-    )
+pub loop-x-preserved : goal.loop-x-preserved
+loop-x-preserved c =
+    let xs = take c.args.k c.args.numbers.now in
+    let i = c.loop-x.x-index in
+    rw (add-one, listed_more xs i (omega arith))
+    (put_then c.loop-x.invariant (omega arith) (rw c.from.ensures at c.spaced-place.ensures))
+
+pub returns : goal.returns
+returns c =
+    let xs = take c.args.k c.args.numbers.now in
+    let e : c.loop-x.x-index ≡ length xs = omega arith in
+    rw (e, take-length xs) at c.loop-x.invariant
