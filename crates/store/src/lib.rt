@@ -27,10 +27,8 @@ pub fn store(octets: &mut [u8], first: usize, end: usize, value: u64)
         store_five(octets, first, value);
         return;
     }
-    let mut i = first;
-    while i < end {
+    for i in first..end {
         octets[i] = ((value >> (8 * (end - 1 - i))) % 256) as u8;
-        i += 1;
     }
 }
 

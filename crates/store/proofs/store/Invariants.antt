@@ -10,6 +10,3 @@ use Rattle.store.proofs.store.Given as goal
 
 abbrev pub invariant-loop-i : goal.invariant-loop-i
 invariant-loop-i l = (l.first ≤ l.i) × (l.i ≤ l.end) × (length l.octets ≡ length l.initial.octets) × (l.octets ≡ paste l.initial.octets l.first (digits l.first l.end l.value) (l.i - l.first))
-
-abbrev pub decreases-loop-i : goal.decreases-loop-i
-decreases-loop-i l = l.end - l.i
