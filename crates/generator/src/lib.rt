@@ -4,8 +4,6 @@
 ghost use Rattle.std.specs.Prelude.{◌≡◌, ◌+◌, ◌%◌, ◌<◌, ◌≤◌, length};
 ghost use Rattle.generator.specs.Ring.{Ring, Drawn, DrawsFour};
 
-use std::num::wrapping_add_u32;
-
 // Each of the first 55 words is the one before plus this.
 const STEP: u32 = 0x9E37_79B9;
 
@@ -24,10 +22,8 @@ pub fn seeded(seed: u32) -> [u32; 55]
 {
     let mut ring = [0u32; 55];
     ring[0] = seed;
-    let mut i = 1;
-    while i < 55 {
-        ring[i] = wrapping_add_u32(ring[i - 1], STEP);
-        i += 1;
+    for i in 1..55 {
+        ring[i] = ring[i - 1].wrapping_add(STEP);
     }
     ring
 }
@@ -37,7 +33,7 @@ fn draw(ring: &mut [u32; 55], at: usize) -> u32
     requires { (at < 55) × (55 ≤ length ring.old) }
     ensures { Drawn at ring.old ring.new result }
 {
-    let word = wrapping_add_u32(ring[(at + 31) % 55], ring[at]);
+    let word = ring[(at + 31) % 55].wrapping_add(ring[at]);
     ring[at] = word;
     word
 }

@@ -13,7 +13,7 @@ fn octet(octets: &[u8], i: usize) -> u64
     requires { i < length octets.now }
     ensures { (result ≡ get_or octets.now i 0) × (result < 256) }
 {
-    octets[i] as u64
+    u64::from(octets[i])
 }
 
 // The number that the five octets from first on make.
@@ -38,10 +38,8 @@ pub fn window(octets: &[u8], first: usize, end: usize) -> u64
         return five(octets, first);
     }
     let mut value: u64 = 0;
-    let mut i = first;
-    while i < end {
-        value = value * 256 + octets[i] as u64;
-        i += 1;
+    for i in first..end {
+        value = value * 256 + octet(octets, i);
     }
     value
 }

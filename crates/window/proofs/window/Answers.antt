@@ -1,11 +1,10 @@
 -- `window::window` meets its contract. Five octets are those of `five`. The loop's invariant: value is the number of the octets passed. In a turn at
 -- most five were passed, so value is below 2^40 and the next one below 2^48.
 -- Assumes nothing.
-use Prim.Native.Nat.{ℕ, ◌+◌, ◌<◌, ◌^◌, ◌*◌}
-use mathlib.Core.Path.{sym, ap, ◌∙◌}
+use Prim.Native.Nat.{◌<◌, ◌^◌}
+use mathlib.Core.Path.{sym}
 use native.Mathlib.Omega.{arith}
 use borrow.Author.Rules.{rules}
-use lib.ListN.{get_or}
 use Rattle.field.proofs.Windows.{window_none, window_lt, window_more}
 use Rattle.window.proofs.window.Goals as goal
 use Rattle.window.proofs.window.Tie as tie
@@ -26,15 +25,13 @@ pub overflow_mul-value : goal.overflow_mul-value
 overflow_mul-value c = omega (arith, bounded c.before)
 
 pub overflow_add-value : goal.overflow_add-value
-overflow_add-value c = omega (arith, bounded c.before.before, c.shared_slice_known-in-loop-i-1.given c.loop-i.i)
+overflow_add-value c = omega (arith, bounded c.before.before)
 
 pub loop-i-preserved : goal.loop-i-preserved
 loop-i-preserved c =
     let a = c.args in
-    let l = c.loop-i in
-    let o = c.shared_slice_known-in-loop-i-1.given l.i in (
+    let l = c.loop-i in (
       omega arith,
       omega arith,
-      ap (λ (v : ℕ). v * 256 + get_or a.octets.now l.i 0) l.invariant.2
-          ∙ sym (window_more a.octets.now a.first l.i (omega arith) (omega arith) (omega (arith, o))),
+      rw (l.invariant.2, c.octet.ensures.0) (sym (window_more a.octets.now a.first l.i (omega arith) (omega arith) (omega arith))),
     )
