@@ -18,12 +18,10 @@ pub fn states_within<'a>(marks: &'a [u8; 512], teams: &'a [u8; 512], n: usize) -
     requires { n ≤ 512 }
     ensures { result ≡ all state_ok (states_of n marks.now teams.now) }
 {
-    let mut i = 0;
-    while i < n {
+    for i in 0..n {
         if !state_within(marks[i], teams[i]) {
             return false;
         }
-        i += 1;
     }
     true
 }
@@ -61,10 +59,8 @@ pub fn transitions_within<'a>(
 {
     let end = n as u16;
     let mut sound = true;
-    let mut i = 0;
-    while i < m {
-        sound = sound & transition_within(from, to, low, high, end, i);
-        i += 1;
+    for i in 0..m {
+        sound &= transition_within(from, to, low, high, end, i);
     }
     sound
 }

@@ -1,6 +1,6 @@
 -- `array_limits::transitions_within` meets its contract. The invariant: sound says whether every transition passed is within the limits.
 -- Assumes nothing.
-use Prim.Native.Nat.{◌-◌, ◌≤◌}
+use Prim.Native.Nat.{◌≤◌}
 use mathlib.Core.Path.{◌≡◌}
 use Rattle.rules.specs.Limits.{all, transition_ok}
 use Rattle.arrays.specs.Tables.{transitions_of}
@@ -8,6 +8,3 @@ use Rattle.array_limits.proofs.transitions_within.Given as goal
 
 abbrev pub invariant-loop-i : goal.invariant-loop-i
 invariant-loop-i l = (l.i ≤ l.m) × (l.sound ≡ all (transition_ok l.n) (transitions_of l.i l.from l.to l.low l.high))
-
-abbrev pub decreases-loop-i : goal.decreases-loop-i
-decreases-loop-i l = l.m - l.i
