@@ -20,13 +20,11 @@ pub fn count(marks: &[u8; 512], n: usize) -> Starts
 {
     let mut count = 0;
     let mut last = 0;
-    let mut i = 0;
-    while i < n {
+    for i in 0..n {
         if is_start(marks[i]) {
             count += 1;
             last = i;
         }
-        i += 1;
     }
     Starts { count, last }
 }
