@@ -8,7 +8,6 @@ ghost use Rattle.rules.specs.Image.{header_fields, state_fields, transition_fiel
 ghost use Rattle.rules.specs.Limits.{all, state_ok, transition_ok};
 ghost use Rattle.arrays.specs.Tables.{states_of, transition_of, transitions_of};
 
-use arrays::limits::wide;
 use arrays::{FINAL, START};
 use field::Four;
 
@@ -32,10 +31,10 @@ fn state(buffer: &mut [u8], at: usize, value: u8, team: u8)
     ensures { buffer.new ≡ put_all buffer.old at (state_fields (state_with value team)) }
 {
     let fields = Four {
-        first: (value / START % 2) as usize,
-        second: (value / FINAL % 2) as usize,
-        third: (value % 2) as usize,
-        fourth: team as usize,
+        first: usize::from(value / START % 2),
+        second: usize::from(value / FINAL % 2),
+        third: usize::from(value % 2),
+        fourth: usize::from(team),
     };
     store::put_four(buffer, at, 1, 1, 1, 5, fields);
 }
@@ -56,10 +55,10 @@ fn transition<'a>(
         (transition_fields (transition_of from.now to.now low.now high.now i)) }
 {
     let fields = Four {
-        first: wide(from[i]),
-        second: wide(to[i]),
-        third: wide(low[i]),
-        fourth: wide(high[i]),
+        first: usize::from(from[i]),
+        second: usize::from(to[i]),
+        third: usize::from(low[i]),
+        fourth: usize::from(high[i]),
     };
     store::put_four(buffer, at, 9, 9, 11, 11, fields);
 }
@@ -70,10 +69,8 @@ pub fn states<'a>(buffer: &mut [u8], marks: &'a [u8; 512], teams: &'a [u8; 512],
     requires teams_value { all state_ok (states_of n marks.now teams.now) ≡ true }
     ensures { buffer.new ≡ put_all buffer.old 32 (fields_of_each state_fields (states_of n marks.now teams.now)) }
 {
-    let mut i = 0;
-    while i < n {
+    for i in 0..n {
         state(buffer, 32 + 8 * i, marks[i], teams[i]);
-        i += 1;
     }
 }
 
@@ -92,9 +89,7 @@ pub fn transitions<'a>(
     ensures { buffer.new ≡ put_all buffer.old (32 + 8 * n)
         (fields_of_each transition_fields (transitions_of m from.now to.now low.now high.now)) }
 {
-    let mut i = 0;
-    while i < m {
+    for i in 0..m {
         transition(buffer, 32 + 8 * n + 40 * i, from, to, low, high, i);
-        i += 1;
     }
 }

@@ -1,6 +1,6 @@
 -- `writing::states` meets its contract. The invariant: the buffer has the fields of the states passed, put one after another.
 -- Assumes nothing.
-use Prim.Native.Nat.{◌-◌, ◌≤◌}
+use Prim.Native.Nat.{◌≤◌}
 use mathlib.Core.Path.{◌≡◌}
 use lib.ListN.{length}
 use Rattle.field.specs.Field.{put_all}
@@ -10,6 +10,3 @@ use Rattle.writing.proofs.states.Given as goal
 
 abbrev pub invariant-loop-i : goal.invariant-loop-i
 invariant-loop-i l = (l.i ≤ l.n) × (length l.buffer ≡ length l.initial.buffer) × (l.buffer ≡ put_all l.initial.buffer 32 (fields_of_each state_fields (states_of l.i l.marks l.teams)))
-
-abbrev pub decreases-loop-i : goal.decreases-loop-i
-decreases-loop-i l = l.n - l.i

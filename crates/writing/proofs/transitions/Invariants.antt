@@ -1,6 +1,6 @@
 -- `writing::transitions` meets its contract. The invariant: the buffer has the fields of the transitions passed, put one after another.
 -- Assumes nothing.
-use Prim.Native.Nat.{◌+◌, ◌-◌, ◌*◌, ◌≤◌}
+use Prim.Native.Nat.{◌+◌, ◌*◌, ◌≤◌}
 use mathlib.Core.Path.{◌≡◌}
 use lib.ListN.{length}
 use Rattle.field.specs.Field.{put_all}
@@ -10,6 +10,3 @@ use Rattle.writing.proofs.transitions.Given as goal
 
 abbrev pub invariant-loop-i : goal.invariant-loop-i
 invariant-loop-i l = (l.i ≤ l.m) × (length l.buffer ≡ length l.initial.buffer) × (l.buffer ≡ put_all l.initial.buffer (32 + 8 * l.n) (fields_of_each transition_fields (transitions_of l.i l.from l.to l.low l.high)))
-
-abbrev pub decreases-loop-i : goal.decreases-loop-i
-decreases-loop-i l = l.m - l.i
