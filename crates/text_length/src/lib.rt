@@ -40,10 +40,8 @@ fn lines_length<'a>(
     ensures { (result ≡ length (lines_text (transitions_of m from.now to.now low.now high.now))) × (result ≤ 31 * m) }
 {
     let mut length = 0;
-    let mut i = 0;
-    while i < m {
+    for i in 0..m {
         length += line_length(from[i], to[i], low[i], high[i]);
-        i += 1;
     }
     length
 }

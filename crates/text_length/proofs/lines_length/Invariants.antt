@@ -1,5 +1,5 @@
 -- `text_length::lines_length`. The loop's invariant: the length of the lines of the transitions passed, at most 31 for each. Assumes nothing.
-use Prim.Native.Nat.{◌-◌, ◌*◌, ◌≤◌}
+use Prim.Native.Nat.{◌*◌, ◌≤◌}
 use mathlib.Core.Path.{◌≡◌}
 use lib.ListN as list
 use Rattle.aldebaran.specs.Text.{lines_text}
@@ -8,6 +8,3 @@ use Rattle.text_length.proofs.lines_length.Given as goal
 
 abbrev pub invariant-loop-i : goal.invariant-loop-i
 invariant-loop-i l = (l.i ≤ l.m) × (l.length ≡ list.length (lines_text (transitions_of l.i l.from l.to l.low l.high))) × (l.length ≤ 31 * l.i)
-
-abbrev pub decreases-loop-i : goal.decreases-loop-i
-decreases-loop-i l = l.m - l.i
