@@ -14,7 +14,7 @@ fn numbered(buffer: &mut [u8], at: usize, word: &[u8], x: u16) -> usize
     ensures { Put buffer.old at (word.now ++ digits x) buffer.new result }
 {
     let place = put_text::word(buffer, at, word);
-    put_text::number(buffer, place, x as u32)
+    put_text::number(buffer, place, u32::from(x))
 }
 
 // Puts the first line.
@@ -56,10 +56,8 @@ fn lines<'a>(
         (lines_text (transitions_of m from.now to.now low.now high.now)) buffer.new result }
 {
     let mut place = at;
-    let mut i = 0;
-    while i < m {
+    for i in 0..m {
         place = line(buffer, place, from[i], to[i], low[i], high[i]);
-        i += 1;
     }
     place
 }

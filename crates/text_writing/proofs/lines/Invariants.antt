@@ -1,5 +1,5 @@
 -- `text_writing::lines`. The loop's invariant: the lines of the transitions passed are put. Assumes nothing.
-use Prim.Native.Nat.{◌-◌, ◌≤◌}
+use Prim.Native.Nat.{◌≤◌}
 use mathlib.Core.Path.{◌≡◌}
 use lib.ListN.{length}
 use Rattle.aldebaran.specs.Text.{lines_text}
@@ -9,6 +9,3 @@ use Rattle.text_writing.proofs.lines.Given as goal
 
 abbrev pub invariant-loop-i : goal.invariant-loop-i
 invariant-loop-i l = (l.i ≤ l.m) × (length l.buffer ≡ length l.initial.buffer) × Put l.initial.buffer l.at (lines_text (transitions_of l.i l.from l.to l.low l.high)) l.buffer l.place
-
-abbrev pub decreases-loop-i : goal.decreases-loop-i
-decreases-loop-i l = l.m - l.i
