@@ -10,7 +10,6 @@ ghost use Rattle.graph.specs.Route.{limit as limitOf, seconds as secondsOf, one}
 ghost use Rattle.costs.specs.Arrays.{Filled, counts_in, low_weight, high_weight, leaving_weight, count_close, no_weight, no_close};
 ghost use Rattle.costs.specs.Scaled.{scale as scale_of};
 
-use arrays::limits::wide;
 use graph::{Asked, Duration};
 
 // What a least figure's costs are multiplied by.
@@ -22,8 +21,8 @@ fn counts(asked: Asked, value: u8, team: u8) -> bool
 {
     match asked {
         Asked::One(_) => search::is_counted(value),
-        Asked::LeastCountFor(named) => classes::same_class(team as usize, named),
-        Asked::GreatestCountFor(named) => classes::same_class(team as usize, named),
+        Asked::LeastCountFor(named) => classes::same_class(usize::from(team), named),
+        Asked::GreatestCountFor(named) => classes::same_class(usize::from(team), named),
     }
 }
 
@@ -43,7 +42,7 @@ fn seconds(high: u16) -> u32
     ensures { result ≡ secondsOf (limitOf high) }
 {
     match limit(high) {
-        Duration::Seconds(x) => x as u32,
+        Duration::Seconds(x) => u32::from(x),
         Duration::Open => 0,
     }
 }
@@ -53,10 +52,8 @@ pub fn fill_highs(high: &[u16; 2048], m: usize, weight: &mut [u32; 2048])
     requires { (m ≤ 2048) × (weight.old ≡ no_weight) }
     ensures { Filled m (high_weight high.now) weight.new }
 {
-    let mut t = 0;
-    while t < m {
+    for t in 0..m {
         weight[t] = seconds(high[t]);
-        t += 1;
     }
 }
 
@@ -65,10 +62,8 @@ pub fn fill_lows(low: &[u16; 2048], m: usize, scale: u32, extra: u32, weight: &m
     requires { (m ≤ 2048) × (scale ≤ scale_of) × (extra ≤ 1) × ((t : ℕ) → t < m → get_or low.now t 0 ≤ 2047) × (weight.old ≡ no_weight) }
     ensures { Filled m (low_weight scale extra low.now) weight.new }
 {
-    let mut t = 0;
-    while t < m {
-        weight[t] = scale * low[t] as u32 + extra;
-        t += 1;
+    for t in 0..m {
+        weight[t] = scale * u32::from(low[t]) + extra;
     }
 }
 
@@ -91,10 +86,8 @@ pub fn fill_closes<'a>(
     requires { (n ≤ 512) × (close.old ≡ no_close) }
     ensures { Filled n (count_close asked scale marks.now teams.now) close.new }
 {
-    let mut s = 0;
-    while s < n {
+    for s in 0..n {
         close[s] = close_of(asked, marks[s], teams[s], scale);
-        s += 1;
     }
 }
 
@@ -109,10 +102,7 @@ pub fn fill_leaving<'a>(
     requires { (m ≤ 2048) × (extra ≤ 1) × ((s : ℕ) → get_or close.now s 0 ≤ scale_of) × ((t : ℕ) → t < m → get_or from.now t 0 < 512) × (weight.old ≡ no_weight) }
     ensures { Filled m (leaving_weight extra close.now from.now) weight.new }
 {
-    let mut t = 0;
-    while t < m {
-        let s = wide(from[t]);
-        weight[t] = close[s] + extra;
-        t += 1;
+    for t in 0..m {
+        weight[t] = close[usize::from(from[t])] + extra;
     }
 }

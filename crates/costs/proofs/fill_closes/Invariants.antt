@@ -1,5 +1,5 @@
 -- `costs::fill_closes`: the first s closes are filled. Assumes nothing.
-use Prim.Native.Nat.{◌-◌, ◌≤◌}
+use Prim.Native.Nat.{◌≤◌}
 use mathlib.Core.Path.{◌≡◌}
 use lib.ListN.{length}
 use Rattle.costs.specs.Arrays.{Filled, count_close}
@@ -7,6 +7,3 @@ use Rattle.costs.proofs.fill_closes.Given as goal
 
 abbrev pub invariant-loop-s : goal.invariant-loop-s
 invariant-loop-s l = (l.s ≤ l.n) × (length l.close ≡ 512) × Filled l.s (count_close l.asked l.scale l.marks l.teams) l.close
-
-abbrev pub decreases-loop-s : goal.decreases-loop-s
-decreases-loop-s l = l.n - l.s

@@ -1,5 +1,5 @@
 -- `costs::fill_highs`: the first t weights are filled. Assumes nothing.
-use Prim.Native.Nat.{◌-◌, ◌≤◌}
+use Prim.Native.Nat.{◌≤◌}
 use mathlib.Core.Path.{◌≡◌}
 use lib.ListN.{length}
 use Rattle.costs.specs.Arrays.{Filled, high_weight}
@@ -7,6 +7,3 @@ use Rattle.costs.proofs.fill_highs.Given as goal
 
 abbrev pub invariant-loop-t : goal.invariant-loop-t
 invariant-loop-t l = (l.t ≤ l.m) × (length l.weight ≡ 2048) × Filled l.t (high_weight l.high) l.weight
-
-abbrev pub decreases-loop-t : goal.decreases-loop-t
-decreases-loop-t l = l.m - l.t
