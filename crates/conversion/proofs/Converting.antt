@@ -6,9 +6,9 @@ use mathlib.Core.Path.{◌≡◌, refl, sym, ap, ◌∙◌}
 use Prim.Native.Nat.{ℕ}
 use lib.ListN.{length}
 use Rattle.graph.specs.Graph.{Graph, states, count}
-use Rattle.rules.specs.declared.Answer.{Answer}
+use Rattle.rules.specs.Answer.{Accepted, Written}
+use Rattle.std.proofs.Common.{Err}
 use Rattle.rules.specs.declared.Refusal.{Refusal}
-use Rattle.rules.specs.declared.Written.{Written}
 use Rattle.rules.specs.Aldebaran.{text_rows, graph_in_text, import_text, export_text, export_rows, export_rule}
 use Rattle.rules.specs.Calls.{import}
 use Rattle.rules.specs.Image.{image, image_length, image_rows, graph_in, read_image}
@@ -38,14 +38,14 @@ module _ (rows last : List Row) (g : Graph) (p : Plan) (e : Edited) {bits : ℕ}
   by_rows = x.answer ∙ answer-first rows g
 
   -- refused octets leave the buffer
-  stays : (k : Refusal) → e.answer ≡ Answer.Refused k → (octets before : List ℕ) (n : ℕ)
-      → Write octets (by_table (rows ++ last) n) before before (Written.Refused k)
+  stays : (k : Refusal) → e.answer ≡ Err k → (octets before : List ℕ) (n : ℕ)
+      → Write octets (by_table (rows ++ last) n) before before (Err k)
   stays k a octets before n =
       let d : by_table (rows ++ last) n ≡ refused k = after-refused rows last n k (sym by_rows ∙ ap said a) in
       record { answer = sym d; buffer = sym (ap (written octets before) d) }
 
   -- past the octets' grounds none of them holds, the plan is theirs, and the call's rows decide
-  module _ (a : e.answer ≡ Answer.Accepted) where
+  module _ (a : e.answer ≡ Accepted) where
     none : NoneHolds rows
     none = (accepted_only rows tt tt (sym by_rows ∙ ap said a)).0
 
@@ -61,7 +61,7 @@ module _ (rows last : List Row) (g : Graph) (p : Plan) (e : Edited) {bits : ℕ}
 -- ---- its image written, where the plan is within the limits
 
 module _ (rows : List Row) (g : Graph) (p : Plan) (e : Edited) {bits : ℕ} (x : Edit p (by_table rows g) bits e) (before : List ℕ) where
-  image_of : e.answer ≡ Answer.Accepted → within g ≡ true → (after : List ℕ) (w : Written) → Write (image (view e.plan)) (write_rule (view e.plan) before) before after w
+  image_of : e.answer ≡ Accepted → within g ≡ true → (after : List ℕ) (w : Written) → Write (image (view e.plan)) (write_rule (view e.plan) before) before after w
       → Write (image g) (by_table (rows ++ past_limits (write_rows g before)) (image_length (states g) (count g))) before after w
   unfolding write_rule
   image_of a i after w z =
@@ -78,11 +78,11 @@ module _ (text before : List ℕ) (f : Edited) (y : Edit no_plan (fresh_rule 1) 
       let v : view f.plan ≡ fresh_graph 1 = y.plan ∙ ap (next (view no_plan)) (fresh_done 1 refl) in
       rw (← import_given (view f.plan) text (ap within v ∙ fresh-within 1 refl)) x
 
-  pub image-refused : (k : Refusal) → e.answer ≡ Answer.Refused k → Write (image (graph_in_text text)) (image_rule text before) before before (Written.Refused k)
+  pub image-refused : (k : Refusal) → e.answer ≡ Err k → Write (image (graph_in_text text)) (image_rule text before) before before (Err k)
   unfolding image_rule
   image-refused k a = stays (text_rows text) (past_limits (write_rows (graph_in_text text) before)) (graph_in_text text) f.plan e alone k a _ before _
 
-  pub image-put : e.answer ≡ Answer.Accepted → (after : List ℕ) (w : Written) → Write (image (view e.plan)) (write_rule (view e.plan) before) before after w
+  pub image-put : e.answer ≡ Accepted → (after : List ℕ) (w : Written) → Write (image (view e.plan)) (write_rule (view e.plan) before) before after w
       → Write (image (graph_in_text text)) (image_rule text before) before after w
   unfolding image_rule import_text
   image-put a =
@@ -96,11 +96,11 @@ module _ (octets before : List ℕ) (e : Edited) (x : Held octets e) where
   unfolding read_image
   read = x
 
-  pub text-refused : (k : Refusal) → e.answer ≡ Answer.Refused k → Write (export_text (graph_in octets)) (text_rule octets before) before before (Written.Refused k)
+  pub text-refused : (k : Refusal) → e.answer ≡ Err k → Write (export_text (graph_in octets)) (text_rule octets before) before before (Err k)
   unfolding text_rule
   text-refused k a = stays (image_rows octets) (past_limits (export_rows (graph_in octets) before)) (graph_in octets) no_plan e read k a _ before _
 
-  pub text-put : e.answer ≡ Answer.Accepted → (after : List ℕ) (w : Written) → Write (export_text (view e.plan)) (export_rule (view e.plan) before) before after w
+  pub text-put : e.answer ≡ Accepted → (after : List ℕ) (w : Written) → Write (export_text (view e.plan)) (export_rule (view e.plan) before) before after w
       → Write (export_text (graph_in octets)) (text_rule octets before) before after w
   unfolding text_rule export_rule read_image
   text-put a after w z =
@@ -117,11 +117,11 @@ module _ (seed n m : ℕ) (before : List ℕ) (e : Edited) (x : Edit no_plan (ge
   unfolding generate_rule
   made = x
 
-  pub seed-refused : (k : Refusal) → e.answer ≡ Answer.Refused k → Write (image (generated_graph seed n m)) (seed_rule seed n m before) before before (Written.Refused k)
+  pub seed-refused : (k : Refusal) → e.answer ≡ Err k → Write (image (generated_graph seed n m)) (seed_rule seed n m before) before before (Err k)
   unfolding seed_rule
   seed-refused k a = stays (generate_rows n m) (past_limits (write_rows (generated_graph seed n m) before)) (generated_graph seed n m) no_plan e made k a _ before _
 
-  pub seed-put : e.answer ≡ Answer.Accepted → (after : List ℕ) (w : Written) → Write (image (view e.plan)) (write_rule (view e.plan) before) before after w
+  pub seed-put : e.answer ≡ Accepted → (after : List ℕ) (w : Written) → Write (image (view e.plan)) (write_rule (view e.plan) before) before after w
       → Write (image (generated_graph seed n m)) (seed_rule seed n m before) before after w
   unfolding seed_rule generate_rule
   seed-put a =

@@ -11,7 +11,8 @@ use lib.Dec.{ltb, eqb}
 use lib.ListN.{length, drop, length-append}
 use Rattle.graph.specs.Graph.{Graph, states, count}
 use Rattle.rules.specs.declared.Refusal.TheVariants.{BufferLength, StartCount}
-use Rattle.rules.specs.declared.Written.{Written}
+use Rattle.rules.specs.Answer.{Written}
+use Rattle.std.proofs.Common.{Ok, Err}
 use Rattle.rules.specs.Aldebaran.{text_rows, graph_in_text, import_text, starts, export_text, export_rows}
 use Rattle.rules.specs.Image.{image, image_length, image_rows, graph_in, read_image}
 use Rattle.rules.specs.Limits.{within}
@@ -31,28 +32,28 @@ use Rattle.conversion.specs.Rules.{past_limits, image_rule, text_rule, seed_rule
 -- ---- what was put
 
 within-buffer : (rows : List Row) (octets : List ℕ) (k : ℕ) → length octets ≡ k → (before after : List ℕ) (w : Written) → Write octets (by_table rows k) before after w
-    → (n : ℕ) → w ≡ Written.Length n → n ≤ length after
+    → (n : ℕ) → w ≡ Ok n → n ≤ length after
 within-buffer rows octets k l before after w x n e =
     let d : by_table rows k ≡ accepted n = sym x.answer ∙ ap wrote e in
     let b : after ≡ octets ++ drop n before = x.buffer ∙ ap (written octets before) d in
     omega (arith, (accepted_only rows k n d).1, ap length b, length-append octets (drop n before))
 
 pub image-within : (text before after : List ℕ) (w : Written) → Write (image (graph_in_text text)) (image_rule text before) before after w
-    → (n : ℕ) → w ≡ Written.Length n → n ≤ length after
+    → (n : ℕ) → w ≡ Ok n → n ≤ length after
 unfolding image_rule
 image-within text before after w x =
     let g : Graph = graph_in_text text in
     within-buffer (text_rows text ++ past_limits (write_rows g before)) (image g) (image_length (states g) (count g)) (length-image g) before after w x
 
 pub text-within : (octets before after : List ℕ) (w : Written) → Write (export_text (graph_in octets)) (text_rule octets before) before after w
-    → (n : ℕ) → w ≡ Written.Length n → n ≤ length after
+    → (n : ℕ) → w ≡ Ok n → n ≤ length after
 unfolding text_rule
 text-within octets before after w x =
     let g : Graph = graph_in octets in
     within-buffer (image_rows octets ++ past_limits (export_rows g before)) (export_text g) (length (export_text g)) refl before after w x
 
 pub seed-within : (seed n m : ℕ) (before after : List ℕ) (w : Written) → Write (image (generated_graph seed n m)) (seed_rule seed n m before) before after w
-    → (k : ℕ) → w ≡ Written.Length k → k ≤ length after
+    → (k : ℕ) → w ≡ Ok k → k ≤ length after
 unfolding seed_rule
 seed-within seed n m before after w x =
     let g : Graph = generated_graph seed n m in
@@ -88,7 +89,7 @@ text_room octets before h =
 -- ---- 11 is no ground of the octets' own, so no conversion is refused for such a buffer
 
 pub image-enough : (text before after : List ℕ) (w : Written) → 10756 ≤ length before → Write (image (graph_in_text text)) (image_rule text before) before after w
-    → w ≡ Written.Refused BufferLength → ⊥
+    → w ≡ Err BufferLength → ⊥
 unfolding image_rule import_text
 image-enough text before after w h x e =
     let g : Graph = graph_in_text text in
@@ -97,7 +98,7 @@ image-enough text before after w h x e =
     true≢false (sym (answered_among text_numbers (text_rows text) tt BufferLength (text_among text) short))
 
 pub text-enough : (octets before after : List ℕ) (w : Written) → 51221 ≤ length before → Write (export_text (graph_in octets)) (text_rule octets before) before after w
-    → w ≡ Written.Refused BufferLength → ⊥
+    → w ≡ Err BufferLength → ⊥
 text-enough octets before after w h x e =
     let start : Row = (StartCount, not (eqb (length (starts (graph_in octets))) 1)) in
     let among : Among (14 ∷ image_numbers) (image_rows octets ++ (start ∷ [])) =
@@ -106,7 +107,7 @@ text-enough octets before after w h x e =
     true≢false (sym (answered_among (14 ∷ image_numbers) (image_rows octets ++ (start ∷ [])) tt BufferLength among short))
 
 pub seed-enough : (seed n m : ℕ) (before after : List ℕ) (w : Written) → 10756 ≤ length before → Write (image (generated_graph seed n m)) (seed_rule seed n m before) before after w
-    → w ≡ Written.Refused BufferLength → ⊥
+    → w ≡ Err BufferLength → ⊥
 unfolding seed_rule generate_rule
 seed-enough seed n m before after w h x e =
     let g : Graph = generated_graph seed n m in

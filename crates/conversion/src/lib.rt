@@ -7,7 +7,7 @@ ghost use Rattle.rules.specs.Image.{image, graph_in};
 ghost use Rattle.rules.specs.Quotations.{Write};
 ghost use Rattle.conversion.specs.Rules.{image_rule, text_rule, seed_rule};
 
-use rules::{Answer, Format, Written};
+use rules::{Format, Refusal};
 
 // The octets of the longest image: 4, 512 states and 2,048 transitions of 5 octets each.
 pub const IMAGE_ROOM: usize = 10_756;
@@ -16,7 +16,7 @@ pub const IMAGE_ROOM: usize = 10_756;
 pub const TEXT_ROOM: usize = 51_221;
 
 // Puts the image of the plan that a text holds at the front of the buffer, and returns its length. The text is imported over a fresh plan.
-pub fn to_image(text: &[u8], buffer: &mut [u8]) -> Written
+pub fn to_image(text: &[u8], buffer: &mut [u8]) -> Result<usize, Refusal>
     ensures { Write (image (graph_in_text text.now)) (image_rule text.now buffer.old)
         buffer.old buffer.new result }
 {
@@ -24,33 +24,33 @@ pub fn to_image(text: &[u8], buffer: &mut [u8]) -> Written
     let imported = plan::replace(fresh.plan, Format::Text, text);
     let answer = imported.answer;
     match answer {
-        Answer::Accepted => plan::write(imported.plan, buffer),
-        Answer::Refused(r) => Written::Refused(r),
+        Ok(()) => plan::write(imported.plan, buffer),
+        Err(r) => Err(r),
     }
 }
 
 // Puts the text of the plan that an image holds at the front of the buffer, and returns its length.
-pub fn to_text(image: &[u8], buffer: &mut [u8]) -> Written
+pub fn to_text(image: &[u8], buffer: &mut [u8]) -> Result<usize, Refusal>
     ensures { Write (export_text (graph_in image.now)) (text_rule image.now buffer.old)
         buffer.old buffer.new result }
 {
     let held = plan::held(image);
     let answer = held.answer;
     match answer {
-        Answer::Accepted => plan::export(held.plan, buffer),
-        Answer::Refused(ground) => Written::Refused(ground),
+        Ok(()) => plan::export(held.plan, buffer),
+        Err(ground) => Err(ground),
     }
 }
 
 // Puts the image of the plan of n states and m transitions that a seed makes at the front of the buffer, and returns its length.
-pub fn of_seed(seed: u32, n: usize, m: usize, buffer: &mut [u8]) -> Written
+pub fn of_seed(seed: u32, n: usize, m: usize, buffer: &mut [u8]) -> Result<usize, Refusal>
     ensures { Write (image (generated_graph seed n m)) (seed_rule seed n m buffer.old)
         buffer.old buffer.new result }
 {
     let made = generation::generate(seed, n, m);
     let answer = made.answer;
     match answer {
-        Answer::Accepted => plan::write(made.plan, buffer),
-        Answer::Refused(refusal) => Written::Refused(refusal),
+        Ok(()) => plan::write(made.plan, buffer),
+        Err(refusal) => Err(refusal),
     }
 }

@@ -22,18 +22,13 @@ use Rattle.graph.specs.Class.{figure_of, counting}
 use Rattle.graph.specs.Which.{four}
 use Rattle.graph.proofs.Figures.{each_of}
 use Rattle.costs.proofs.Quoted.{least-quoted, greatest-quoted}
-use Rattle.rules.specs.declared.Answer.TheVariants.{Accepted, Refused as NotEdited}
+use Rattle.rules.specs.Answer.{Accepted, Quotation, Quotations, Written}
+use Rattle.std.proofs.Common.{Ok, Err}
 use Rattle.rules.specs.declared.Figure.{Figure as Answered}
 use Rattle.rules.specs.declared.Figure.TheVariants.{Number, None, Stranded, Endless}
-use Rattle.rules.specs.declared.Quotation.{Quotation}
-use Rattle.rules.specs.declared.Quotation.TheVariants.{Quoted, Refused as NotQuoted}
 use Rattle.rules.specs.declared.FourQuotes.{FourQuotes}
 use Rattle.rules.specs.declared.HeldQuotations.{HeldQuotations}
-use Rattle.rules.specs.declared.Quotations.{Quotations}
-use Rattle.rules.specs.declared.Quotations.TheVariants.{Quoted as AllQuoted, Refused as NoneQuoted}
 use Rattle.rules.specs.declared.Quote.{Quote}
-use Rattle.rules.specs.declared.Written.{Written}
-use Rattle.rules.specs.declared.Written.TheVariants.{Length, Refused as NotWritten}
 use Rattle.rules.specs.Aldebaran.{export_text, export_rule}
 use Rattle.rules.specs.Calls.{step}
 use Rattle.rules.specs.Image.{image, image_rows, graph_in, read_image}
@@ -80,13 +75,13 @@ published_keeps = record { freshes = λ x. x; generates = λ x. x; helds = λ x.
 
 edit_of : (p : Plan) (o : Result Graph) (bits : ℕ) → (e : Edited) × Edit p o bits e
 edit_of p (accepted g) bits = (record { answer = Accepted; plan = laid p g; taken = bits }, record { answer = refl; plan = view-laid p g; whole = refl; taken = refl })
-edit_of p (refused r) bits = (record { answer = NotEdited r; plan = p; taken = bits }, record { answer = refl; plan = refl; whole = refl; taken = refl })
+edit_of p (refused r) bits = (record { answer = Err r; plan = p; taken = bits }, record { answer = refl; plan = refl; whole = refl; taken = refl })
 
 -- ---- lent buffers
 
 write_of : (octets before : List ℕ) (o : Result ℕ) → (after : List ℕ) × (w : Written) × Write octets o before after w
-write_of octets before (accepted n) = (octets ++ drop n before, Length n, record { answer = refl; buffer = refl })
-write_of octets before (refused r) = (before, NotWritten r, record { answer = refl; buffer = refl })
+write_of octets before (accepted n) = (octets ++ drop n before, Ok n, record { answer = refl; buffer = refl })
+write_of octets before (refused r) = (before, Err r, record { answer = refl; buffer = refl })
 
 -- ---- quotations
 
@@ -119,7 +114,7 @@ quotation_of asked g before showable = go (quote_rule asked g before) refl
         let (f, k, j, after, x) = showable (not-false (within g) w) (ltb-false (length before) (states g) short) in
         let q : Quote = record { figure = answered f; k = k; j = j } in (
           after,
-          Quoted q,
+          Ok q,
           record {
             answer = sym e;
             kept = λ n h. absurd (never tt n (sym h ∙ e));
@@ -129,7 +124,7 @@ quotation_of asked g before showable = go (quote_rule asked g before) refl
         )
     go (refused r) e = (
       before,
-      NotQuoted r,
+      Err r,
       record {
         answer = sym e;
         kept = λ k h. refl;
@@ -263,17 +258,17 @@ module _ (g : Graph) (before : List ℕ) (w : within g ≡ true) (room : 2048 �
 -- where a rule of four quotations refuses, nothing is quoted and every place stays; where it accepts, the places do and the plan is within the limits
 four_by : (g : Graph) (before : List ℕ) (o : Result (Unit {0})) → (o ≡ accepted tt → (within g ≡ true) × (2048 ≤ length before))
     → (after : List ℕ) × (q : Quotations) × (said_quotations q ≡ o) × ((k : Refusal) → o ≡ refused k → after ≡ before)
-    × ((x : FourQuotes) → q ≡ AllQuoted x → AllStated g x before after)
+    × ((x : FourQuotes) → q ≡ Ok x → AllStated g x before after)
 four_by g before (accepted tt) h =
     let (w, room) = h refl in
     let x : FourQuotes = quotes g before w room in (
       whole g before w room,
-      AllQuoted x,
+      Ok x,
       refl,
       λ k e. absurd (never tt k (sym e)),
       λ y e. let s : x ≡ y = cc in subst (λ (z : FourQuotes). AllStated g z before (whole g before w room)) s (four_of g before w room),
     )
-four_by g before (refused r) h = (before, NoneQuoted r, refl, λ k e. refl, λ x e. absurd (let z : ◌≡◌ {A = ℕ} 0 1 = cc in omega arith))
+four_by g before (refused r) h = (before, Err r, refl, λ k e. refl, λ x e. absurd (let z : ◌≡◌ {A = ℕ} 0 1 = cc in omega arith))
 
 all_of : (g : Graph) (before : List ℕ) → (after : List ℕ) × (q : Quotations) × QuotesAll g before after q
 unfolding all_rule

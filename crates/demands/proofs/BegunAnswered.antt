@@ -27,7 +27,7 @@ use Rattle.graph.proofs.Basic.{answered_goes_on, answered_start, answered_takes-
 use Rattle.graph.proofs.Endless.{endless-at, at-departs, at-unfinished}
 use Rattle.graph.proofs.Open.{none_open}
 use Rattle.graph.proofs.Sentences.{InWords, route-is, route_some, unfinished-is, stranded-is, open_is, in_own-words, counts_no_heed}
-use Rattle.rules.specs.declared.Quotation.TheVariants.{Quoted}
+use Rattle.std.proofs.Common.{Ok}
 use Rattle.rules.specs.declared.Quote.{Quote}
 use Rattle.rules.specs.Quotations.{meant, says_over, says_asked, Stated, GreatestQuoted, LeastQuoted}
 use Rattle.rules.proofs.Sizes.{figure-said}
@@ -136,7 +136,7 @@ module _ (g : Graph) where
 
 module _ (c : Calculator) (keeps : Promises c) where
   -- what a greatest figure, and a least one, says
-  module _ {asked : Asked} {p : Plan} {before after : List ℕ} (q : Quote) (x : c.quotes asked p before after (Quoted q)) where
+  module _ {asked : Asked} {p : Plan} {before after : List ℕ} (q : Quote) (x : c.quotes asked p before after (Ok q)) where
     greatest_of : is_least (figure_of asked) ≡ false
         → GreatestQuoted (view p) (cost_over (figure_of asked) (counting asked (view p)) (view p)) (meant q.figure) q.k q.j before after
     greatest_of is = greatest-said (counting asked (view p)) (figure_of asked) is (said_of c keeps q x)
@@ -145,7 +145,7 @@ module _ (c : Calculator) (keeps : Promises c) where
         → LeastQuoted (view p) (cost_over (figure_of asked) (counting asked (view p)) (view p)) (meant q.figure) q.k q.j before after
     least_of is = least-said (counting asked (view p)) (figure_of asked) is (said_of c keeps q x)
 
-  endless_else : (asked : Asked) {p : Plan} {before after : List ℕ} (q : Quote) → c.quotes asked p before after (Quoted q) → meant q.figure ≡ ENDLESS
+  endless_else : (asked : Asked) {p : Plan} {before after : List ℕ} (q : Quote) → c.quotes asked p before after (Ok q) → meant q.figure ≡ ENDLESS
       → GoesOn (view p) ⊎ ((figure_of asked ≡ GreatestDelay) × TakesOpen (view p))
   endless_else (One LeastDelay) q x e = absurd ((said_of c keeps q x).not_endless e)
   endless_else (One GreatestDelay) {p} q x e = ⊎_elim (λ w. inl (to-endless (view p) w)) (λ w. inr (refl, to_open (view p) w)) ((said_of c keeps q x).endless.0 e)
@@ -213,12 +213,12 @@ strands_answered = to-stranded P2.plan answered_start
 
 -- one that shows a start alone beside a number
 pub shows_a_start : (c : Calculator) → BegunAnswered c → {asked : Asked} {p : Plan} {before after : List ℕ} (q : Quote) (n : ℕ)
-    → c.quotes asked p before after (Quoted q) → meant q.figure ≡ number n → take q.k after ≡ [] → ⊥
+    → c.quotes asked p before after (Ok q) → meant q.figure ≡ number n → take q.k after ≡ [] → ⊥
 shows_a_start c d q n x e none = let s = (d.shown q n x e).route.some in omega (arith, ap length none)
 
 -- one that counts the state once where a route begins and ends at it
 pub counts_once : (c : Calculator) → BegunAnswered c → {p : Plan} {before after : List ℕ} (q : Quote) → view p ≡ answered_returns.plan
-    → c.quotes (One GreatestCount) p before after (Quoted q) → meant q.figure ≡ number 1 → ⊥
+    → c.quotes (One GreatestCount) p before after (Ok q) → meant q.figure ≡ number 1 → ⊥
 unfolding marks_of counted transition from to
 counts_once c d {p} q e x f =
     let two : number-on (view p) (counted (view p)) 0 (0 ∷ []) ≡ 2 = ap (λ (g : Graph). number-on g (counted g) 0 (0 ∷ [])) e in

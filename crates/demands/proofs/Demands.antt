@@ -17,17 +17,12 @@ use Rattle.graph.specs.declared.Which.{Which}
 use Rattle.graph.specs.Compute.{figure_for}
 use Rattle.graph.specs.Figure.{Figure}
 use Rattle.graph.specs.Graph.{Graph, states}
-use Rattle.rules.specs.declared.Answer.{Answer}
-use Rattle.rules.specs.declared.Answer.TheVariants.{Accepted}
+use Rattle.rules.specs.Answer.{Accepted, Answer, Quotation, Quotations, Written}
+use Rattle.std.proofs.Common.{Ok, Err}
 use Rattle.rules.specs.declared.FourQuotes.{FourQuotes}
-use Rattle.rules.specs.declared.Quotation.{Quotation}
-use Rattle.rules.specs.declared.Quotation.TheVariants.{Quoted, Refused}
-use Rattle.rules.specs.declared.Quotations.{Quotations}
-use Rattle.rules.specs.declared.Quotations.TheVariants.{Quoted as AllQuoted, Refused as NoneQuoted}
 use Rattle.rules.specs.declared.Quote.{Quote}
 use Rattle.rules.specs.declared.Refusal.{Refusal}
 use Rattle.rules.specs.declared.Refusal.TheVariants.{PlanLimits, TeamNumber}
-use Rattle.rules.specs.declared.Written.{Written}
 use Rattle.rules.specs.Aldebaran.{export_rows, export_rule}
 use Rattle.rules.specs.Calls.{Call, mark, team, join, unjoin, read, import, rows_of, effect_of, step, run, run_fresh}
 use Rattle.rules.specs.Image.{image, image_rows, graph_in, read_image}
@@ -59,19 +54,19 @@ kept_buffer : {octets before after : List ℕ} {o : Result ℕ} {w : Written} (k
 kept_buffer {octets} {before} {after} {o} k x e = x.buffer ∙ ap (written octets before) (refused_as o k (sym e ∙ ap answer_of x.answer))
 
 -- a quotation that answers that it was accepted quotes
-pub was-quoted : (q : Quotation) → said_quotation q ≡ accepted tt → (x : Quote) × (q ≡ Quoted x)
-was-quoted (Quoted x) e = (x, refl)
-was-quoted (Refused r) e = absurd (never tt r e)
+pub was-quoted : (q : Quotation) → said_quotation q ≡ accepted tt → (x : Quote) × (q ≡ Ok x)
+was-quoted (Ok x) e = (x, refl)
+was-quoted (Err r) e = absurd (never tt r e)
 
 -- and one that answers a refusal has no figure
-pub was-refused : (q : Quotation) (r : Refusal) → said_quotation q ≡ refused r → q ≡ Refused r
-was-refused (Quoted x) r e = absurd (never tt r (sym e))
-was-refused (Refused k) r e = let s : k ≡ r = cc in ap Refused s
+pub was-refused : (q : Quotation) (r : Refusal) → said_quotation q ≡ refused r → q ≡ Err r
+was-refused (Ok x) r e = absurd (never tt r (sym e))
+was-refused (Err k) r e = let s : k ≡ r = cc in ap Err s
 
 -- all four alike
-pub were_quoted : (r : Quotations) → said_quotations r ≡ accepted tt → (q : FourQuotes) × (r ≡ AllQuoted q)
-were_quoted (AllQuoted q) e = (q, refl)
-were_quoted (NoneQuoted k) e = absurd (never tt k e)
+pub were_quoted : (r : Quotations) → said_quotations r ≡ accepted tt → (q : FourQuotes) × (r ≡ Ok q)
+were_quoted (Ok q) e = (q, refl)
+were_quoted (Err k) e = absurd (never tt k e)
 
 head_same : {a b : Result (Unit {0})} → a ∷ [] ≡ b ∷ [] → a ≡ b
 head_same e = cc
@@ -141,17 +136,17 @@ module _ (c : Calculator) (keeps : Promises c) where
   -- ---- demand 2
 
   -- what an accepted quotation says, and that its plan is within the limits
-  pub said_of : {asked : Asked} {p : Plan} {before after : List ℕ} (q : Quote) → c.quotes asked p before after (Quoted q)
+  pub said_of : {asked : Asked} {p : Plan} {before after : List ℕ} (q : Quote) → c.quotes asked p before after (Ok q)
       → Stated (says_asked asked (view p)) q before after
   said_of q x = (keeps.quotes x).quoted q refl
 
-  pub quoted-within : {asked : Asked} {p : Plan} {before after : List ℕ} (q : Quote) → c.quotes asked p before after (Quoted q) → within (view p) ≡ true
+  pub quoted-within : {asked : Asked} {p : Plan} {before after : List ℕ} (q : Quote) → c.quotes asked p before after (Ok q) → within (view p) ≡ true
   unfolding quote_rule
   quoted-within {asked} {p} {before} q x =
       not-false (within (view p)) (accepted_only (quote_rows asked (view p) before) tt tt (sym (keeps.quotes x).answer)).0.0
 
   -- all four were quoted of a plan within the limits
-  four-within : {p : Plan} {before after : List ℕ} (q : FourQuotes) → c.quotes-all p before after (AllQuoted q) → within (view p) ≡ true
+  four-within : {p : Plan} {before after : List ℕ} (q : FourQuotes) → c.quotes-all p before after (Ok q) → within (view p) ≡ true
   unfolding all_rule
   four-within {p} {before} q x = not-false (within (view p)) (accepted_only (all_rows (view p) before) tt tt (sym (keeps.quotes-all x).answer)).0.0
 

@@ -11,7 +11,7 @@ use Rattle.aldebaran.specs.Form.{on, and_then, read_word, is_digit, front, is_nu
 use Rattle.aldebaran.specs.Text.{Holding, first_form, line_form, read_lines, whole, read_text, text_of}
 use Rattle.aldebaran.proofs.Numbers.{on-got}
 use Rattle.aldebaran.proofs.RoundTrips.{text-read}
-use Rattle.rules.specs.declared.Answer.TheVariants.{Accepted}
+use Rattle.rules.specs.Answer.{Accepted}
 use Rattle.rules.specs.Aldebaran.{plan_of, export_text, export_rule, import_text}
 use Rattle.rules.specs.Calls.{import}
 use Rattle.rules.specs.Refusal.{accepted}

@@ -18,10 +18,9 @@ use Rattle.graph.specs.Figure.{number, value}
 use Rattle.graph.specs.Graph.{Graph}
 use Rattle.rules.specs.declared.FourQuotes.{FourQuotes}
 use Rattle.rules.specs.declared.HeldQuotations.{HeldQuotations}
-use Rattle.rules.specs.declared.Quotations.TheVariants.{Quoted as AllQuoted}
+use Rattle.rules.specs.Answer.{Written}
+use Rattle.std.proofs.Common.{Ok, Err}
 use Rattle.rules.specs.declared.Refusal.{Refusal}
-use Rattle.rules.specs.declared.Written.{Written}
-use Rattle.rules.specs.declared.Written.TheVariants.{Length, Refused}
 use Rattle.rules.specs.Limits.{within}
 use Rattle.rules.specs.Image.{image, graph_in, image_rows, read_image}
 use Rattle.rules.specs.Quotations.{meant, quote_of, held_rule}
@@ -46,7 +45,7 @@ use Rattle.demands.proofs.Record.{recorded}
 module _ (c : Calculator) (keeps : Promises c) where
   -- the ring's image is one that holds the ring, and its four figures are quoted
   ring-image : {before after : List ℕ} {r : HeldQuotations} → 2048 ≤ length before → c.quotes-image (image ring) before after r
-      → (q : FourQuotes) × (r.quotations ≡ AllQuoted q) × (meant (quote_of q LeastDelay).figure ≡ number 1048064)
+      → (q : FourQuotes) × (r.quotations ≡ Ok q) × (meant (quote_of q LeastDelay).figure ≡ number 1048064)
   unfolding read_image held_rule
   ring-image {before} {after} {r} room x =
       let (none, same) = accepted_only (image_rows (image ring)) (graph_in (image ring)) ring (read-image ring ring-within) in
@@ -58,9 +57,9 @@ module _ (c : Calculator) (keeps : Promises c) where
 
   -- record's answer, by its rule, and what it then holds
   recorded-there : {p : Plan} {before after : List ℕ} {w : Written} → within (view p) ≡ true → 11 ≤ length before → c.records p before after w
-      → (w ≡ Length 11) × Recorded c p before after
+      → (w ≡ Ok 11) × Recorded c p before after
   recorded-there {p} {before} {after} {w} inside room x =
-      let is : w ≡ Length 11 = length-answer w 11 ((keeps.records x).answer ∙ record_done (view p) before inside (le-ltb (length before) 11 room)) in
+      let is : w ≡ Ok 11 = length-answer w 11 ((keeps.records x).answer ∙ record_done (view p) before inside (le-ltb (length before) 11 room)) in
       (is, recorded c keeps 11 (subst (λ (v : Written). c.records p before after v) is x))
 
   of_ring : {p : Plan} {before after : List ℕ} {w : Written} → view p ≡ ring → 11 ≤ length before → c.records p before after w → field_at after 2 20 ≡ 1048064
@@ -87,7 +86,7 @@ module _ (c : Calculator) (keeps : Promises c) where
 
 -- one that refuses the ring's record, by whatever number
 pub refuses_the_ring : (c : Calculator) → FiguresFit c → {p : Plan} {before after : List ℕ} (k : Refusal) → view p ≡ ring → 11 ≤ length before
-    → c.records p before after (Refused k) → ⊥
+    → c.records p before after (Err k) → ⊥
 refuses_the_ring c d {p} k e room x = never 11 k (ap wrote (d.else_recorded (ap within e ∙ ring-within) room x).0)
 
 -- one that leaves out the first of its 20 bits

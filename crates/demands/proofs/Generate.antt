@@ -12,12 +12,10 @@ use Rattle.generator.specs.Words.{word_after, words}
 use Rattle.generated.specs.Generated.{transition_drawn, generated_graph, generate_rows, generate_rule}
 use Rattle.generated.proofs.Limits.{rule-within}
 use Rattle.graph.specs.Graph.{Graph, states, count, transition, low}
-use Rattle.rules.specs.declared.Answer.{Answer}
-use Rattle.rules.specs.declared.Answer.TheVariants.{Accepted, Refused}
+use Rattle.rules.specs.Answer.{Accepted, Answer, Written}
+use Rattle.std.proofs.Common.{Ok, Err}
 use Rattle.rules.specs.declared.Refusal.{Refusal}
 use Rattle.rules.specs.declared.Refusal.TheVariants.{StateCount, TransitionCount}
-use Rattle.rules.specs.declared.Written.{Written}
-use Rattle.rules.specs.declared.Written.TheVariants.{Length}
 use Rattle.rules.specs.Calls.{Call, run}
 use Rattle.rules.specs.Image.{image, image_length, tabulate}
 use Rattle.rules.specs.Limits.{within, state_count_ok, transition_count_ok}
@@ -41,14 +39,14 @@ use Rattle.demands.specs.Generate.{Generates, SameEverywhere}
 use Rattle.demands.proofs.Demands.{was-quoted, obeyed}
 
 -- an answer that says a refusal is that refusal
-refused-answer : (a : Answer) (k : Refusal) → said a ≡ refused k → a ≡ Refused k
-refused-answer Accepted k e = absurd (never tt k (sym e))
-refused-answer (Refused r) k e = let s : r ≡ k = cc in ap Refused s
+refused-answer : (a : Answer) (k : Refusal) → said a ≡ refused k → a ≡ Err k
+refused-answer (Ok _) k e = absurd (never tt k (sym e))
+refused-answer (Err r) k e = let s : r ≡ k = cc in ap Err s
 
 -- and two that say the same are the same
 same_answer : (a b : Answer) → said a ≡ said b → a ≡ b
-same_answer a Accepted e = accepted-answer a e
-same_answer a (Refused r) e = refused-answer a r e
+same_answer a (Ok _) e = accepted-answer a e
+same_answer a (Err r) e = refused-answer a r e
 
 -- the rule, by its counts
 states-refused : (s n m : ℕ) → state_count_ok n ≡ false → generate_rule s n m ≡ refused StateCount
@@ -82,13 +80,13 @@ module _ (c : Calculator) (keeps : Promises c) where
   inside {s} {n} {m} x a = rule-within s n m (generated_graph s n m) (by_rule x a)
 
   -- one that the rule refuses
-  not_made : {s n m : ℕ} {e : Edited} (k : Refusal) → generate_rule s n m ≡ refused k → c.generates s n m e → (e.answer ≡ Refused k) × (e.plan ≡ no_plan)
+  not_made : {s n m : ℕ} {e : Edited} (k : Refusal) → generate_rule s n m ≡ refused k → c.generates s n m e → (e.answer ≡ Err k) × (e.plan ≡ no_plan)
   not_made {s} {n} {m} {e} k r x = (refused-answer e.answer k ((keeps.generates x).answer ∙ ap answer_of r), (keeps.generates x).whole ∙ ap (next_value no_plan) r)
 
   -- a write of a generated plan
   written_whole : {s n m : ℕ} {e : Edited} {before after : List ℕ} {w : Written} → c.generates s n m e → e.answer ≡ Accepted
       → image_length n m ≤ length before → c.writes e.plan before after w
-      → (w ≡ Length (image_length n m)) × (after ≡ image (generated_graph s n m) ++ drop (image_length n m) before)
+      → (w ≡ Ok (image_length n m)) × (after ≡ image (generated_graph s n m) ++ drop (image_length n m) before)
   unfolding write_rule
   written_whole {s} {n} {m} {e} {before} {after} {w} x a room y =
       let g : Graph = generated_graph s n m in
@@ -96,7 +94,7 @@ module _ (c : Calculator) (keeps : Promises c) where
       let l : length (image g) ≡ image_length n m = rw (ns, ms) at (length-image g) in
       let o : write_rule g before ≡ accepted (length (image g)) = rw (inside x a, ns, ms, le-ltb (length before) (image_length n m) room) (ap accepted (sym l)) in
       let (is, there) = puts (image g) (image g) (write_rule g before) before after w (rw (made x a) at (keeps.writes y)) refl o in
-      (is ∙ ap Length l, there ∙ ap {B = List ℕ} (λ (k : ℕ). image g ++ drop k before) l)
+      (is ∙ ap Ok l, there ∙ ap {B = List ℕ} (λ (k : ℕ). image g ++ drop k before) l)
 
   -- a list of calls from a generated plan
   in_turn_lem : {s n m : ℕ} {e : Edited} {calls : List Call} {answers : List Answer} {last : Plan} → c.generates s n m e → e.answer ≡ Accepted

@@ -28,13 +28,11 @@ use Rattle.graph.specs.Route.{Route, Cost, counts, number-on}
 use Rattle.graph.proofs.Repeat.{nth}
 use Rattle.graph.proofs.Walks.{arrives_at}
 use Rattle.graph.proofs.Sentences.{route-is, number_some, shown-count}
-use Rattle.rules.specs.declared.Answer.TheVariants.{Accepted, Refused}
-use Rattle.rules.specs.declared.Quotation.TheVariants.{Quoted, Refused as NotQuoted}
+use Rattle.rules.specs.Answer.{Accepted, Written}
+use Rattle.std.proofs.Common.{Ok, Err}
 use Rattle.rules.specs.declared.Quote.{Quote}
 use Rattle.rules.specs.declared.Refusal.{Refusal}
 use Rattle.rules.specs.declared.Refusal.TheVariants.{StateNumber, Duration, ListFull, BufferLength, FromState, ToState, TeamNumber}
-use Rattle.rules.specs.declared.Written.{Written}
-use Rattle.rules.specs.declared.Written.TheVariants.{Length}
 use Rattle.rules.specs.Calls.{Call, mark, team, join, read, rows_of, run, run_fresh}
 use Rattle.rules.specs.Image.{image_by, image, version_of, transition_rows}
 use Rattle.rules.specs.Limits.{within, all, state_count_ok}
@@ -171,7 +169,7 @@ module _ (c : Calculator) where
     pub quote : Quote
     pub before : List ℕ
     pub after : List ℕ
-    pub quoted : c.quotes (One which) session.last before after (Quoted quote)
+    pub quoted : c.quotes (One which) session.last before after (Ok quote)
     pub figure : meant quote.figure ≡ f
 
   -- then f is g's figure
@@ -269,7 +267,7 @@ module _ (c : Calculator) where
 
     -- the walk shown beside a number, whatever the plan and what was asked: "a route has at least one transition .. no state between its first and last may be"
     -- final (E5)
-    module _ (asked : Asked) (before after : List ℕ) (q : Quote) (x : ℕ) (e : c.quotes asked s.last before after (Quoted q)) (f : meant q.figure ≡ number x) where
+    module _ (asked : Asked) (before after : List ℕ) (q : Quote) (x : ℕ) (e : c.quotes asked s.last before after (Ok q)) (f : meant q.figure ≡ number x) where
       abbrev cost : Cost
       cost = cost_over (figure_of asked) (counting asked after_list) after_list
 
@@ -310,7 +308,7 @@ module _ (c : Calculator) where
     -- a count that is quoted, with its figure x, and what its walk lacks
     module _ (before after : List ℕ) (q : Quote) (x : ℕ) (f : meant q.figure ≡ number x) where
       abbrev Lacking : Asked → Type 0
-      Lacking asked = c.quotes asked s.last before after (Quoted q) → Lacks (counting asked after_list) (take q.k after) x → ⊥
+      Lacking asked = c.quotes asked s.last before after (Ok q) → Lacks (counting asked after_list) (take q.k after) x → ⊥
 
       pub least-count_lacking : Lacking (One LeastCount)
       least-count_lacking e = counts_shown (counted after_list) _ x q.k q.j after f (d.right q e).shows.walk
@@ -345,7 +343,7 @@ module _ (c : Calculator) where
 
     -- and one that hides it, and quotes: after mark 0 4 and mark 0 0 no state is a start, and who obeyed only the first calls state 0 a dead end
     pub quotes_the_first : s.n ≡ 1 → s.calls ≡ mark 0 4 ∷ mark 0 0 ∷ [] → (before after : List ℕ) (q : Quote)
-        → c.quotes (One GreatestDelay) s.last before after (Quoted q) → meant q.figure ≡ STRANDED → ⊥
+        → c.quotes (One GreatestDelay) s.last before after (Ok q) → meant q.figure ≡ STRANDED → ⊥
     unfolding run within all figure_for any marks_of start final counted transition from to low high
     quotes_the_first n calls before after q e f =
         let h : STRANDED ≡ NONE =
@@ -382,7 +380,7 @@ module _ (c : Calculator) where
         omega arith
 
     -- "and the buffer empty": it says that it wrote the known plan, and the buffer stays as it was
-    pub leaves_the_buffer : {p : Plan} (n : ℕ) → view p ≡ P1.plan → c.writes p (replicate 28 0) (replicate 28 0) (Length n) → ⊥
+    pub leaves_the_buffer : {p : Plan} (n : ℕ) → view p ≡ P1.plan → c.writes p (replicate 28 0) (replicate 28 0) (Ok n) → ⊥
     unfolding octets
     leaves_the_buffer {p} n v x =
         let i : image (view p) ≡ written-octets = ap image v ∙ written_of_plan in
@@ -392,7 +390,7 @@ module _ (c : Calculator) where
         omega arith
 
     -- one that touches a later octet: it puts the known octets, and clears the one behind them
-    pub touches_a_later_octet : {p : Plan} (n : ℕ) → view p ≡ P1.plan → c.writes p (replicate 29 1) (written-octets ++ (0 ∷ [])) (Length n) → ⊥
+    pub touches_a_later_octet : {p : Plan} (n : ℕ) → view p ≡ P1.plan → c.writes p (replicate 29 1) (written-octets ++ (0 ∷ [])) (Ok n) → ⊥
     unfolding octets
     touches_a_later_octet {p} n v x =
         let i : image (view p) ≡ written-octets = ap image v ∙ written_of_plan in
@@ -404,11 +402,11 @@ module _ (c : Calculator) where
 
     -- "one that turns all images away": also one that it wrote itself
     pub turns_its_own_away : {p old : Plan} {before after : List ℕ} {e : Edited} (n : ℕ) (r : Refusal) → within (view old) ≡ true
-        → c.writes p before after (Length n) → c.edits old (read (take n after)) e → e.answer ≡ Refused r → ⊥
+        → c.writes p before after (Ok n) → c.edits old (read (take n after)) e → e.answer ≡ Err r → ⊥
     turns_its_own_away n r w x y a = never tt r (ap said (sym a ∙ (d.reads-back n w x y).0))
 
     -- one that writes version 1 (document 02, E4)
-    pub writes-version_1 : {p : Plan} {before after : List ℕ} (n : ℕ) → c.writes p before after (Length n) → take n after ≡ image_by 1 (view p) → ⊥
+    pub writes-version_1 : {p : Plan} {before after : List ℕ} (n : ℕ) → c.writes p before after (Ok n) → take n after ≡ image_by 1 (view p) → ⊥
     writes-version_1 {p} {before} {after} n x e =
         let g : Graph = view p in
         let (l, b) = d.written-image n x in
@@ -429,7 +427,7 @@ module _ (c : Calculator) where
         omega arith
 
   -- and, by the table, the known octets
-  pub turns-images_away : Demand1 c → {p : Plan} {e : Edited} (r : Refusal) → view p ≡ fresh_graph 1 → c.edits p (read octets) e → e.answer ≡ Refused r → ⊥
+  pub turns-images_away : Demand1 c → {p : Plan} {e : Edited} (r : Refusal) → view p ≡ fresh_graph 1 → c.edits p (read octets) e → e.answer ≡ Err r → ⊥
   turns-images_away d {p} {e} r v x a =
       never tt r (ap said (sym a) ∙ d.by_number (edit x) ∙ ap (λ (g : Graph). first (rows_of g (read octets))) v ∙ read_known)
 
@@ -444,21 +442,21 @@ module _ (c : Calculator) where
         d.by_number (edit x) ∙ rw w (after-refused own ((ListFull, leb 2048 (count (view p))) ∷ []) tt r h)
 
     -- 17 before 16: a bad from, and 17
-    pub joins_17_first : {p : Plan} {t : Transition} {e : Edited} → within (view p) ≡ true → states (view p) ≤ t.from → c.edits p (join t) e → e.answer ≡ Refused ToState → ⊥
+    pub joins_17_first : {p : Plan} {t : Transition} {e : Edited} → within (view p) ≡ true → states (view p) ≤ t.from → c.edits p (join t) e → e.answer ≡ Err ToState → ⊥
     joins_17_first {p} {t} w h x a = let z : ◌≡◌ {A = ℕ} 17 16 = ap code (ap said (sym a) ∙ joined FromState w (bad_from (states (view p)) t h) x) in omega arith
 
     -- 8 before 17: a bad to, and 8
     pub joins_8_first : {p : Plan} {t : Transition} {e : Edited} → within (view p) ≡ true → t.from < states (view p) → states (view p) ≤ t.to → c.edits p (join t) e
-        → e.answer ≡ Refused Duration → ⊥
+        → e.answer ≡ Err Duration → ⊥
     joins_8_first {p} {t} w h k x a = let z : ◌≡◌ {A = ℕ} 8 17 = ap code (ap said (sym a) ∙ joined ToState w (bad-to (states (view p)) t h k) x) in omega arith
 
     -- a read that still answers 7, whatever it is given
-    pub reads_7 : {p : Plan} {os : List ℕ} {e : Edited} → c.edits p (read os) e → e.answer ≡ Refused StateNumber → ⊥
+    pub reads_7 : {p : Plan} {os : List ℕ} {e : Edited} → c.edits p (read os) e → e.answer ≡ Err StateNumber → ⊥
     reads_7 {p} {os} x a = true≢false (sym (holds_among (0 ∷ image_numbers) (rows_of (view p) (read os)) StateNumber (read_among (view p) os) (d.only_grounds StateNumber (edit x) (ap said a))))
 
     -- 18 after 11 (E4): a count for a team above 31, with too few places, and 11
     pub quotes_11_first : {p : Plan} {before after : List ℕ} (named : ℕ) → within (view p) ≡ true → team_ok named ≡ false
-        → c.quotes (LeastCountFor named) p before after (NotQuoted BufferLength) → ⊥
+        → c.quotes (LeastCountFor named) p before after (Err BufferLength) → ⊥
     quotes_11_first {p} {before} named w h x =
         let e : first (quote_rows (LeastCountFor named) (view p) before) ≡ refused TeamNumber = rw (w, h) in
         let z : ◌≡◌ {A = ℕ} 11 18 = ap code (d.by_number (quote x) ∙ e) in

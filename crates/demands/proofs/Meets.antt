@@ -20,7 +20,7 @@ use Rattle.graph.specs.Class.{team_ok}
 use Rattle.graph.specs.Compute.{figure_for}
 use Rattle.graph.specs.Graph.{Graph, State, Transition, states}
 use Rattle.graph.specs.Known.{P1}
-use Rattle.rules.specs.declared.Answer.{Answer}
+use Rattle.rules.specs.Answer.{Answer}
 use Rattle.rules.specs.Calls.{Call, step, run_fresh}
 use Rattle.rules.specs.Limits.{within, all, state_count_ok, marks_ok, state_ok, transition_ok}
 use Rattle.rules.specs.Refusal.{Result, accepted, refused}

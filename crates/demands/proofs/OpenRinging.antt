@@ -25,7 +25,7 @@ use Rattle.graph.proofs.Heed.{one-least-delay, one-least-count, one-greatest-cou
 use Rattle.graph.proofs.Known.{delay-alone}
 use Rattle.graph.proofs.Open.{limited, open_high}
 use Rattle.graph.proofs.Sentences.{open_is, shown-highs, in_own-words, counts_no_heed, counts_loop}
-use Rattle.rules.specs.declared.Quotation.TheVariants.{Quoted}
+use Rattle.std.proofs.Common.{Ok}
 use Rattle.rules.specs.declared.Quote.{Quote}
 use Rattle.rules.specs.Limits.{within}
 use Rattle.rules.specs.Quotations.{meant, Stated, GreatestQuoted}
@@ -88,7 +88,7 @@ module _ (asked : Asked) (g h : Graph) (same : SameButHighs g h) (w : within g �
 -- ---- the record
 
 module _ (c : Calculator) (keeps : Promises c) where
-  module _ {p : Plan} {before after : List ℕ} (q : Quote) (x : c.quotes (One GreatestDelay) p before after (Quoted q)) where
+  module _ {p : Plan} {before after : List ℕ} (q : Quote) (x : c.quotes (One GreatestDelay) p before after (Ok q)) where
     abbrev g : Graph
     g = view p
 
@@ -116,7 +116,7 @@ module _ (c : Calculator) (keeps : Promises c) where
   )
 
   no_heed : (asked : Asked) {p p' : Plan} {before after before' after' : List ℕ} (q q' : Quote) → (figure_of asked ≡ GreatestDelay → ⊥)
-      → SameButHighs (view p) (view p') → c.quotes asked p before after (Quoted q) → c.quotes asked p' before' after' (Quoted q')
+      → SameButHighs (view p) (view p') → c.quotes asked p before after (Ok q) → c.quotes asked p' before' after' (Ok q')
       → meant q.figure ≡ meant q'.figure
   no_heed (One LeastDelay) {p} {p'} q q' other same x y =
       (said_of c keeps q x).figure ∙ one-least-delay (view p) (view p') same (within-closed (view p) (quoted-within c keeps q x)) ∙ sym (said_of c keeps q' y).figure
@@ -130,7 +130,7 @@ module _ (c : Calculator) (keeps : Promises c) where
   no_heed (GreatestCountFor team) {p} {p'} q q' other same x y =
       (said_of c keeps q x).figure ∙ greatest-count (GreatestCountFor team) (view p) (view p') same (quoted-within c keeps q x) ∙ sym (said_of c keeps q' y).figure
 
-  by_a_loop : (asked : Asked) {p : Plan} {before after : List ℕ} (q : Quote) → figure_of asked ≡ GreatestCount → c.quotes asked p before after (Quoted q)
+  by_a_loop : (asked : Asked) {p : Plan} {before after : List ℕ} (q : Quote) → figure_of asked ≡ GreatestCount → c.quotes asked p before after (Ok q)
       → meant q.figure ≡ ENDLESS → HasEndlessWalk (view p) × LoopShown (view p) (take q.k after) q.j
   by_a_loop (One LeastDelay) q is x e = let z : ◌≡◌ {A = ℕ} 0 3 = ap place is in absurd (omega arith)
   by_a_loop (One GreatestDelay) q is x e = let z : ◌≡◌ {A = ℕ} 1 3 = ap place is in absurd (omega arith)
@@ -199,10 +199,10 @@ differs_in_delay = (refl, refl)
 
 -- one that sums the open high, whatever it comes to
 pub sums_an_open_high : (c : Calculator) → OpenRinging c → {p : Plan} {before after : List ℕ} (q : Quote) (n : ℕ) → view p ≡ open_at-once.plan
-    → c.quotes (One GreatestDelay) p before after (Quoted q) → meant q.figure ≡ number n → ⊥
+    → c.quotes (One GreatestDelay) p before after (Ok q) → meant q.figure ≡ number n → ⊥
 sums_an_open_high c d q n e x f = number_not_endless n (sym f ∙ d.endless_also q x (subst Rings (sym e) rings-at-once))
 
 -- one that shows a ring with its j one below k
 pub shows_a_ring_early : (c : Calculator) → OpenRinging c → {p : Plan} {before after : List ℕ} (q : Quote) → (HasEndlessWalk (view p) → ⊥)
-    → c.quotes (One GreatestDelay) p before after (Quoted q) → meant q.figure ≡ ENDLESS → suc q.j ≡ q.k → ⊥
+    → c.quotes (One GreatestDelay) p before after (Ok q) → meant q.figure ≡ ENDLESS → suc q.j ≡ q.k → ⊥
 shows_a_ring_early c d q without x e early = omega (arith, (d.shown-alone q x e without).place)

@@ -10,7 +10,7 @@ use Rattle.graph.specs.declared.Which.TheVariants.{LeastDelay, GreatestDelay, Le
 use Rattle.graph.specs.Which.{place}
 use Rattle.graph.specs.Compute.{figure_for}
 use Rattle.graph.specs.Graph.{Graph}
-use Rattle.rules.specs.declared.Written.TheVariants.{Length}
+use Rattle.std.proofs.Common.{Ok}
 use Rattle.rules.specs.Image.{field}
 use Rattle.rules.specs.Quotations.{record_fields, record_octets, record_rule}
 use Rattle.rules.specs.Refusal.{accepted}
@@ -37,7 +37,7 @@ at g os f GreatestDelay = (ap (value_at 2) f, ap (value_at 3) f)
 at g os f LeastCount = (ap (value_at 4) f, ap (value_at 5) f)
 at g os f GreatestCount = (ap (value_at 6) f, ap (value_at 7) f)
 
-pub recorded : (c : Calculator) → Promises c → {p : Plan} {before after : List ℕ} (n : ℕ) → c.records p before after (Length n)
+pub recorded : (c : Calculator) → Promises c → {p : Plan} {before after : List ℕ} (n : ℕ) → c.records p before after (Ok n)
     → Recorded c p before after
 recorded c keeps {p} {before} {after} n x =
     let g : Graph = view p in

@@ -12,8 +12,8 @@ use Rattle.graph.specs.declared.Which.TheVariants.{LeastDelay, GreatestDelay, Le
 use Rattle.graph.specs.Figure.{Figure, number, STRANDED, ENDLESS, kind, cost_over}
 use Rattle.graph.specs.Graph.{Graph}
 use Rattle.graph.specs.Which.{is_least}
-use Rattle.rules.specs.declared.Answer.{Answer}
-use Rattle.rules.specs.declared.Answer.TheVariants.{Accepted, Refused}
+use Rattle.rules.specs.Answer.{Accepted, Answer}
+use Rattle.std.proofs.Common.{Ok, Err}
 use Rattle.rules.specs.declared.Refusal.{Refusal}
 use Rattle.rules.specs.Calls.{Call, rows_of, effect_of, step}
 use Rattle.rules.specs.Quotations.{says_over, LeastQuoted, GreatestQuoted}
@@ -29,15 +29,15 @@ use Rattle.demands.specs.Calculator.{Calculator, Promises}
 
 -- ---- an edit
 
-pub refused-answer : (a : Answer) (r : Refusal) → said a ≡ refused r → a ≡ Refused r
-refused-answer Accepted r e = absurd (never tt r (sym e))
-refused-answer (Refused k) r e = let s : k ≡ r = cc in ap Refused s
+pub refused-answer : (a : Answer) (r : Refusal) → said a ≡ refused r → a ≡ Err r
+refused-answer (Ok _) r e = absurd (never tt r (sym e))
+refused-answer (Err k) r e = let s : k ≡ r = cc in ap Err s
 
 module _ (c : Calculator) (keeps : Promises c) where
   pub by_first : {p : Plan} {call : Call} {e : Edited} → c.edits p call e → said e.answer ≡ first (rows_of (view p) call)
   by_first {p} {call} x = (keeps.edits x).answer ∙ answer-first (rows_of (view p) call) (effect_of (view p) call)
 
-  pub refused_by : {p : Plan} {call : Call} {e : Edited} (r : Refusal) → c.edits p call e → first (rows_of (view p) call) ≡ refused r → e.answer ≡ Refused r
+  pub refused_by : {p : Plan} {call : Call} {e : Edited} (r : Refusal) → c.edits p call e → first (rows_of (view p) call) ≡ refused r → e.answer ≡ Err r
   refused_by {p} {call} {e} r x h = refused-answer e.answer r (by_first x ∙ h)
 
   pub accepted_by : {p : Plan} {call : Call} {e : Edited} → c.edits p call e → NoneHolds (rows_of (view p) call) → e.answer ≡ Accepted

@@ -23,11 +23,10 @@ use Rattle.graph.specs.Route.{number-on}
 use Rattle.graph.proofs.Classes.{of_class}
 use Rattle.graph.proofs.Sentences.{route-count}
 use Rattle.graph.proofs.Tests.{none_of}
-use Rattle.rules.specs.declared.Answer.TheVariants.{Accepted}
-use Rattle.rules.specs.declared.Quotation.TheVariants.{Quoted}
+use Rattle.rules.specs.Answer.{Accepted}
+use Rattle.std.proofs.Common.{Ok}
 use Rattle.rules.specs.declared.Quote.{Quote}
 use Rattle.rules.specs.declared.Refusal.TheVariants.{Version, StateNumber, TeamNumber}
-use Rattle.rules.specs.declared.Written.TheVariants.{Length}
 use Rattle.rules.specs.Aldebaran.{plan_of}
 use Rattle.rules.specs.Calls.{mark, import}
 use Rattle.rules.specs.Image.{image, image_rows, header_rows, state_rows, transition_rows, state_item, fourth_of, state_at, state_place, version_of, state_count_of, transition_count_of, transition_at, transition_place, graph_in, read_image}
@@ -168,7 +167,7 @@ of_version_2 octets two header transitions =
 
 module _ (c : Calculator) (keeps : Promises c) where
   -- what is written is the image, of a plan within the limits
-  written_of : {p : Plan} {before after : List ℕ} (n : ℕ) → c.writes p before after (Length n) → (take n after ≡ image (view p)) × (within (view p) ≡ true)
+  written_of : {p : Plan} {before after : List ℕ} (n : ℕ) → c.writes p before after (Ok n) → (take n after ≡ image (view p)) × (within (view p) ≡ true)
   written_of {p} {before} n x =
       let (long, put) = (demand_2 c keeps).written-image n x in (
         ap (λ (l : List ℕ). take n l) put ∙ take_at (image (view p)) (drop n before) n long,
@@ -286,5 +285,5 @@ mark_clears c d s value x five gone = omega (arith, d.mark-leaves s value s x)
 
 -- one that has a figure for team 32
 pub quotes_32 : (c : Calculator) → Teams c → {p : Plan} {before after : List ℕ} (q : Quote) → within (view p) ≡ true
-    → c.quotes (GreatestCountFor 32) p before after (Quoted q) → ⊥
+    → c.quotes (GreatestCountFor 32) p before after (Ok q) → ⊥
 quotes_32 c d q w x = never tt TeamNumber (sym (ap said_quotation (d.count_18 w refl x)))

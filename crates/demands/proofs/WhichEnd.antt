@@ -15,7 +15,7 @@ use Rattle.text.specs.Text.{octets as textOctets, value_after, value}
 use Rattle.field.specs.Field.{pack, octets_of, bits, bits_of, bits_of_all, width_of_all, number, field_at}
 use Rattle.graph.specs.Graph.{Transition, states, count}
 use Rattle.graph.specs.Known.{plan, join as to-join}
-use Rattle.rules.specs.declared.Answer.TheVariants.{Refused}
+use Rattle.std.proofs.Common.{Err}
 use Rattle.rules.specs.declared.Refusal.{Refusal}
 use Rattle.rules.specs.declared.Refusal.TheVariants.{StateNumber, ListFull, FromState}
 use Rattle.rules.specs.Aldebaran.{first_rows, holding_rows, text_rows}
@@ -57,7 +57,7 @@ line-decides n t r (u ∷ earlier) later none e =
 
 module _ (c : Calculator) (keeps : Promises c) where
   read-refused : {p : Plan} {octets : List ℕ} {e : Edited} (i : ℕ) (r : Refusal) → within (view p) ≡ true → RightTo octets i
-      → Wrong (state_count_of octets) (transition_in octets i) r → c.edits p (read octets) e → e.answer ≡ Refused r
+      → Wrong (state_count_of octets) (transition_in octets i) r → c.edits p (read octets) e → e.answer ≡ Err r
   read-refused {p} {octets} {e} i r w right wrong x =
       let at = (transition_taken octets i r (record {
         header = right.header;
@@ -67,7 +67,7 @@ module _ (c : Calculator) (keeps : Promises c) where
       refused-answer e.answer r ((keeps.edits x).answer ∙ ap answer_of (read_given (view p) octets w ∙ at))
 
   import-refused : {p : Plan} {text : List ℕ} {e : Edited} (h : Holding) (t : Transition) (r : Refusal) → within (view p) ≡ true → RightToLine text h t
-      → Wrong h.states t r → c.edits p (import text) e → e.answer ≡ Refused r
+      → Wrong h.states t r → c.edits p (import text) e → e.answer ≡ Err r
   unfolding text_rows holding_rows
   import-refused {p} {text} h t r w right wrong x =
       let lines : first (each (transition_rows h.states) h.transitions) ≡ refused r =
@@ -76,7 +76,7 @@ module _ (c : Calculator) (keeps : Promises c) where
       (rw (w, right.on_form) (after_none (first_rows h.initial (length h.transitions) h.states) (each (transition_rows h.states) h.transitions) tt right.first-line ∙ lines))
 
   -- a row of the number that was answered holds
-  held : {p : Plan} {call : Call} {e : Edited} → c.edits p call e → e.answer ≡ Refused StateNumber → Holds StateNumber (rows_of (view p) call)
+  held : {p : Plan} {call : Call} {e : Edited} → c.edits p call e → e.answer ≡ Err StateNumber → Holds StateNumber (rows_of (view p) call)
   held {p} {call} x a = only_grounds (rows_of (view p) call) tt StateNumber (sym (by_first c keeps x) ∙ ap said a)
 
   pub which-end : WhichEnd c
@@ -124,5 +124,5 @@ unfolding textOctets value_after value and_then read_word is_digit front is_nume
 right-to-line = record { rest = []; on_form = refl; first-line = (refl, (refl, (refl, tt))); earlier = []; later = []; line = refl; before = tt }
 
 -- one that answers 7 for a bad from
-pub answers_7 : (c : Calculator) → WhichEnd c → {p : Plan} {e : Edited} → within (view p) ≡ true → c.edits p (read bad-second) e → e.answer ≡ Refused StateNumber → ⊥
+pub answers_7 : (c : Calculator) → WhichEnd c → {p : Plan} {e : Edited} → within (view p) ≡ true → c.edits p (read bad-second) e → e.answer ≡ Err StateNumber → ⊥
 answers_7 c d w x a = let z : ◌≡◌ {A = ℕ} 7 16 = ap (λ v. code (said v)) (sym a ∙ d.in_read 1 w right-to-second wrong_second x) in omega arith

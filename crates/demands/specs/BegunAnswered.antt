@@ -13,7 +13,7 @@ use Rattle.graph.specs.Graph.{Graph, high, Departs, Final, Unfinished, NoneDepar
 use Rattle.graph.specs.Known.{P2, P3}
 use Rattle.graph.specs.Walk.{Begins, Walk, visits, arrival, reached, DifferentButEnds}
 use Rattle.graph.specs.Which.{is_least}
-use Rattle.rules.specs.declared.Quotation.TheVariants.{Quoted}
+use Rattle.std.specs.Prelude.{Ok}
 use Rattle.rules.specs.declared.Quote.{Quote}
 use Rattle.rules.specs.Quotations.{meant}
 use Rattle.plan.specs.declared.Plan.{Plan}
@@ -66,34 +66,34 @@ pub record AnsweredShown (asked : Asked) (g : Graph) (x : ℕ) (ts : List ℕ) :
 pub record BegunAnswered (c : Calculator) : Type 0 where
   -- "The trade's rule becomes that a route has at least one transition. Its first state may be final, and no state between its first and last may be.": such a route is
   -- shown beside every number,
-  pub shown : {asked : Asked} {p : Plan} {before after : List ℕ} (q : Quote) (x : ℕ) → c.quotes asked p before after (Quoted q) → meant q.figure ≡ number x
+  pub shown : {asked : Asked} {p : Plan} {before after : List ℕ} (q : Quote) (x : ℕ) → c.quotes asked p before after (Ok q) → meant q.figure ≡ number x
       → AnsweredShown asked (view p) x (take q.k after)
   -- and all of them are looked at, those from a final start too: (demand 3) "Every other route of that plan has at least as much if the figure is a least one,
-  pub at_least : {asked : Asked} {p : Plan} {before after : List ℕ} (q : Quote) (x : ℕ) → is_least (figure_of asked) ≡ true → c.quotes asked p before after (Quoted q)
+  pub at_least : {asked : Asked} {p : Plan} {before after : List ℕ} (q : Quote) (x : ℕ) → is_least (figure_of asked) ≡ true → c.quotes asked p before after (Ok q)
       → meant q.figure ≡ number x → (s : ℕ) (ts : List ℕ) → AnsweredRoute (view p) s ts → x ≤ comes_to (figure_of asked) (counting asked (view p)) (view p) s ts
   -- and at most as much if it is a greatest one."
-  pub at_most : {asked : Asked} {p : Plan} {before after : List ℕ} (q : Quote) (x : ℕ) → is_least (figure_of asked) ≡ false → c.quotes asked p before after (Quoted q)
+  pub at_most : {asked : Asked} {p : Plan} {before after : List ℕ} (q : Quote) (x : ℕ) → is_least (figure_of asked) ≡ false → c.quotes asked p before after (Ok q)
       → meant q.figure ≡ number x → (s : ℕ) (ts : List ℕ) → AnsweredRoute (view p) s ts → comes_to (figure_of asked) (counting asked (view p)) (view p) s ts ≤ x
   -- (demand 3) "A least figure is NONE exactly when no start leads to an answer"
-  pub least-none : {asked : Asked} {p : Plan} {before after : List ℕ} (q : Quote) → is_least (figure_of asked) ≡ true → c.quotes asked p before after (Quoted q)
+  pub least-none : {asked : Asked} {p : Plan} {before after : List ℕ} (q : Quote) → is_least (figure_of asked) ≡ true → c.quotes asked p before after (Ok q)
       → (meant q.figure ≡ NONE) ↔ ((s : ℕ) (ts : List ℕ) → AnsweredRoute (view p) s ts → ⊥)
   -- "An endless .. walk .. likewise may begin at a final start": it makes a greatest figure ENDLESS,
-  pub endless-walk : {asked : Asked} {p : Plan} {before after : List ℕ} (q : Quote) → is_least (figure_of asked) ≡ false → c.quotes asked p before after (Quoted q)
+  pub endless-walk : {asked : Asked} {p : Plan} {before after : List ℕ} (q : Quote) → is_least (figure_of asked) ≡ false → c.quotes asked p before after (Ok q)
       → GoesOn (view p) → meant q.figure ≡ ENDLESS
   -- ".. or one that takes an open high, likewise may": it makes the greatest delay so,
-  pub open_walk : {p : Plan} {before after : List ℕ} (q : Quote) → c.quotes (One GreatestDelay) p before after (Quoted q) → TakesOpen (view p)
+  pub open_walk : {p : Plan} {before after : List ℕ} (q : Quote) → c.quotes (One GreatestDelay) p before after (Ok q) → TakesOpen (view p)
       → meant q.figure ≡ ENDLESS
   -- and nothing else does
-  pub endless_else : {asked : Asked} {p : Plan} {before after : List ℕ} (q : Quote) → c.quotes asked p before after (Quoted q) → meant q.figure ≡ ENDLESS
+  pub endless_else : {asked : Asked} {p : Plan} {before after : List ℕ} (q : Quote) → c.quotes asked p before after (Ok q) → meant q.figure ≡ ENDLESS
       → GoesOn (view p) ⊎ ((figure_of asked ≡ GreatestDelay) × TakesOpen (view p))
   -- "An .. stranded walk .. likewise may begin at a final start": where none goes on so, it makes a greatest figure STRANDED, and nothing else does
-  pub stranded-walk : {asked : Asked} {p : Plan} {before after : List ℕ} (q : Quote) → is_least (figure_of asked) ≡ false → c.quotes asked p before after (Quoted q)
+  pub stranded-walk : {asked : Asked} {p : Plan} {before after : List ℕ} (q : Quote) → is_least (figure_of asked) ≡ false → c.quotes asked p before after (Ok q)
       → Strands (view p) → (meant q.figure ≡ ENDLESS → ⊥) → meant q.figure ≡ STRANDED
-  pub stranded_else : {asked : Asked} {p : Plan} {before after : List ℕ} (q : Quote) → c.quotes asked p before after (Quoted q) → meant q.figure ≡ STRANDED
+  pub stranded_else : {asked : Asked} {p : Plan} {before after : List ℕ} (q : Quote) → c.quotes asked p before after (Ok q) → meant q.figure ≡ STRANDED
       → Strands (view p)
   -- "and a start without transitions is a dead end.": no greatest figure is then a number
-  pub dead_end_lem : {asked : Asked} {p : Plan} {before after : List ℕ} (q : Quote) (x s : ℕ) → is_least (figure_of asked) ≡ false → c.quotes asked p before after (Quoted q)
+  pub dead_end_lem : {asked : Asked} {p : Plan} {before after : List ℕ} (q : Quote) (x s : ℕ) → is_least (figure_of asked) ≡ false → c.quotes asked p before after (Ok q)
       → Begins (view p) s → NoneDeparts (view p) s → meant q.figure ≡ number x → ⊥
   -- "P2 gets P3's figures."
-  pub one_state : {p : Plan} {before after : List ℕ} (which : Which) (q : Quote) → view p ≡ P2.plan → c.quotes (One which) p before after (Quoted q)
+  pub one_state : {p : Plan} {before after : List ℕ} (which : Which) (q : Quote) → view p ≡ P2.plan → c.quotes (One which) p before after (Ok q)
       → meant q.figure ≡ P3.figures which

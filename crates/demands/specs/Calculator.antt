@@ -7,11 +7,8 @@
 use Rattle.std.specs.Prelude.{List, [], ◌∷◌, ℕ}
 use Rattle.generated.specs.Generated.{generate_rule}
 use Rattle.graph.specs.declared.Asked.{Asked}
-use Rattle.rules.specs.declared.Answer.{Answer}
+use Rattle.rules.specs.Answer.{Answer, Quotation, Quotations, Written}
 use Rattle.rules.specs.declared.HeldQuotations.{HeldQuotations}
-use Rattle.rules.specs.declared.Quotation.{Quotation}
-use Rattle.rules.specs.declared.Quotations.{Quotations}
-use Rattle.rules.specs.declared.Written.{Written}
 use Rattle.rules.specs.Aldebaran.{export_text, export_rule}
 use Rattle.rules.specs.Calls.{Call}
 use Rattle.rules.specs.Image.{image}

@@ -18,17 +18,11 @@ use Rattle.report.specs.Bounds.{finite, lower, upper}
 use Rattle.report.specs.Counts.{mincount, maxcount}
 use Rattle.report.specs.Procedure.{Returns}
 use Rattle.report.specs.Agreement.{least_figure, greatest_figure}
-use Rattle.rules.specs.declared.Answer.{Answer}
-use Rattle.rules.specs.declared.Answer.TheVariants.{Accepted}
+use Rattle.rules.specs.Answer.{Accepted, Answer, Quotation, Quotations, Written}
+use Rattle.std.specs.Prelude.{Ok, Err}
 use Rattle.rules.specs.declared.FourQuotes.{FourQuotes}
 use Rattle.rules.specs.declared.HeldQuotations.{HeldQuotations}
-use Rattle.rules.specs.declared.Quotation.{Quotation}
-use Rattle.rules.specs.declared.Quotation.TheVariants.{Quoted, Refused}
-use Rattle.rules.specs.declared.Quotations.{Quotations}
-use Rattle.rules.specs.declared.Quotations.TheVariants.{Quoted as AllQuoted}
 use Rattle.rules.specs.declared.Quote.{Quote}
-use Rattle.rules.specs.declared.Written.{Written}
-use Rattle.rules.specs.declared.Written.TheVariants.{Length}
 use Rattle.rules.specs.Aldebaran.{export_rows}
 use Rattle.rules.specs.Calls.{Call, read, rows_of, run_fresh}
 use Rattle.rules.specs.Image.{image_by, image, graph_in, image_rows, version_of}
@@ -91,10 +85,10 @@ module _ (c : Calculator) where
 
   -- a figure that was told of a plan, by any of the three calls that quote one: by itself, with all four, or with those of an image
   pub data Told (which : Which) : Graph → Figure → Type 0 where
-    quote : {p : Plan} {before after : List ℕ} {q : Quote} → c.quotes (One which) p before after (Quoted q) → Told which (view p) (meant q.figure)
-    all-four : {p : Plan} {before after : List ℕ} {q : FourQuotes} → c.quotes-all p before after (AllQuoted q)
+    quote : {p : Plan} {before after : List ℕ} {q : Quote} → c.quotes (One which) p before after (Ok q) → Told which (view p) (meant q.figure)
+    all-four : {p : Plan} {before after : List ℕ} {q : FourQuotes} → c.quotes-all p before after (Ok q)
         → Told which (view p) (meant (quote_of q which).figure)
-    all_of_image : {octets before after : List ℕ} {r : HeldQuotations} {q : FourQuotes} → c.quotes-image octets before after r → r.quotations ≡ AllQuoted q
+    all_of_image : {octets before after : List ℕ} {r : HeldQuotations} {q : FourQuotes} → c.quotes-image octets before after r → r.quotations ≡ Ok q
         → Told which (graph_in octets) (meant (quote_of q which).figure)
 
   -- DEMAND 1
@@ -124,7 +118,7 @@ module _ (c : Calculator) where
   -- DEMAND 2
   pub record Demand2 : Type 0 where
     -- "Images are read and written by document 01's layout:
-    pub written-image : {p : Plan} {before after : List ℕ} (n : ℕ) → c.writes p before after (Length n)
+    pub written-image : {p : Plan} {before after : List ℕ} (n : ℕ) → c.writes p before after (Ok n)
         → (length (image (view p)) ≡ n) × (after ≡ image (view p) ++ drop n before)
     pub read-image : {p : Plan} {octets : List ℕ} {e : Edited} → Octets octets → c.edits p (read octets) e → e.answer ≡ Accepted
         → image_by (version_of octets) (view e.plan) ≡ octets
@@ -132,19 +126,19 @@ module _ (c : Calculator) where
     pub read-version : {p : Plan} {octets : List ℕ} {e : Edited} → c.edits p (read octets) e → e.answer ≡ Accepted
         → ((version_of octets ≡ 1) × ((s : ℕ) → s < states (view e.plan) → team_of (view e.plan) s ≡ 0)) ⊎ (version_of octets ≡ 2)
     -- every plan written reads back as that plan,
-    pub reads-back : {p old : Plan} {before after : List ℕ} {e : Edited} (n : ℕ) → within (view old) ≡ true → c.writes p before after (Length n)
+    pub reads-back : {p old : Plan} {before after : List ℕ} {e : Edited} (n : ℕ) → within (view old) ≡ true → c.writes p before after (Ok n)
         → c.edits old (read (take n after)) e → (e.answer ≡ Accepted) × (view e.plan ≡ view p)
     -- and every image read writes back as those octets." (02, E4) "Write always produces version 2, so only version 2 images come back octet for octet":
     pub writes-back : {old : Plan} {octets before after : List ℕ} {e : Edited} {w : Written} → Octets octets → version_of octets ≡ 2 → c.edits old (read octets) e
         → e.answer ≡ Accepted → length octets ≤ length before → c.writes e.plan before after w
-        → (w ≡ Length (length octets)) × (after ≡ octets ++ drop (length octets) before)
+        → (w ≡ Ok (length octets)) × (after ≡ octets ++ drop (length octets) before)
     -- one of version 1 writes back as the version 2 image of the same plan
     pub writes-version_2 : {old : Plan} {octets before after : List ℕ} {e : Edited} {w : Written} → Octets octets → c.edits old (read octets) e
         → e.answer ≡ Accepted → length octets ≤ length before → c.writes e.plan before after w
-        → (w ≡ Length (length octets)) × (after ≡ image (view e.plan) ++ drop (length octets) before)
+        → (w ≡ Ok (length octets)) × (after ≡ image (view e.plan) ++ drop (length octets) before)
     -- the same of the plan that an image holds, made from nothing
     pub held-image : {octets : List ℕ} {e : Edited} → Octets octets → c.helds octets e → e.answer ≡ Accepted → image_by (version_of octets) (view e.plan) ≡ octets
-    pub holds-back : {p : Plan} {before after : List ℕ} {e : Edited} (n : ℕ) → c.writes p before after (Length n) → c.helds (take n after) e
+    pub holds-back : {p : Plan} {before after : List ℕ} {e : Edited} (n : ℕ) → c.writes p before after (Ok n) → c.helds (take n after) e
         → (e.answer ≡ Accepted) × (view e.plan ≡ view p)
     -- (02, E5) "The report's procedures are matched from then on for plans where no state is both start and final.":
     -- "Where all durations are 1, some state is marked start and every unfinished state has a transition out, the figures are those of the procedures
@@ -184,16 +178,16 @@ pub record OneClaim (c : Calculator) (s : Session c) : Type 0 where
   -- "That plan is then quoted into n or more places, n its state count." (02, E4) "The counts may be quoted for any one of these five classes, named by a team
   -- number in it"
   pub accepted_where : {asked : Asked} {before after : List ℕ} {r : Quotation} → c.quotes asked s.last before after r → name_ok asked ≡ true
-      → states (run_fresh s.n s.calls).last ≤ length before → (q : Quote) × (r ≡ Quoted q)
+      → states (run_fresh s.n s.calls).last ≤ length before → (q : Quote) × (r ≡ Ok q)
   -- (02, E4) "A team above 31 returns 18 .. so that a count asked for it has no figure under demand 3"
-  pub no-figure : {asked : Asked} {before after : List ℕ} {r : Quotation} → c.quotes asked s.last before after r → name_ok asked ≡ false → r ≡ Refused TeamNumber
+  pub no-figure : {asked : Asked} {before after : List ℕ} {r : Quotation} → c.quotes asked s.last before after r → name_ok asked ≡ false → r ≡ Err TeamNumber
   -- and its remaining sentences, from "A figure that is a number equals the delay or count of the route shown." to "A least figure is neither.": each stands
   -- above the field that carries it in rules/specs/Quotations.antt, `LeastQuoted` for a least figure and `GreatestQuoted` for a greatest one (`says_asked`)
-  pub right : {asked : Asked} {before after : List ℕ} (q : Quote) → c.quotes asked s.last before after (Quoted q)
+  pub right : {asked : Asked} {before after : List ℕ} (q : Quote) → c.quotes asked s.last before after (Ok q)
       → Stated (says_asked asked (run_fresh s.n s.calls).last) q before after
   -- the same of all four at once, into 512 places each
-  pub all-accepted : {before after : List ℕ} {r : Quotations} → c.quotes-all s.last before after r → 2048 ≤ length before → (q : FourQuotes) × (r ≡ AllQuoted q)
-  pub all_right : {before after : List ℕ} (q : FourQuotes) → c.quotes-all s.last before after (AllQuoted q)
+  pub all-accepted : {before after : List ℕ} {r : Quotations} → c.quotes-all s.last before after r → 2048 ≤ length before → (q : FourQuotes) × (r ≡ Ok q)
+  pub all_right : {before after : List ℕ} (q : FourQuotes) → c.quotes-all s.last before after (Ok q)
       → AllStated (run_fresh s.n s.calls).last q before after
 
 -- the same of an image's plan, made from nothing: it is as if the image had been read over a fresh plan, whichever. So it is for the list whose first call is that read (n is the fresh
@@ -208,13 +202,13 @@ pub record ImageClaim (c : Calculator) (n : ℕ) (octets : List ℕ) : Type 0 wh
       → Listed c e.plan calls answers last → view last ≡ (run_fresh n (read octets ∷ calls)).last
   -- what is quoted of it is right
   pub quoted-right : {e : Edited} {calls : List Call} {answers : List Answer} {last : Plan} {asked : Asked} {before after : List ℕ} (q : Quote) → c.helds octets e
-      → e.answer ≡ Accepted → Listed c e.plan calls answers last → c.quotes asked last before after (Quoted q)
+      → e.answer ≡ Accepted → Listed c e.plan calls answers last → c.quotes asked last before after (Ok q)
       → Stated (says_asked asked (run_fresh n (read octets ∷ calls)).last) q before after
   -- and the four figures of the image at once, "into n or more places": 512 for each figure. Where the read is accepted and there are as many places, they are quoted,
   pub accepted_where : {before after : List ℕ} {r : HeldQuotations} → c.quotes-image octets before after r → (run_fresh n (read octets ∷ [])).answers ≡ accepted tt ∷ []
-      → 2048 ≤ length before → (q : FourQuotes) × (r.quotations ≡ AllQuoted q)
+      → 2048 ≤ length before → (q : FourQuotes) × (r.quotations ≡ Ok q)
   -- and each sentence on figures and walks holds of each
-  pub right : {before after : List ℕ} {r : HeldQuotations} (q : FourQuotes) → c.quotes-image octets before after r → r.quotations ≡ AllQuoted q
+  pub right : {before after : List ℕ} {r : HeldQuotations} (q : FourQuotes) → c.quotes-image octets before after r → r.quotations ≡ Ok q
       → AllStated (run_fresh n (read octets ∷ [])).last q before after
 
 pub record Demand3 (c : Calculator) : Type 0 where

@@ -10,12 +10,10 @@ use Rattle.graph.specs.Figure.{Figure, number, value}
 use Rattle.graph.specs.Graph.{Graph, count, low, high}
 use Rattle.rules.specs.declared.FourQuotes.{FourQuotes}
 use Rattle.rules.specs.declared.HeldQuotations.{HeldQuotations}
-use Rattle.rules.specs.declared.Quotation.TheVariants.{Quoted}
-use Rattle.rules.specs.declared.Quotations.TheVariants.{Quoted as AllQuoted}
+use Rattle.rules.specs.Answer.{Written}
+use Rattle.std.specs.Prelude.{Ok}
 use Rattle.rules.specs.declared.Quote.{Quote}
 use Rattle.rules.specs.declared.Refusal.TheVariants.{PlanLimits, BufferLength}
-use Rattle.rules.specs.declared.Written.{Written}
-use Rattle.rules.specs.declared.Written.TheVariants.{Length}
 use Rattle.rules.specs.Image.{image}
 use Rattle.rules.specs.Limits.{within}
 use Rattle.rules.specs.Quotations.{meant, quote_of}
@@ -29,17 +27,17 @@ use Rattle.demands.specs.Record.{Recorded}
 
 pub record FiguresFit (c : Calculator) : Type 0 where
   -- "With at most 512 transitions on a shown route
-  pub shown-route : {asked : Asked} {p : Plan} {before after : List ℕ} (q : Quote) → c.quotes asked p before after (Quoted q) → q.k ≤ 512
+  pub shown-route : {asked : Asked} {p : Plan} {before after : List ℕ} (q : Quote) → c.quotes asked p before after (Ok q) → q.k ≤ 512
   -- and at most 2,047 seconds each,
-  pub seconds-each : {asked : Asked} {p : Plan} {before after : List ℕ} (q : Quote) → c.quotes asked p before after (Quoted q)
+  pub seconds-each : {asked : Asked} {p : Plan} {before after : List ℕ} (q : Quote) → c.quotes asked p before after (Ok q)
       → (t : ℕ) → t < count (view p) → (low (view p) t ≤ 2047) × (high (view p) t ≤ 2047)
   -- no figure passes 1,048,064.": none that is asked for by itself, a count for a class too; nor one of the four, however it is told
-  pub none_passes : {asked : Asked} {p : Plan} {before after : List ℕ} (q : Quote) → c.quotes asked p before after (Quoted q) → value (meant q.figure) ≤ 1048064
+  pub none_passes : {asked : Asked} {p : Plan} {before after : List ℕ} (q : Quote) → c.quotes asked p before after (Ok q) → value (meant q.figure) ≤ 1048064
   pub none_told_passes : {which : Which} {g : Graph} {f : Figure} → Told c which g f → value f ≤ 1048064
   -- and the least delay of the ring of 512 states is that, however it is told
   pub attained : {g : Graph} {f : Figure} → g ≡ ring → Told c LeastDelay g f → f ≡ number 1048064
   pub attained_of_image : {before after : List ℕ} {r : HeldQuotations} → 2048 ≤ length before → c.quotes-image (image ring) before after r
-      → (q : FourQuotes) × (r.quotations ≡ AllQuoted q) × (meant (quote_of q LeastDelay).figure ≡ number 1048064)
+      → (q : FourQuotes) × (r.quotations ≡ Ok q) × (meant (quote_of q LeastDelay).figure ≡ number 1048064)
   -- "Show that it is never returned
   pub never_returned : {rows : List Row} {a : Result (Unit {0})} → Called c rows a → code a ≡ 13 → ⊥
   -- and take it out of the table.": record answers 0, then 11,
@@ -48,6 +46,6 @@ pub record FiguresFit (c : Calculator) : Type 0 where
       → wrote w ≡ refused BufferLength
   -- and every other plan's figures are put there,
   pub else_recorded : {p : Plan} {before after : List ℕ} {w : Written} → within (view p) ≡ true → 11 ≤ length before → c.records p before after w
-      → (w ≡ Length 11) × Recorded c p before after
+      → (w ≡ Ok 11) × Recorded c p before after
   -- the ring's too: its least delay stands in the 20 bits behind the first 2
   pub ring-recorded : {p : Plan} {before after : List ℕ} {w : Written} → view p ≡ ring → 11 ≤ length before → c.records p before after w → field_at after 2 20 ≡ 1048064

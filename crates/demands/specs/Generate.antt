@@ -5,14 +5,10 @@ use Rattle.generated.specs.Generated.{generated_graph}
 use Rattle.graph.specs.declared.Asked.{Asked}
 use Rattle.graph.specs.Class.{name_ok}
 use Rattle.graph.specs.Graph.{states}
-use Rattle.rules.specs.declared.Answer.{Answer}
-use Rattle.rules.specs.declared.Answer.TheVariants.{Accepted, Refused}
-use Rattle.rules.specs.declared.Quotation.{Quotation}
-use Rattle.rules.specs.declared.Quotation.TheVariants.{Quoted}
+use Rattle.rules.specs.Answer.{Accepted, Answer, Quotation, Written}
+use Rattle.std.specs.Prelude.{Ok, Err}
 use Rattle.rules.specs.declared.Quote.{Quote}
 use Rattle.rules.specs.declared.Refusal.TheVariants.{StateCount, TransitionCount}
-use Rattle.rules.specs.declared.Written.{Written}
-use Rattle.rules.specs.declared.Written.TheVariants.{Length}
 use Rattle.rules.specs.Calls.{Call, read, run}
 use Rattle.rules.specs.Image.{image, image_length}
 use Rattle.rules.specs.Limits.{within, state_count_ok, transition_count_ok}
@@ -32,16 +28,16 @@ pub record Generates (c : Calculator) : Type 0 where
   -- "Every generated plan is one that write
   pub writes_whole : {s n m : ℕ} {e : Edited} {before after : List ℕ} {w : Written} → c.generates s n m e → e.answer ≡ Accepted
       → image_length n m ≤ length before → c.writes e.plan before after w
-      → (w ≡ Length (image_length n m)) × (after ≡ image (generated_graph s n m) ++ drop (image_length n m) before)
+      → (w ≡ Ok (image_length n m)) × (after ≡ image (generated_graph s n m) ++ drop (image_length n m) before)
   -- and read carry through whole."
   pub reads_whole : {s n m : ℕ} {e back : Edited} {old : Plan} {before after : List ℕ} (k : ℕ) → c.generates s n m e → e.answer ≡ Accepted
-      → c.writes e.plan before after (Length k) → within (view old) ≡ true → c.edits old (read (take k after)) back
+      → c.writes e.plan before after (Ok k) → within (view old) ≡ true → c.edits old (read (take k after)) back
       → (back.answer ≡ Accepted) × (view back.plan ≡ generated_graph s n m)
   -- "A bad n returns 4," whatever the transition count is
-  pub bad-states : {s n m : ℕ} {e : Edited} → state_count_ok n ≡ false → c.generates s n m e → (e.answer ≡ Refused StateCount) × (e.plan ≡ no_plan)
+  pub bad-states : {s n m : ℕ} {e : Edited} → state_count_ok n ≡ false → c.generates s n m e → (e.answer ≡ Err StateCount) × (e.plan ≡ no_plan)
   -- "then a transition count above 2,048 returns 5."
   pub bad-transitions : {s n m : ℕ} {e : Edited} → state_count_ok n ≡ true → transition_count_ok m ≡ false → c.generates s n m e
-      → (e.answer ≡ Refused TransitionCount) × (e.plan ≡ no_plan)
+      → (e.answer ≡ Err TransitionCount) × (e.plan ≡ no_plan)
   -- and no seed is refused
   pub accepted_else : {s n m : ℕ} {e : Edited} → state_count_ok n ≡ true → transition_count_ok m ≡ true → c.generates s n m e → e.answer ≡ Accepted
   -- demand 3's claim of a list that begins with a generated plan: the answers and the plan after it are those that the rules give,
@@ -52,7 +48,7 @@ pub record Generates (c : Calculator) : Type 0 where
   pub quoted : {s n m : ℕ} {e : Edited} {calls : List Call} {answers : List Answer} {last : Plan} {asked : Asked} {before after : List ℕ} {q : Quotation}
       → c.generates s n m e → e.answer ≡ Accepted → Listed c e.plan calls answers last → name_ok asked ≡ true
       → states (run (generated_graph s n m) calls).last ≤ length before → c.quotes asked last before after q
-      → (x : Quote) × (q ≡ Quoted x) × Stated (says_asked asked (run (generated_graph s n m) calls).last) x before after
+      → (x : Quote) × (q ≡ Ok x) × Stated (says_asked asked (run (generated_graph s n m) calls).last) x before after
 
 -- "We compare releases on made-up plans and need the same ones everywhere.": two calculators, or one called twice, given the same seed and counts, answer the same beside the same plan
 -- value, to the last place, refused or not

@@ -4,7 +4,7 @@ use Rattle.std.specs.Prelude.{true, false, List, ◌∷◌, ◌++◌, ◌≡◌,
 use Rattle.aldebaran.specs.Form.{on}
 use Rattle.aldebaran.specs.Text.{Holding, read_text}
 use Rattle.graph.specs.Graph.{Transition, states}
-use Rattle.rules.specs.declared.Answer.TheVariants.{Refused}
+use Rattle.std.specs.Prelude.{Err}
 use Rattle.rules.specs.declared.Refusal.{Refusal}
 use Rattle.rules.specs.declared.Refusal.TheVariants.{StateNumber, FromState, ToState, Duration}
 use Rattle.rules.specs.Aldebaran.{first_rows}
@@ -50,22 +50,22 @@ pub record RightToLine (text : List ℕ) (h : Holding) (t : Transition) : Type 0
 pub record WhichEnd (c : Calculator) : Type 0 where
   -- "In join,
   pub in_join : {p : Plan} {t : Transition} {r : Refusal} {e : Edited} → within (view p) ≡ true → Wrong (states (view p)) t r → c.edits p (join t) e
-      → e.answer ≡ Refused r
+      → e.answer ≡ Err r
   -- read
   pub in_read : {p : Plan} {octets : List ℕ} {r : Refusal} {e : Edited} (i : ℕ) → within (view p) ≡ true → RightTo octets i
-      → Wrong (state_count_of octets) (transition_in octets i) r → c.edits p (read octets) e → e.answer ≡ Refused r
+      → Wrong (state_count_of octets) (transition_in octets i) r → c.edits p (read octets) e → e.answer ≡ Err r
   -- and import a bad from returns 16, then a bad to 17, both before 8;
   pub in_import : {p : Plan} {text : List ℕ} {r : Refusal} {e : Edited} (h : Holding) (t : Transition) → within (view p) ≡ true → RightToLine text h t
-      → Wrong h.states t r → c.edits p (import text) e → e.answer ≡ Refused r
+      → Wrong h.states t r → c.edits p (import text) e → e.answer ≡ Err r
   -- number 7 remains for mark
   pub in_mark : {p : Plan} {e : Edited} (state value : ℕ) → within (view p) ≡ true → states (view p) ≤ state → c.edits p (mark state value) e
-      → e.answer ≡ Refused StateNumber
+      → e.answer ≡ Err StateNumber
   -- and for an import's initial state."
   pub initial-state : {p : Plan} {text rest : List ℕ} {e : Edited} (h : Holding) → within (view p) ≡ true → read_text text ≡ on h rest
       → state_count_ok h.states ≡ true → transition_count_ok (length h.transitions) ≡ true → h.states ≤ h.initial → c.edits p (import text) e
-      → e.answer ≡ Refused StateNumber
+      → e.answer ≡ Err StateNumber
   -- it remains there alone: no join and no read answers 7, nor an import whose initial state is right
-  pub join_not_7 : {p : Plan} {t : Transition} {e : Edited} → c.edits p (join t) e → e.answer ≡ Refused StateNumber → ⊥
-  pub read_not_7 : {p : Plan} {octets : List ℕ} {e : Edited} → c.edits p (read octets) e → e.answer ≡ Refused StateNumber → ⊥
-  pub import_only_7 : {p : Plan} {text : List ℕ} {e : Edited} → c.edits p (import text) e → e.answer ≡ Refused StateNumber
+  pub join_not_7 : {p : Plan} {t : Transition} {e : Edited} → c.edits p (join t) e → e.answer ≡ Err StateNumber → ⊥
+  pub read_not_7 : {p : Plan} {octets : List ℕ} {e : Edited} → c.edits p (read octets) e → e.answer ≡ Err StateNumber → ⊥
+  pub import_only_7 : {p : Plan} {text : List ℕ} {e : Edited} → c.edits p (import text) e → e.answer ≡ Err StateNumber
       → (h : Holding) × (rest : List ℕ) × (read_text text ≡ on h rest) × (h.states ≤ h.initial)

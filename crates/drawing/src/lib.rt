@@ -8,19 +8,19 @@ ghost use Rattle.rules.specs.Table.{first};
 ghost use Rattle.drawing.specs.Drawing.{meant, Marked};
 
 use arrays::limits;
-use rules::{Answer, Refusal};
+use rules::Refusal;
 
 // The grounds of a test plan with n states and m transitions, in their order.
-pub fn grounds(n: usize, m: usize) -> Answer
+pub fn grounds(n: usize, m: usize) -> Result<(), Refusal>
     ensures { said result ≡ first (generate_rows n m) }
 {
     if !limits::state_count_ok(n) {
-        return Answer::Refused(Refusal::StateCount);
+        return Err(Refusal::StateCount);
     }
     if 2048 < m {
-        return Answer::Refused(Refusal::TransitionCount);
+        return Err(Refusal::TransitionCount);
     }
-    Answer::Accepted
+    Ok(())
 }
 
 // A transition, as the arrays hold it.

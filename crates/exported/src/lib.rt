@@ -5,7 +5,7 @@ ghost use Rattle.rules.specs.Aldebaran.{export_text, export_rule};
 ghost use Rattle.rules.specs.Quotations.{Write};
 ghost use Rattle.arrays.specs.Tables.{graph_of};
 
-use rules::{Refusal, Written};
+use rules::Refusal;
 
 // Puts the text at the front of the buffer, and returns its length.
 pub fn export<'a>(
@@ -18,25 +18,25 @@ pub fn export<'a>(
     low: &'a [u16; 2048],
     high: &'a [u16; 2048],
     buffer: &mut [u8],
-) -> Written
+) -> Result<usize, Refusal>
     ensures { Write (export_text (graph_of n m marks.now teams.now from.now to.now low.now high.now))
         (export_rule (graph_of n m marks.now teams.now from.now to.now low.now high.now) buffer.old)
         buffer.old buffer.new result }
 {
     let limited = plan_limits::in_limits(n, m, marks, teams, from, to, low, high);
     if !limited {
-        return Written::Refused(Refusal::PlanLimits);
+        return Err(Refusal::PlanLimits);
     }
     let starts = starts::count(marks, n);
     let count = starts.count;
     if count != 1 {
-        return Written::Refused(Refusal::StartCount);
+        return Err(Refusal::StartCount);
     }
     let initial = starts.last;
     let length = text_length::length(initial, n, m, from, to, low, high);
     if buffer.len() < length {
-        return Written::Refused(Refusal::BufferLength);
+        return Err(Refusal::BufferLength);
     }
     text_writing::text(buffer, initial, n, m, from, to, low, high);
-    Written::Length(length)
+    Ok(length)
 }

@@ -7,8 +7,8 @@ use borrow.Author.Tests.{leb-true}
 use lib.Dec.{leb}
 use lib.ListN.{length, replicate, length-replicate, get_or-replicate}
 use Rattle.graph.specs.Graph.{state_with, marked}
-use Rattle.rules.specs.declared.Answer.{Answer}
-use Rattle.rules.specs.declared.Answer.TheVariants.{Accepted, Refused}
+use Rattle.rules.specs.Answer.{Accepted, Answer}
+use Rattle.std.proofs.Common.{Err}
 use Rattle.rules.specs.declared.Refusal.{Refusal}
 use Rattle.rules.specs.Limits.{state_count_ok, transition_count_ok}
 use Rattle.rules.specs.Refusal.{said}
@@ -28,7 +28,7 @@ use Rattle.generation.specs.Drawn.{Drawn}
 
 module _ (s n m : ℕ) (a : Answer) (rows : said a ≡ first (generate_rows n m)) where
   -- beside a refusal stands what a refused fresh gives, which is no plan
-  pub none_made : (r : Refusal) → a ≡ Refused r → (e : Edited) → Edit no_plan (fresh_rule 0) 0 e → Edit no_plan (generate_rule s n m) 0 (record { answer = a; plan = e.plan; taken = 0 })
+  pub none_made : (r : Refusal) → a ≡ Err r → (e : Edited) → Edit no_plan (fresh_rule 0) 0 e → Edit no_plan (generate_rule s n m) 0 (record { answer = a; plan = e.plan; taken = 0 })
   unfolding generate_rule fresh_rule
   none_made r e x h = rw h.whole (stays no_plan (generate_rows n m) (generated_graph s n m) a r e rows)
 

@@ -9,7 +9,6 @@ ghost use Rattle.plan.specs.View.{no_plan};
 ghost use Rattle.generation.specs.Drawn.{Room, Added, Drawn};
 
 use plan::{Edited, Plan};
-use rules::Answer;
 
 // Draws transition i into its place.
 fn add(
@@ -62,7 +61,7 @@ pub fn generate(seed: u32, n: usize, m: usize) -> Edited
     ensures { Edit no_plan (generate_rule seed n m) 0 result }
 {
     let answer = drawing::grounds(n, m);
-    if let Answer::Refused(_) = answer {
+    if let Err(_) = answer {
         let none = plan::fresh(0); // refused, with no plan beside it
         let plan = none.plan;
         return Edited {

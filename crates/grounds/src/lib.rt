@@ -7,38 +7,38 @@ ghost use Rattle.rules.specs.Rules.{limits_row, mark_grounds, team_grounds, join
 ghost use Rattle.rules.specs.Table.{first};
 ghost use Rattle.arrays.specs.Tables.{transition};
 
-use rules::{Answer, Refusal};
+use rules::Refusal;
 
 // The grounds of a mark, in their order.
-pub fn mark_grounds(limited: bool, n: usize, state: usize, value: usize) -> Answer
+pub fn mark_grounds(limited: bool, n: usize, state: usize, value: usize) -> Result<(), Refusal>
     ensures { said result ≡ first (limits_row limited ∷ mark_grounds n state value) }
 {
     if !limited { // 0: the plan
-        return Answer::Refused(Refusal::PlanLimits);
+        return Err(Refusal::PlanLimits);
     }
     if n <= state { // 7: the state
-        return Answer::Refused(Refusal::StateNumber); // of mark
+        return Err(Refusal::StateNumber); // of mark
     }
     if 7 < value { // 12: the value
-        return Answer::Refused(Refusal::MarksValue);
+        return Err(Refusal::MarksValue);
     }
-    Answer::Accepted
+    Ok(())
 }
 
 // The grounds of a team, in their order.
-pub fn team_grounds(limited: bool, n: usize, state: usize, team: usize) -> Answer
+pub fn team_grounds(limited: bool, n: usize, state: usize, team: usize) -> Result<(), Refusal>
     ensures { said result ≡ first (limits_row limited ∷ team_grounds n state team) }
 {
     if !limited {
-        return Answer::Refused(Refusal::PlanLimits);
+        return Err(Refusal::PlanLimits);
     }
     if n <= state {
-        return Answer::Refused(Refusal::StateNumber);
+        return Err(Refusal::StateNumber);
     }
     if 31 < team { // 18: the team
-        return Answer::Refused(Refusal::TeamNumber);
+        return Err(Refusal::TeamNumber);
     }
-    Answer::Accepted
+    Ok(())
 }
 
 // The grounds of a join, in their order.
@@ -50,31 +50,28 @@ pub fn join_grounds(
     to: usize,
     low: usize,
     high: usize,
-) -> Answer
+) -> Result<(), Refusal>
     ensures { said result ≡ first (limits_row limited ∷ join_grounds n m (transition from to low high)) }
 {
     if !limited {
-        return Answer::Refused(Refusal::PlanLimits);
+        return Err(Refusal::PlanLimits);
     }
-    let grounds = transition_grounds::checked(n, from, to, low, high);
-    if let Answer::Refused(r) = grounds {
-        return Answer::Refused(r);
-    }
+    transition_grounds::checked(n, from, to, low, high)?;
     if 2048 <= m {
-        return Answer::Refused(Refusal::ListFull);
+        return Err(Refusal::ListFull);
     }
-    Answer::Accepted
+    Ok(())
 }
 
 // The grounds of an unjoin, in their order.
-pub fn unjoin_grounds(limited: bool, m: usize, number: usize) -> Answer
+pub fn unjoin_grounds(limited: bool, m: usize, number: usize) -> Result<(), Refusal>
     ensures { said result ≡ first (limits_row limited ∷ unjoin_grounds m number) }
 {
     if !limited {
-        return Answer::Refused(Refusal::PlanLimits);
+        return Err(Refusal::PlanLimits);
     }
     if m <= number {
-        return Answer::Refused(Refusal::TransitionNumber);
+        return Err(Refusal::TransitionNumber);
     }
-    Answer::Accepted
+    Ok(())
 }

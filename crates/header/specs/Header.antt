@@ -1,7 +1,7 @@
 -- What reading the header of an image promises. Document 01, "The image": "with a running bit position, one after another", and the order of read's
 -- refusals. Assumes nothing.
 use Rattle.std.specs.Prelude.{List, ◌≡◌, ℕ, ◌+◌}
-use Rattle.rules.specs.declared.Answer.TheVariants.{Accepted}
+use Rattle.rules.specs.Answer.{Accepted}
 use Rattle.rules.specs.Image.{version_of, state_count_of, transition_count_of, state_place, header_rows}
 use Rattle.rules.specs.Refusal.{said}
 use Rattle.rules.specs.Table.{first}

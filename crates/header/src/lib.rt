@@ -4,12 +4,12 @@
 ghost use Rattle.std.specs.Prelude.{◌≡◌, ◌+◌, ◌<◌, ◌^◌};
 ghost use Rattle.header.specs.Header.{HeaderRead};
 
-use rules::{Answer, Refusal};
+use rules::Refusal;
 
 // What a header says: whether the image is refused by it, its version, and the two counts.
 #[derive(Drop)]
 pub struct Heading {
-    pub answer: Answer,
+    pub answer: Result<(), Refusal>,
     pub version: usize,
     pub states: usize,
     pub transitions: usize,
@@ -22,7 +22,7 @@ pub fn header(octets: &[u8], at: &mut usize, taken: &mut usize) -> Heading
 {
     if octets.len() < 4 {
         return Heading {
-            answer: Answer::Refused(Refusal::ImageShort),
+            answer: Err(Refusal::ImageShort),
             version: 0,
             states: 0,
             transitions: 0,

@@ -9,7 +9,7 @@ ghost use Rattle.rules.specs.Table.{first};
 
 use arrays::limits;
 use field::Four;
-use rules::{Answer, Refusal};
+use rules::Refusal;
 
 // How many octets the image of a plan with n states and m transitions has.
 pub fn size(n: usize, m: usize) -> usize
@@ -27,7 +27,7 @@ fn version_ok(version: usize) -> bool
 }
 
 // The grounds of the header's fields and of the length, in their order.
-pub fn grounds(octets: &[u8], fields: Four) -> Answer
+pub fn grounds(octets: &[u8], fields: Four) -> Result<(), Refusal>
     requires { (4 ≤ length octets.now) × (fields ≡ four_at octets.now 0 4 10 12 6) }
     ensures { said result ≡ first (header_rows octets.now) }
 {
@@ -36,23 +36,23 @@ pub fn grounds(octets: &[u8], fields: Four) -> Answer
     let m = fields.third;
     let pad = fields.fourth;
     if !version_ok(version) {
-        return Answer::Refused(Refusal::Version);
+        return Err(Refusal::Version);
     }
     if !limits::state_count_ok(n) {
-        return Answer::Refused(Refusal::StateCount);
+        return Err(Refusal::StateCount);
     }
     if 2048 < m {
-        return Answer::Refused(Refusal::TransitionCount);
+        return Err(Refusal::TransitionCount);
     }
     if pad != 0 {
-        return Answer::Refused(Refusal::SpareBits); // 6: the pad
+        return Err(Refusal::SpareBits); // 6: the pad
     }
     let needed = size(n, m);
     if octets.len() < needed {
-        return Answer::Refused(Refusal::ImageShort);
+        return Err(Refusal::ImageShort);
     }
     if needed < octets.len() {
-        return Answer::Refused(Refusal::ImageLong);
+        return Err(Refusal::ImageLong);
     }
-    Answer::Accepted
+    Ok(())
 }

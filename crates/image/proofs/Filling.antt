@@ -7,8 +7,8 @@ use Prim.Native.Nat.{ℕ}
 use native.Mathlib.Omega.{arith}
 use borrow.Author.Tests.{le-ltb}
 use lib.ListN.{length}
-use Rattle.rules.specs.declared.Answer.{Answer}
-use Rattle.rules.specs.declared.Answer.TheVariants.{Accepted, Refused}
+use Rattle.rules.specs.Answer.{Accepted, Answer}
+use Rattle.std.proofs.Common.{Ok, Err}
 use Rattle.rules.specs.declared.Refusal.{Refusal}
 use Rattle.rules.specs.Image.{tabulate, state_count_of, transition_count_of, state_at, state_place, transition_at, transition_place, graph_in}
 use Rattle.rules.specs.Image.{header_rows, state_rows, image_rows, read_image}
@@ -108,5 +108,5 @@ module _ (os : List ℕ) (n m : ℕ) (h : Head os n m) where
         → states_of n marks teams ≡ tabulate n (λ i. state_at os (state_place i))
         → (a ≡ Accepted → transitions_of m from to low high ≡ tabulate m (λ i. transition_at os (transition_place n i)))
         → came a (graph_of n m marks teams from to low high) ≡ read_image os
-    by_answer Accepted marks teams from to low high t es et = sym (by_none marks teams from to low high (sym t) es (et refl))
-    by_answer (Refused r) marks teams from to low high t es et = sym (by_transitions r (sym t))
+    by_answer (Ok _) marks teams from to low high t es et = sym (by_none marks teams from to low high (sym t) es (et refl))
+    by_answer (Err r) marks teams from to low high t es et = sym (by_transitions r (sym t))

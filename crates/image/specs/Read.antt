@@ -1,8 +1,7 @@
 -- What reading an image promises, part by part and whole. Document 01, "The image": "with a running bit position, one after another", and the order
 -- of read's refusals. Assumes nothing.
 use Rattle.std.specs.Prelude.{List, ◌≡◌, ℕ, ◌+◌, ◌≤◌, ◌<◌, ◌^◌, length}
-use Rattle.rules.specs.declared.Answer.{Answer}
-use Rattle.rules.specs.declared.Answer.TheVariants.{Accepted}
+use Rattle.rules.specs.Answer.{Accepted, Answer}
 use Rattle.rules.specs.Image.{tabulate, state_at, state_place, transition_at, transition_place}
 use Rattle.rules.specs.Image.{state_rows, read_image}
 use Rattle.rules.specs.Refusal.{said, came}

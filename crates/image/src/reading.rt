@@ -10,12 +10,12 @@ ghost use Rattle.image.specs.Values.{meant};
 use crate::Transition;
 use arrays::{FINAL, START};
 use field::Four;
-use rules::{Answer, Refusal};
+use rules::Refusal;
 
 // What came of an image: the answer, and the counts of the states and transitions in the arrays.
 #[derive(Drop)]
 pub struct Filled {
-    pub answer: Answer,
+    pub answer: Result<(), Refusal>,
     pub states: usize,
     pub transitions: usize,
 }
@@ -47,24 +47,22 @@ fn states(
     n: usize,
     marks: &mut [u8; 512],
     teams: &mut [u8; 512],
-) -> Answer
+) -> Result<(), Refusal>
     requires { (n ≤ 512) × (n ≤ length marks.old) × (n ≤ length teams.old) × (4 + n ≤ length octets.now) × (at.old ≡ 32) × (taken.old < 2 ^ 31)
         × (version ≡ version_of octets.now) }
     ensures { StatesRead octets.now n marks.old marks.new teams.old teams.new at.new
         taken.old taken.new result }
 {
-    let mut i = 0;
-    while i < n {
+    for i in 0..n {
         let fields = image_fields::state(octets, at, taken);
         let five = fields.fourth;
         if is_spare(version, five) {
-            return Answer::Refused(Refusal::SpareBits); // 6: a state
+            return Err(Refusal::SpareBits); // 6: a state
         }
         marks[i] = marks_of(fields);
         teams[i] = five as u8;
-        i += 1;
     }
-    Answer::Accepted
+    Ok(())
 }
 
 // Takes the fields of a transition, 40 bits.
@@ -93,7 +91,7 @@ fn transitions(
     to: &mut [u16; 2048],
     low: &mut [u16; 2048],
     high: &mut [u16; 2048],
-) -> Answer
+) -> Result<(), Refusal>
     requires n_bound { (n ≤ 512) × (m ≤ 2048) × (4 + n + 5 * m ≤ length octets.now) × (at.old ≡ 32 + 8 * n) × (taken.old < 2 ^ 31) }
     requires m_in_bounds { (m ≤ length from.old) × (m ≤ length to.old) × (m ≤ length low.old) × (m ≤ length high.old) }
     ensures { TransitionsRead octets.now n m
@@ -101,20 +99,15 @@ fn transitions(
         (fields from.new to.new low.new high.new)
         taken.old taken.new result }
 {
-    let mut i = 0;
-    while i < m {
+    for i in 0..m {
         let t = transition(octets, at, taken);
-        let grounds = transition_grounds::checked(n, t.from, t.to, t.low, t.high);
-        if let Answer::Refused(r) = grounds {
-            return Answer::Refused(r);
-        }
+        transition_grounds::checked(n, t.from, t.to, t.low, t.high)?;
         from[i] = t.from as u16;
         to[i] = t.to as u16;
         low[i] = t.low as u16;
         high[i] = t.high as u16;
-        i += 1;
     }
-    Answer::Accepted
+    Ok(())
 }
 
 // Reads an image into arrays, and adds the bits that it takes to the count; places past the counts stay.
@@ -138,7 +131,7 @@ pub fn fill(
     let at = &mut position;
     let heading = header::header(octets, at, taken);
     let head = heading.answer;
-    if let Answer::Refused(_) = head {
+    if let Err(_) = head {
         return Filled {
             answer: head,
             states: 0,
@@ -148,7 +141,7 @@ pub fn fill(
     let n = heading.states;
     let m = heading.transitions;
     let marked = states(octets, at, taken, heading.version, n, marks, teams);
-    if let Answer::Refused(_) = marked {
+    if let Err(_) = marked {
         return Filled {
             answer: marked,
             states: n,

@@ -22,8 +22,7 @@ use Rattle.aldebaran.proofs.Numbers.{off_not_on}
 use Rattle.aldebaran.proofs.RoundTrips.{both, form_written, lines-written}
 use Rattle.scan.specs.Places.{many, cut}
 use Rattle.scan.proofs.Scanning.{drop-none, drop-next}
-use Rattle.rules.specs.declared.Answer.{Answer}
-use Rattle.rules.specs.declared.Answer.TheVariants.{Accepted}
+use Rattle.rules.specs.Answer.{Accepted, Answer}
 use Rattle.rules.specs.declared.Refusal.{Refusal}
 use Rattle.rules.specs.declared.Refusal.TheVariants.{StateCount, TransitionCount, StateNumber, TextForm}
 use Rattle.rules.specs.Aldebaran.{plan_of, first_rows, holding_rows, text_rows, graph_in_text, import_text}

@@ -1,6 +1,6 @@
 -- What reading a text promises. Document 02, E1. Assumes nothing.
 use Rattle.std.specs.Prelude.{ℕ, ◌≤◌, List, ◌≡◌, length}
-use Rattle.rules.specs.declared.Answer.TheVariants.{Refused}
+use Rattle.std.specs.Prelude.{Err}
 use Rattle.rules.specs.declared.Refusal.{Refusal}
 use Rattle.rules.specs.Aldebaran.{states_from, import_text}
 use Rattle.rules.specs.Refusal.{came}
@@ -10,7 +10,7 @@ use Rattle.imported.specs.declared.Found.{Found}
 
 -- no plan
 abbrev pub none : Refusal → Found
-none r = record { answer = Refused r; states = 0; transitions = 0 }
+none r = record { answer = Err r; states = 0; transitions = 0 }
 
 -- "Import marks only the initial state, as start", "with all teams zero" (E4)
 pub record Marked (n initial : ℕ) (marks teams : List ℕ) : Type 0 where

@@ -11,12 +11,12 @@ ghost use Rattle.text_lines.specs.Lines.{Room};
 ghost use Rattle.imported.specs.Import.{none, Marked, Imports};
 
 use arrays::{START, limits};
-use rules::{Answer, Refusal};
+use rules::Refusal;
 
 // What came of octets that are to be a plan: the answer, and the counts of the states and transitions in the arrays, 0 where there is no plan.
 #[derive(Drop)]
 pub struct Found {
-    pub answer: Answer,
+    pub answer: Result<(), Refusal>,
     pub states: usize,
     pub transitions: usize,
 }
@@ -26,26 +26,26 @@ fn refuse(refusal: Refusal) -> Found
     ensures { result ≡ none refusal }
 {
     Found {
-        answer: Answer::Refused(refusal),
+        answer: Err(refusal),
         states: 0,
         transitions: 0,
     }
 }
 
 // The grounds of the first line, in their order.
-fn first_grounds(initial: usize, m: usize, n: usize) -> Answer
+fn first_grounds(initial: usize, m: usize, n: usize) -> Result<(), Refusal>
     ensures { said result ≡ first (first_rows initial m n) }
 {
     if !limits::state_count_ok(n) {
-        return Answer::Refused(Refusal::StateCount); // 4
+        return Err(Refusal::StateCount); // 4
     }
     if 2048 < m {
-        return Answer::Refused(Refusal::TransitionCount); // 5
+        return Err(Refusal::TransitionCount); // 5
     }
     if n <= initial {
-        return Answer::Refused(Refusal::StateNumber); // 7
+        return Err(Refusal::StateNumber); // 7
     }
-    Answer::Accepted
+    Ok(())
 }
 
 // Marks the initial state as start, and no other of the n states; every team is 0.
@@ -53,12 +53,8 @@ fn mark_initial(marks: &mut [u8; 512], teams: &mut [u8; 512], n: usize, initial:
     requires { (512 ≤ length marks.old) × (512 ≤ length teams.old) × (n ≤ 512) × (initial < n) }
     ensures { Marked n initial marks.new teams.new }
 {
-    let mut i = 0;
-    while i < n {
-        marks[i] = 0;
-        teams[i] = 0;
-        i += 1;
-    }
+    marks[..n].fill(0);
+    teams[..n].fill(0);
     marks[initial] = START;
 }
 
@@ -94,7 +90,7 @@ pub fn fill(
         return refuse(Refusal::TextForm);
     }
     let answer = listed.answer;
-    if let Answer::Refused(r) = answer {
+    if let Err(r) = answer {
         return refuse(r);
     }
     mark_initial(marks, teams, n, initial);

@@ -8,11 +8,10 @@ use borrow.Author.Tests.{lt-ltb, le-ltb}
 use lib.ListN.{length, length-append}
 use Rattle.graph.specs.Graph.{Graph}
 use Rattle.rules.specs.declared.FourQuotes.{FourQuotes}
-use Rattle.rules.specs.declared.Quotations.{Quotations}
-use Rattle.rules.specs.declared.Quotations.TheVariants.{Quoted, Refused}
+use Rattle.rules.specs.Answer.{Quotations}
+use Rattle.std.proofs.Common.{Ok, Err}
 use Rattle.rules.specs.declared.Refusal.{Refusal}
 use Rattle.rules.specs.declared.Refusal.TheVariants.{BufferLength}
-use Rattle.rules.specs.declared.Written.{Written}
 use Rattle.rules.specs.Image.{graph_in, image_rows, read_image}
 use Rattle.rules.specs.Quotations.{QuotesHeld, held_rows, held_rule, said_quotations}
 use Rattle.rules.specs.Refusal.{Result, accepted, refused, number, answer_of}
@@ -28,7 +27,7 @@ use Rattle.lines.specs.Printed.{Prints, Printed, answer_rows}
 -- ---- the buffer's row
 
 module _ (image before : List ℕ) where
-  pub prints_nothing : length before < room → Printed image before before (Written.Refused BufferLength)
+  pub prints_nothing : length before < room → Printed image before before (Err BufferLength)
   prints_nothing h = record {
     answer = rw (lt-ltb (length before) room h) refl;
     kept = λ k e. refl;
@@ -36,7 +35,7 @@ module _ (image before : List ℕ) where
   }
 
   -- what was put is the promise of a buffer that is long enough
-  prints : {after : List ℕ} {n : ℕ} → room ≤ length before → Prints image before after n → Printed image before after (Written.Length n)
+  prints : {after : List ℕ} {n : ℕ} → room ≤ length before → Prints image before after n → Printed image before after (Ok n)
   prints {after} {n} h p =
       let d : first (answer_rows before) ≡ accepted tt = rw (le-ltb (length before) room h) refl in
       record {
@@ -49,14 +48,14 @@ module _ (image before : List ℕ) where
 
 module _ (image places left : List ℕ) (a : Quotations) (h : 2048 ≤ length places) (x : QuotesHeld image places left a) where
   -- quotes are of the plan that the image holds
-  read-quoted : (q : FourQuotes) → a ≡ Quoted q → read_image image ≡ accepted (graph_in image)
+  read-quoted : (q : FourQuotes) → a ≡ Ok q → read_image image ≡ accepted (graph_in image)
   unfolding held_rule read_image
   read-quoted q e =
       let n = none-append (image_rows image) (buffer_row places 2048 ∷ []) (accepted_only (held_rows image places) tt tt (sym x.answer ∙ ap said_quotations e)).0 in
       accepted_where (image_rows image) (graph_in image) n.0
 
   -- a refusal is the image's
-  read-refused : (k : Refusal) → a ≡ Refused k → read_image image ≡ refused k
+  read-refused : (k : Refusal) → a ≡ Err k → read_image image ≡ refused k
   unfolding held_rule read_image
   read-refused k e = go (read_image image) refl
     where
@@ -72,14 +71,14 @@ module _ (image places left : List ℕ) (a : Quotations) (h : 2048 ≤ length pl
           ap refused y
 
   module _ {before after : List ℕ} {n : ℕ} (l : room ≤ length before) where
-    pub prints-figures : (q : FourQuotes) → a ≡ Quoted q → Put before 0 (lines_of q left) after n → Printed image before after (Written.Length n)
+    pub prints-figures : (q : FourQuotes) → a ≡ Ok q → Put before 0 (lines_of q left) after n → Printed image before after (Ok n)
     prints-figures q e p = prints image before l (record {
       octets = lines_of q left;
       lines = rw (read-quoted q e) (record { quotes = q; lent = places; places = left; stated = x.quoted q e; lines = refl });
       put = p;
     })
 
-    pub prints-refusal : (k : Refusal) (m : ℕ) → m ≡ number k → a ≡ Refused k → Put before 0 (refused_line m) after n → Printed image before after (Written.Length n)
+    pub prints-refusal : (k : Refusal) (m : ℕ) → m ≡ number k → a ≡ Err k → Put before 0 (refused_line m) after n → Printed image before after (Ok n)
     prints-refusal k m d e p = prints image before l (record { octets = refused_line m; lines = rw (read-refused k e) (ap refused_line d); put = p })
 
 -- what is printed lies within the buffer

@@ -4,7 +4,8 @@ use Rattle.std.specs.Prelude.{List, [], ◌∷◌, ◌≡◌, ℕ}
 use Rattle.graph.specs.Graph.{Graph}
 use Rattle.rules.specs.declared.FourQuotes.{FourQuotes}
 use Rattle.rules.specs.declared.Refusal.{Refusal}
-use Rattle.rules.specs.declared.Written.{Written}
+use Rattle.rules.specs.Answer.{Written}
+use Rattle.std.specs.Prelude.{Ok}
 use Rattle.rules.specs.Image.{read_image}
 use Rattle.rules.specs.Quotations.{AllStated}
 use Rattle.rules.specs.Refusal.{Result, accepted, refused, number, answer_of, wrote}
@@ -42,4 +43,4 @@ pub record Prints (image before after : List ℕ) (n : ℕ) : Type 0 where
 pub record Printed (image before after : List ℕ) (r : Written) : Type 0 where
   pub answer : answer_of (wrote r) ≡ first (answer_rows before)
   pub kept : (k : Refusal) → first (answer_rows before) ≡ refused k → after ≡ before
-  pub printed : (n : ℕ) → r ≡ Written.Length n → Prints image before after n
+  pub printed : (n : ℕ) → r ≡ Ok n → Prints image before after n

@@ -3,23 +3,23 @@
 
 ghost use Rattle.lines.specs.Printed.{Printed};
 
-use rules::{Quotations, Refusal, Written};
+use rules::Refusal;
 
 // The octets that four lines can need: 512 transitions of a space and five digits, a figure and a j in each, and the names.
 pub const ROOM: usize = 12_438;
 
 // Puts what is printed for an image at the front of the buffer, and returns its length. A buffer that four lines could be too long for is refused.
-pub fn answer(octets: &[u8], buffer: &mut [u8]) -> Written
+pub fn answer(octets: &[u8], buffer: &mut [u8]) -> Result<usize, Refusal>
     ensures { Printed octets.now buffer.old buffer.new result }
 {
     if buffer.len() < ROOM {
-        return Written::Refused(Refusal::BufferLength);
+        return Err(Refusal::BufferLength);
     }
     let mut walks = [0u16; 2048];
     let held = quotation::held(octets, &mut walks);
     let quotations = held.quotations;
     match quotations {
-        Quotations::Quoted(quotes) => Written::Length(four_lines::four(quotes, &walks, buffer)),
-        Quotations::Refused(r) => Written::Length(line::refused(buffer, 0, numbers::number(r))),
+        Ok(quotes) => Ok(four_lines::four(quotes, &walks, buffer)),
+        Err(r) => Ok(line::refused(buffer, 0, numbers::number(r))),
     }
 }

@@ -9,8 +9,8 @@ use native.Mathlib.Omega.{arith}
 use lib.ListN.{length, get_or, take, drop, set, replicate, length-replicate, get_or-replicate, length-append, length-drop, get_or-append}
 use lib.Seq.{paste, length-paste, length_paste_head, drop-paste, get_or-set_same, get_or-set_other, get_or-take, get_or-drop, get_or-append-add, length-take-le}
 use Rattle.graph.specs.Graph.{Graph, State, Transition, state_with, marked as state, state as stateIn}
-use Rattle.rules.specs.declared.Answer.{Answer}
-use Rattle.rules.specs.declared.Answer.TheVariants.{Accepted, Refused}
+use Rattle.rules.specs.Answer.{Accepted, Answer}
+use Rattle.std.proofs.Common.{Err}
 use Rattle.rules.specs.declared.Refusal.{Refusal}
 use Rattle.rules.specs.Refusal.{Result, accepted, refused, said}
 use Rattle.rules.specs.Rules.{fresh_graph, with_mark, with_team, with_transition, without}
@@ -54,7 +54,7 @@ past-laid p q h =
     }
 
 pub refusal : (p : Plan) (o : Result Graph) (r : Refusal) (bits taken : ℕ) → o ≡ refused r → taken ≡ bits
-    → Edit p o bits (record { answer = Refused r; plan = p; taken = taken })
+    → Edit p o bits (record { answer = Err r; plan = p; taken = taken })
 refusal p o r bits taken e t = record { answer = rw e; plan = rw e; whole = rw e; taken = t }
 
 pub acceptance : (p q : Plan) (o : Result Graph) (g : Graph) (bits taken : ℕ) → o ≡ accepted g → view q ≡ g → Past p q → taken ≡ bits
@@ -62,7 +62,7 @@ pub acceptance : (p q : Plan) (o : Result Graph) (g : Graph) (bits taken : ℕ) 
 acceptance p q o g bits taken e v l t = record { answer = rw e; plan = rw e v; whole = rw e (past-laid p q l ∙ ap (laid p) v); taken = t }
 
 -- the same by a call's rows, whose first one answers, of a call that takes no bits
-pub stays : (p : Plan) (rows : List Row) (g : Graph) (a : Answer) (r : Refusal) → a ≡ Refused r → said a ≡ first rows
+pub stays : (p : Plan) (rows : List Row) (g : Graph) (a : Answer) (r : Refusal) → a ≡ Err r → said a ≡ first rows
     → Edit p (by_table rows g) 0 (record { answer = a; plan = p; taken = 0 })
 stays p rows g a r e s = rw e (refusal p (by_table rows g) r 0 0 (refused_as (by_table rows g) r (sym (ap said e) ∙ s ∙ sym (answer-first rows g))) refl)
 

@@ -15,10 +15,8 @@ use lib.ListN.{length, take, drop}
 use lib.Seq.{take_at}
 use Rattle.graph.specs.Graph.{Graph, states, count}
 use Rattle.field.specs.Field.{Octets}
-use Rattle.rules.specs.declared.Answer.{Answer}
-use Rattle.rules.specs.declared.Answer.TheVariants.{Accepted}
-use Rattle.rules.specs.declared.Written.{Written}
-use Rattle.rules.specs.declared.Written.TheVariants.{Length, Refused as NotWritten}
+use Rattle.rules.specs.Answer.{Accepted, Answer, Written}
+use Rattle.std.proofs.Common.{Ok, Err}
 use Rattle.rules.specs.declared.Refusal.{Refusal}
 use Rattle.rules.specs.Calls.{Call, read, import, replacing, rows_of, effect_of, step, run, run_fresh}
 use Rattle.rules.specs.declared.Format.{Format}
@@ -74,18 +72,18 @@ fresh-run n {q} {calls} {answers} e h x o =
 
 -- ---- octets put into a buffer, and octets that replace a plan
 
-pub length-answer : (w : Written) (n : ℕ) → wrote w ≡ accepted n → w ≡ Length n
-length-answer (Length m) n e = let s : m ≡ n = cc in rw s
-length-answer (NotWritten r) n e = absurd (never n r e)
+pub length-answer : (w : Written) (n : ℕ) → wrote w ≡ accepted n → w ≡ Ok n
+length-answer (Ok m) n e = let s : m ≡ n = cc in rw s
+length-answer (Err r) n e = absurd (never n r e)
 
 -- what an accepted call put at the front of a buffer
-front_of : (octets : List ℕ) (o : Result ℕ) (before after : List ℕ) (n : ℕ) → Write octets o before after (Length n) → length octets ≡ n → take n after ≡ octets
+front_of : (octets : List ℕ) (o : Result ℕ) (before after : List ℕ) (n : ℕ) → Write octets o before after (Ok n) → length octets ≡ n → take n after ≡ octets
 front_of octets o before after n w l =
     ap (λ (b : List ℕ). take n b) (w.buffer ∙ ap (written octets before) (sym w.answer)) ∙ take_at octets (drop n before) n l
 
 -- a call that puts known octets, and is accepted
 pub puts : (octets known : List ℕ) (o : Result ℕ) (before after : List ℕ) (w : Written) → Write octets o before after w → octets ≡ known → o ≡ accepted (length known)
-    → (w ≡ Length (length known)) × (after ≡ known ++ drop (length known) before)
+    → (w ≡ Ok (length known)) × (after ≡ known ++ drop (length known) before)
 puts octets known o before after w x e a = (
   length-answer w (length known) (x.answer ∙ a),
   x.buffer ∙ ap (written octets before) a ∙ ap {B = List ℕ} (λ (l : List ℕ). l ++ drop (length known) before) e,
@@ -115,7 +113,7 @@ accepted-write g b n e =
     (not-false (within g) k.0.0, k.1)
 
 -- what was written holds that plan
-written-holds : (p : Plan) (before after : List ℕ) (n : ℕ) → Write (image (view p)) (write_rule (view p) before) before after (Length n) → read_image (take n after) ≡ accepted (view p)
+written-holds : (p : Plan) (before after : List ℕ) (n : ℕ) → Write (image (view p)) (write_rule (view p) before) before after (Ok n) → read_image (take n after) ≡ accepted (view p)
 written-holds p before after n w =
     let g : Graph = view p in
     let a = accepted-write g before n (sym w.answer) in
@@ -123,7 +121,7 @@ written-holds p before after n w =
 
 -- every plan written reads back as that plan, over any old plan that is within the limits
 pub write-then-read : (p old : Plan) (before after : List ℕ) (n : ℕ) (e : Edited) → within (view old) ≡ true
-    → Write (image (view p)) (write_rule (view p) before) before after (Length n)
+    → Write (image (view p)) (write_rule (view p) before) before after (Ok n)
     → Turn old (read (take n after)) e → (e.answer ≡ Accepted) × (view e.plan ≡ view p)
 write-then-read p old before after n e h w x =
     comes_to_lem old (step (view old) (read (take n after))) (view p) e x (read_given (view old) (take n after) h ∙ written-holds p before after n w)
@@ -139,14 +137,14 @@ accepted-read old octets e x a =
 pub accepted-held : (octets : List ℕ) (e : Edited) → Held octets e → e.answer ≡ Accepted → read_image octets ≡ accepted (view e.plan)
 accepted-held octets e x a = came-to no_plan (read_image octets) e x a
 
-pub write-then-held : (p : Plan) (before after : List ℕ) (n : ℕ) (e : Edited) → Write (image (view p)) (write_rule (view p) before) before after (Length n)
+pub write-then-held : (p : Plan) (before after : List ℕ) (n : ℕ) (e : Edited) → Write (image (view p)) (write_rule (view p) before) before after (Ok n)
     → Held (take n after) e → (e.answer ≡ Accepted) × (view e.plan ≡ view p)
 write-then-held p before after n e w x = comes_to_lem no_plan (read_image (take n after)) (view p) e x (written-holds p before after n w)
 
 -- every image read writes back as the version 2 image of its plan, into any buffer that has room
 pub read-then-image : (old : Plan) (octets : List ℕ) (e : Edited) (before after : List ℕ) (w : Written) → Octets octets → Turn old (read octets) e
     → e.answer ≡ Accepted → Write (image (view e.plan)) (write_rule (view e.plan) before) before after w → length octets ≤ length before
-    → (w ≡ Length (length octets)) × (after ≡ image (view e.plan) ++ drop (length octets) before)
+    → (w ≡ Ok (length octets)) × (after ≡ image (view e.plan) ++ drop (length octets) before)
 unfolding write_rule
 read-then-image old octets e before after w ho x a y room =
     let g : Graph = view e.plan in
@@ -155,13 +153,13 @@ read-then-image old octets e before after w ho x a y room =
     let l : length (image g) ≡ length octets = length-image g ∙ k in
     let o : write_rule g before ≡ accepted (length (image g)) = rw (read-within octets g r, k, le-ltb (length before) (length octets) room) (ap accepted (sym l)) in
     let (is, there) = puts (image g) (image g) (write_rule g before) before after w y refl o in
-    (is ∙ ap Length l, there ∙ ap {B = List ℕ} (λ (n : ℕ). image g ++ drop n before) l)
+    (is ∙ ap Ok l, there ∙ ap {B = List ℕ} (λ (n : ℕ). image g ++ drop n before) l)
 
 -- so one of version 2 writes back as those octets
 pub read-then-write : (old : Plan) (octets : List ℕ) (e : Edited) (before after : List ℕ) (w : Written) → Octets octets → version_of octets ≡ 2
     → Turn old (read octets) e
     → e.answer ≡ Accepted → Write (image (view e.plan)) (write_rule (view e.plan) before) before after w → length octets ≤ length before
-    → (w ≡ Length (length octets)) × (after ≡ octets ++ drop (length octets) before)
+    → (w ≡ Ok (length octets)) × (after ≡ octets ++ drop (length octets) before)
 read-then-write old octets e before after w ho two x a y room =
     let g : Graph = view e.plan in
     let i : image g ≡ octets = ap (λ (v : ℕ). image_by v g) (sym two) ∙ image-read octets g (accepted-read old octets e x a) ho in
@@ -179,7 +177,7 @@ accepted-export g b n e =
     (not-false (within g) k.0.0, eqb-true (length (starts g)) 1 (not-false (eqb (length (starts g)) 1) k.0.1.0), k.1)
 
 -- what was exported holds the plan "stripped of its final and counted marks"
-exported_holds : (p : Plan) (before after : List ℕ) (n : ℕ) → Write (export_text (view p)) (export_rule (view p) before) before after (Length n)
+exported_holds : (p : Plan) (before after : List ℕ) (n : ℕ) → Write (export_text (view p)) (export_rule (view p) before) before after (Ok n)
     → import_text (take n after) ≡ accepted (stripped (view p))
 exported_holds p before after n w =
     let g : Graph = view p in
@@ -188,13 +186,13 @@ exported_holds p before after n w =
 
 -- "Exported text imports as the plan stripped of its final and counted marks", over any old plan that is within the limits
 pub export-then-import : (p old : Plan) (before after : List ℕ) (n : ℕ) (e : Edited) → within (view old) ≡ true
-    → Write (export_text (view p)) (export_rule (view p) before) before after (Length n)
+    → Write (export_text (view p)) (export_rule (view p) before) before after (Ok n)
     → Turn old (import (take n after)) e → (e.answer ≡ Accepted) × (view e.plan ≡ stripped (view p))
 export-then-import p old before after n e h w x =
     comes_to_lem old (step (view old) (import (take n after))) (stripped (view p)) e x (import_given (view old) (take n after) h ∙ exported_holds p before after n w)
 
 -- and from nothing
-pub export-then-held : (p : Plan) (before after : List ℕ) (n : ℕ) (e : Edited) → Write (export_text (view p)) (export_rule (view p) before) before after (Length n)
+pub export-then-held : (p : Plan) (before after : List ℕ) (n : ℕ) (e : Edited) → Write (export_text (view p)) (export_rule (view p) before) before after (Ok n)
     → HeldIn Text (take n after) e → (e.answer ≡ Accepted) × (view e.plan ≡ stripped (view p))
 export-then-held p before after n e w x = comes_to_lem no_plan (import_text (take n after)) (stripped (view p)) e x (exported_holds p before after n w)
 
@@ -208,7 +206,7 @@ accepted-import old text e x a =
 -- the plan of a text exports as those octets, into any buffer that has room
 pub text-then-export : (text : List ℕ) (g : Graph) (before after : List ℕ) (w : Written) → import_text text ≡ accepted g
     → Write (export_text g) (export_rule g before) before after w → length text ≤ length before
-    → (w ≡ Length (length text)) × (after ≡ text ++ drop (length text) before)
+    → (w ≡ Ok (length text)) × (after ≡ text ++ drop (length text) before)
 unfolding export_rule
 text-then-export text g before after w r y room =
     let i : export_text g ≡ text = import-export text g r in
@@ -218,7 +216,7 @@ text-then-export text g before after w r y room =
 -- every text imported exports as those octets, into any buffer that has room
 pub import-then-export : (old : Plan) (text : List ℕ) (e : Edited) (before after : List ℕ) (w : Written) → Turn old (import text) e
     → e.answer ≡ Accepted → Write (export_text (view e.plan)) (export_rule (view e.plan) before) before after w → length text ≤ length before
-    → (w ≡ Length (length text)) × (after ≡ text ++ drop (length text) before)
+    → (w ≡ Ok (length text)) × (after ≡ text ++ drop (length text) before)
 import-then-export old text e before after w x a y room = text-then-export text (view e.plan) before after w (accepted-import old text e x a) y room
 
 -- ---- no plan

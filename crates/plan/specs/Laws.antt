@@ -6,7 +6,7 @@ use Rattle.std.proofs.Common.{sym, ap, ap₂, ◌∙◌, arith}
 use Rattle.std.proofs.lemmas.List.{length-map}
 use Rattle.std.proofs.Math.ListN.{get_or-append, get_or-map}
 use Rattle.graph.specs.Graph.{Graph, State, Transition, state_with, marked, states, count}
-use Rattle.rules.specs.declared.Answer.TheVariants.{Accepted}
+use Rattle.rules.specs.Answer.{Accepted}
 use Rattle.rules.specs.Image.{read_image}
 use Rattle.rules.specs.Limits.{within}
 use Rattle.rules.specs.Refusal.{Result, accepted, refused, said}

@@ -2,7 +2,8 @@
 -- each lent place afterwards with a definition". Assumes nothing.
 use Rattle.std.specs.Prelude.{List, [], ◌∷◌, ◌≡◌, ℕ}
 use Rattle.graph.specs.Graph.{Graph}
-use Rattle.rules.specs.declared.Answer.{Answer}
+use Rattle.rules.specs.Answer.{Accepted, Answer}
+use Rattle.std.specs.Prelude.{Err}
 use Rattle.rules.specs.declared.Format.{Format}
 use Rattle.rules.specs.declared.Refusal.{Refusal}
 use Rattle.rules.specs.Calls.{Call, step, held_in}
@@ -16,10 +17,10 @@ use Rattle.plan.specs.View.{view, laid, no_plan}
 
 -- what a call that takes no bits returns: a refusal with the plan as it was, or the plan that it made
 abbrev pub refusing : Plan → Refusal → Edited
-refusing p r = record { answer = Answer.Refused r; plan = p; taken = 0 }
+refusing p r = record { answer = Err r; plan = p; taken = 0 }
 
 abbrev pub accepting : Plan → Edited
-accepting p = record { answer = Answer.Accepted; plan = p; taken = 0 }
+accepting p = record { answer = Accepted; plan = p; taken = 0 }
 
 -- the plan value after a call: the new plan, with every place past its counts as it was; "Any refused event: the plan stays", to the last place
 abbrev pub next_value : Plan → Result Graph → Plan

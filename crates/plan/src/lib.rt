@@ -15,7 +15,7 @@ ghost use Rattle.plan.specs.Promise.{Edit, Turn, Held, refusing, accepting};
 
 use arrays::limits;
 use image::reading;
-use rules::{Answer, Format, Refusal, Written};
+use rules::{Format, Refusal};
 
 // A plan: the two counts, a marks value and a team for each state, and four fields for each transition. Places past the counts hold no part of it.
 #[derive(Clone, Copy)]
@@ -35,7 +35,7 @@ pub struct Plan {
 #[derive(Drop)]
 pub struct Edited {
     pub plan: Plan,
-    pub answer: Answer,
+    pub answer: Result<(), Refusal>,
     pub taken: usize,
 }
 
@@ -54,7 +54,7 @@ fn refuse(plan: Plan, refusal: Refusal) -> Edited
 {
     Edited {
         plan,
-        answer: Answer::Refused(refusal),
+        answer: Err(refusal),
         taken: 0,
     }
 }
@@ -65,7 +65,7 @@ fn accept(plan: Plan) -> Edited
 {
     Edited {
         plan,
-        answer: Answer::Accepted,
+        answer: Ok(()),
         taken: 0,
     }
 }
@@ -105,10 +105,10 @@ pub fn mark(mut p: Plan, state: usize, value: usize) -> Edited
     let limited = plan_limits::in_limits(n, m, &p.marks, &p.teams, &p.from, &p.to, &p.low, &p.high);
     let answer = grounds::mark_grounds(limited, n, state, value);
     match answer {
-        Answer::Accepted => {
+        Ok(()) => {
             p.marks[state] = value as u8;
         }
-        Answer::Refused(_) => {}
+        Err(_) => {}
     }
     Edited {
         plan: p,
@@ -126,10 +126,10 @@ pub fn team(mut p: Plan, state: usize, number: usize) -> Edited
     let limited = plan_limits::in_limits(n, m, &p.marks, &p.teams, &p.from, &p.to, &p.low, &p.high);
     let answer = grounds::team_grounds(limited, n, state, number);
     match answer {
-        Answer::Accepted => {
+        Ok(()) => {
             p.teams[state] = number as u8;
         }
-        Answer::Refused(_) => {}
+        Err(_) => {}
     }
     Edited {
         plan: p,
@@ -147,14 +147,14 @@ pub fn join(mut p: Plan, from: usize, to: usize, low: usize, high: usize) -> Edi
     let limited = plan_limits::in_limits(n, m, &p.marks, &p.teams, &p.from, &p.to, &p.low, &p.high);
     let answer = grounds::join_grounds(limited, n, m, from, to, low, high);
     match answer {
-        Answer::Accepted => {
+        Ok(()) => {
             p.from[m] = from as u16;
             p.to[m] = to as u16;
             p.low[m] = low as u16;
             p.high[m] = high as u16;
             p.transitions = m + 1;
         }
-        Answer::Refused(_) => {}
+        Err(_) => {}
     }
     Edited {
         plan: p,
@@ -172,14 +172,14 @@ pub fn unjoin(mut p: Plan, number: usize) -> Edited
     let limited = plan_limits::in_limits(n, m, &p.marks, &p.teams, &p.from, &p.to, &p.low, &p.high);
     let answer = grounds::unjoin_grounds(limited, m, number);
     match answer {
-        Answer::Accepted => {
+        Ok(()) => {
             places::remove(&mut p.from, number, m);
             places::remove(&mut p.to, number, m);
             places::remove(&mut p.low, number, m);
             places::remove(&mut p.high, number, m);
             p.transitions = m - 1;
         }
-        Answer::Refused(_) => {}
+        Err(_) => {}
     }
     Edited {
         plan: p,
@@ -209,7 +209,7 @@ pub fn replace(mut p: Plan, format: Format, octets: &[u8]) -> Edited
     );
     let answer = taken.answer;
     match answer {
-        Answer::Accepted => {
+        Ok(()) => {
             let states = taken.states;
             let transitions = taken.transitions;
             places::lay_states(&mut p.marks, &marks, states);
@@ -221,7 +221,7 @@ pub fn replace(mut p: Plan, format: Format, octets: &[u8]) -> Edited
             p.states = states;
             p.transitions = transitions;
         }
-        Answer::Refused(_) => {} // the old plan
+        Err(_) => {} // the old plan
     }
     Edited {
         plan: p,
@@ -256,8 +256,8 @@ pub fn held(octets: &[u8]) -> Edited
         high,
     };
     match answer {
-        Answer::Accepted => {}
-        Answer::Refused(_) => {
+        Ok(()) => {}
+        Err(_) => {
             plan = blank(0); // no plan
         }
     }
@@ -269,7 +269,7 @@ pub fn held(octets: &[u8]) -> Edited
 }
 
 // Puts the image at the front of the buffer, and returns its length.
-pub fn write(p: Plan, buffer: &mut [u8]) -> Written
+pub fn write(p: Plan, buffer: &mut [u8]) -> Result<usize, Refusal>
     ensures { Write (image (view p)) (write_rule (view p) buffer.old)
         buffer.old buffer.new result }
 {
@@ -281,7 +281,7 @@ pub fn write(p: Plan, buffer: &mut [u8]) -> Written
 }
 
 // Puts the plan's text at the front of the buffer, and returns its length.
-pub fn export(p: Plan, buffer: &mut [u8]) -> Written
+pub fn export(p: Plan, buffer: &mut [u8]) -> Result<usize, Refusal>
     ensures { Write (export_text (view p)) (export_rule (view p) buffer.old)
         buffer.old buffer.new result }
 {

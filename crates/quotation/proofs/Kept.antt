@@ -13,11 +13,9 @@ use Rattle.rules.specs.declared.Refusal.{Refusal}
 use Rattle.rules.specs.declared.Refusal.TheVariants.{BufferLength}
 use Rattle.rules.specs.declared.Quote.{Quote}
 use Rattle.rules.specs.declared.FourQuotes.{FourQuotes}
-use Rattle.rules.specs.declared.Quotation.TheVariants.{Quoted, Refused}
-use Rattle.rules.specs.declared.Quotations.{Quotations}
-use Rattle.rules.specs.declared.Quotations.TheVariants.{Quoted as AllQuoted, Refused as NoneQuoted}
+use Rattle.rules.specs.Answer.{Accepted, Quotations}
+use Rattle.std.proofs.Common.{Ok, Err}
 use Rattle.rules.specs.Limits.{within}
-use Rattle.rules.specs.declared.Answer.{Answer}
 use Rattle.rules.specs.Image.{read_image, image_rows, graph_in}
 use Rattle.rules.specs.Quotations.{says_asked, Stated, Quotes, name_rows, quote_rows, quote_rule, AllStated, QuotesAll, QuotesHeld, all_rows, all_rule, held_rule, said_quotations}
 use Rattle.rules.specs.Refusal.{accepted, refused, said}
@@ -44,7 +42,7 @@ module _ (asked : Asked) (g : Graph) (places : List ℕ) (e : quote_rule asked g
   room = ltb-false (length places) (states g) (none-append (name_rows asked) (buffer_row places (states g) ∷ []) none.1).1.0
 
 module _ (asked : Asked) (g : Graph) (before : List ℕ) where
-  pub refusal : (r : Refusal) → refused r ≡ quote_rule asked g before → Quotes asked g before before (Refused r)
+  pub refusal : (r : Refusal) → refused r ≡ quote_rule asked g before → Quotes asked g before before (Err r)
   refusal r e = record {
     answer = e;
     kept = λ k f. refl;
@@ -52,7 +50,7 @@ module _ (asked : Asked) (g : Graph) (before : List ℕ) where
   }
 
   pub acceptance : (after : List ℕ) (q : Quote) → quote_rule asked g before ≡ accepted tt → Stated (says_asked asked g) q before after
-      → Quotes asked g before after (Quoted q)
+      → Quotes asked g before after (Ok q)
   acceptance after q e h = record {
     answer = sym e;
     kept = λ k f. absurd (never tt k (sym f ∙ e));
@@ -75,7 +73,7 @@ module _ (g : Graph) (places : List ℕ) where
   unfolding all_rule
   all_done w h = rw (w, le-ltb (length places) 2048 h) refl
 
-  pub all-refusal : (r : Refusal) → all_rule g places ≡ refused r → QuotesAll g places places (NoneQuoted r)
+  pub all-refusal : (r : Refusal) → all_rule g places ≡ refused r → QuotesAll g places places (Err r)
   all-refusal r e = record {
     answer = sym e;
     kept = λ k f. refl;
@@ -83,7 +81,7 @@ module _ (g : Graph) (places : List ℕ) where
   }
 
   pub all-acceptance : (after : List ℕ) (q : FourQuotes) → all_rule g places ≡ accepted tt → AllStated g q places after
-      → QuotesAll g places after (AllQuoted q)
+      → QuotesAll g places after (Ok q)
   all-acceptance after q e h = record {
     answer = sym e;
     kept = λ k f. absurd (never tt k (sym f ∙ e));
@@ -91,7 +89,7 @@ module _ (g : Graph) (places : List ℕ) where
   }
 
   -- where the rule accepts, no refusal is answered
-  pub all_not_refused : (after : List ℕ) (a : Quotations) (r : Refusal) → QuotesAll g places after a → a ≡ NoneQuoted r → all_rule g places ≡ accepted tt → ⊥
+  pub all_not_refused : (after : List ℕ) (a : Quotations) (r : Refusal) → QuotesAll g places after a → a ≡ Err r → all_rule g places ≡ accepted tt → ⊥
   all_not_refused after a r s e d = never tt r (ap said_quotations (sym e) ∙ s.answer ∙ d)
 
 -- ---- all four of an image
@@ -102,7 +100,7 @@ module _ (image before : List ℕ) (f : Edited) (e : Held image f) where
   unfolding read_image
   by_rows = e.answer ∙ answer-first (image_rows image) (graph_in image)
 
-  pub held-refused : (x : Refusal) → f.answer ≡ Answer.Refused x → QuotesHeld image before before (NoneQuoted x)
+  pub held-refused : (x : Refusal) → f.answer ≡ Err x → QuotesHeld image before before (Err x)
   unfolding held_rule
   held-refused x a = record {
     answer = sym (after-refused (image_rows image) (buffer_row before 2048 ∷ []) tt x (sym by_rows ∙ ap said a));
@@ -110,7 +108,7 @@ module _ (image before : List ℕ) (f : Edited) (e : Held image f) where
     quoted = λ q i. let z : ◌≡◌ {A = ℕ} 0 1 = cc in absurd (omega arith);
   }
 
-  module _ (a : f.answer ≡ Answer.Accepted) where
+  module _ (a : f.answer ≡ Accepted) where
     -- the image's rows accept, so the places decide
     by_places : held_rule image before ≡ first (buffer_row before 2048 ∷ [])
     unfolding held_rule
@@ -122,7 +120,7 @@ module _ (image before : List ℕ) (f : Edited) (e : Held image f) where
     read-plan =
         held-plan image f e (graph_in image) (accepted_where (image_rows image) (graph_in image) (accepted_only (image_rows image) tt tt (sym by_rows ∙ ap said a)).0)
 
-    pub held-short : length before < 2048 → QuotesHeld image before before (NoneQuoted BufferLength)
+    pub held-short : length before < 2048 → QuotesHeld image before before (Err BufferLength)
     held-short h = record {
       answer = sym (by_places ∙ rw (lt-ltb (length before) 2048 h) refl);
       kept = λ k i. refl;
@@ -130,7 +128,7 @@ module _ (image before : List ℕ) (f : Edited) (e : Held image f) where
     }
 
     pub held-quoted : (after : List ℕ) (q : FourQuotes) → 2048 ≤ length before → AllStated (view f.plan) q before after
-        → QuotesHeld image before after (AllQuoted q)
+        → QuotesHeld image before after (Ok q)
     held-quoted after q h s =
         let d : held_rule image before ≡ accepted tt = by_places ∙ rw (le-ltb (length before) 2048 h) refl in
         record {

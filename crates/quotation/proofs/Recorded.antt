@@ -14,7 +14,7 @@ use Rattle.graph.specs.Graph.{Graph, counted}
 use Rattle.graph.specs.Compute.{figure_for}
 use Rattle.graph.specs.Figure.{value}
 use Rattle.rules.specs.declared.Refusal.{Refusal}
-use Rattle.rules.specs.declared.Written.TheVariants.{Length, Refused}
+use Rattle.std.proofs.Common.{Ok, Err}
 use Rattle.rules.specs.declared.FourQuotes.{FourQuotes}
 use Rattle.rules.specs.Limits.{within}
 use Rattle.rules.specs.Quotations.{meant, quotes_fields, quote_of, record_fields, record_octets, record_rule, AllStated, Write}
@@ -41,9 +41,9 @@ module _ (g : Graph) (q : FourQuotes) (before after : List ℕ) (s : AllStated g
 
 module _ (g : Graph) where
   pub record_refusal : (before : List ℕ) (r : Refusal) → record_rule g before ≡ refused r
-      → Write (record_octets g) (record_rule g before) before before (Refused r)
+      → Write (record_octets g) (record_rule g before) before before (Err r)
   record_refusal before r e = record { answer = sym e; buffer = rw e refl }
 
   pub record_acceptance : (before after : List ℕ) → record_rule g before ≡ accepted 11 → after ≡ record_octets g ++ drop 11 before
-      → Write (record_octets g) (record_rule g before) before after (Length 11)
+      → Write (record_octets g) (record_rule g before) before after (Ok 11)
   record_acceptance before after e b = record { answer = sym e; buffer = rw e b }

@@ -13,10 +13,10 @@ ghost use Rattle.taken.specs.Taken.{QuotesImage};
 
 use graph::{Asked, Which};
 use plan::{Edited, Plan};
-use rules::{Answer, HeldQuotations, Quotation, Quotations, Refusal, Written};
+use rules::{FourQuotes, HeldQuotations, Quote, Refusal};
 
 // Whether a quotation is refused that was lent so many places: the plan's limits, the team that it names, then the places.
-fn ask(asked: Asked, p: Plan, places: usize) -> Answer
+fn ask(asked: Asked, p: Plan, places: usize) -> Result<(), Refusal>
     ensures { (lent : List ℕ) → length lent ≡ places → said result ≡ quote_rule asked (view p) lent }
 {
     let limited = plan::within(p);
@@ -25,70 +25,70 @@ fn ask(asked: Asked, p: Plan, places: usize) -> Answer
 }
 
 // A quotation of what is asked for, with the walk that shows it.
-pub fn quote(asked: Asked, p: Plan, walk: &mut [u16]) -> Quotation
+pub fn quote(asked: Asked, p: Plan, walk: &mut [u16]) -> Result<Quote, Refusal>
     ensures { Quotes asked (view p) walk.old walk.new result }
 {
     let grounds = ask(asked, p, walk.len());
     match grounds {
-        Answer::Accepted => Quotation::Quoted(shown::show(asked, p, walk)),
-        Answer::Refused(r) => Quotation::Refused(r),
+        Ok(()) => Ok(shown::show(asked, p, walk)),
+        Err(r) => Err(r),
     }
 }
 
 // The least delay, with a route that attains it.
-pub fn least_delay(plan: Plan, walk: &mut [u16]) -> Quotation
+pub fn least_delay(plan: Plan, walk: &mut [u16]) -> Result<Quote, Refusal>
     ensures { Quotes (One LeastDelay) (view plan) walk.old walk.new result }
 {
     quote(Asked::One(Which::LeastDelay), plan, walk)
 }
 
 // The greatest delay, with the walk that shows it.
-pub fn greatest_delay(plan: Plan, walk: &mut [u16]) -> Quotation
+pub fn greatest_delay(plan: Plan, walk: &mut [u16]) -> Result<Quote, Refusal>
     ensures { Quotes (One GreatestDelay) (view plan) walk.old walk.new result }
 {
     quote(Asked::One(Which::GreatestDelay), plan, walk)
 }
 
 // The least count, with a route that attains it.
-pub fn least_count(plan: Plan, walk: &mut [u16]) -> Quotation
+pub fn least_count(plan: Plan, walk: &mut [u16]) -> Result<Quote, Refusal>
     ensures { Quotes (One LeastCount) (view plan) walk.old walk.new result }
 {
     quote(Asked::One(Which::LeastCount), plan, walk)
 }
 
 // The greatest count, with the walk that shows it.
-pub fn greatest_count(plan: Plan, walk: &mut [u16]) -> Quotation
+pub fn greatest_count(plan: Plan, walk: &mut [u16]) -> Result<Quote, Refusal>
     ensures { Quotes (One GreatestCount) (view plan) walk.old walk.new result }
 {
     quote(Asked::One(Which::GreatestCount), plan, walk)
 }
 
 // The least count for the class of a team, with a route that attains it.
-pub fn least_count_for(team: usize, plan: Plan, walk: &mut [u16]) -> Quotation
+pub fn least_count_for(team: usize, plan: Plan, walk: &mut [u16]) -> Result<Quote, Refusal>
     ensures { Quotes (LeastCountFor team) (view plan) walk.old walk.new result }
 {
     quote(Asked::LeastCountFor(team), plan, walk)
 }
 
 // The greatest count for the class of a team, with the walk that shows it.
-pub fn greatest_count_for(team: usize, plan: Plan, walk: &mut [u16]) -> Quotation
+pub fn greatest_count_for(team: usize, plan: Plan, walk: &mut [u16]) -> Result<Quote, Refusal>
     ensures { Quotes (GreatestCountFor team) (view plan) walk.old walk.new result }
 {
     quote(Asked::GreatestCountFor(team), plan, walk)
 }
 
 // All four figures, with the walks that show them, one after another in four parts of 512 places.
-pub fn all(p: Plan, walks: &mut [u16]) -> Quotations
+pub fn all(p: Plan, walks: &mut [u16]) -> Result<FourQuotes, Refusal>
     ensures { QuotesAll (view p) walks.old walks.new result }
 {
     let limited = plan::within(p);
     let asked = quotation_grounds::ask_all(limited, walks.len());
-    if let Answer::Refused(r) = asked {
-        return Quotations::Refused(r);
+    if let Err(r) = asked {
+        return Err(r);
     }
     let n = p.states;
     let m = p.transitions;
-    Quotations::Quoted(shown::show_all(
+    Ok(shown::show_all(
         n, m, &p.marks, &p.teams, &p.from, &p.to, &p.low, &p.high, walks,
     ))
 }
@@ -109,15 +109,15 @@ pub fn held(octets: &[u8], walks: &mut [u16]) -> HeldQuotations
     let edited = plan_held(octets);
     let read = edited.answer;
     let taken = edited.taken;
-    if let Answer::Refused(r) = read {
+    if let Err(r) = read {
         return HeldQuotations {
-            quotations: Quotations::Refused(r),
+            quotations: Err(r),
             taken,
         };
     }
     if walks.len() < 2048 {
         return HeldQuotations {
-            quotations: Quotations::Refused(Refusal::BufferLength),
+            quotations: Err(Refusal::BufferLength),
             taken,
         };
     }
@@ -135,20 +135,20 @@ pub fn held(octets: &[u8], walks: &mut [u16]) -> HeldQuotations
         walks,
     );
     HeldQuotations {
-        quotations: Quotations::Quoted(quotes),
+        quotations: Ok(quotes),
         taken,
     }
 }
 
 // Puts the record of the four figures, 11 octets, at the front of the buffer.
-pub fn record(p: Plan, buffer: &mut [u8]) -> Written
+pub fn record(p: Plan, buffer: &mut [u8]) -> Result<usize, Refusal>
     ensures { Write (record_octets (view p)) (record_rule (view p) buffer.old) buffer.old buffer.new result }
 {
     if !plan::within(p) {
-        return Written::Refused(Refusal::PlanLimits);
+        return Err(Refusal::PlanLimits);
     }
     if buffer.len() < 11 {
-        return Written::Refused(Refusal::BufferLength);
+        return Err(Refusal::BufferLength);
     }
     let mut walks = [0u16; 2048];
     let n = p.states;
@@ -157,5 +157,5 @@ pub fn record(p: Plan, buffer: &mut [u8]) -> Written
         n, m, &p.marks, &p.teams, &p.from, &p.to, &p.low, &p.high, &mut walks,
     );
     record_fields::put_record(buffer, quotes);
-    Written::Length(11)
+    Ok(11)
 }

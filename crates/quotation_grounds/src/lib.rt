@@ -10,7 +10,7 @@ ghost use Rattle.rules.specs.Rules.{limits_row};
 ghost use Rattle.rules.specs.Table.{first};
 
 use graph::Asked;
-use rules::{Answer, Refusal};
+use rules::Refusal;
 
 // Whether the team that is named, if one is, is a team.
 fn name_ok(asked: Asked) -> bool
@@ -24,31 +24,31 @@ fn name_ok(asked: Asked) -> bool
 }
 
 // The grounds of a quotation that needs so many places, and was lent so many.
-pub fn ask(asked: Asked, limited: bool, needed: usize, places: usize) -> Answer
+pub fn ask(asked: Asked, limited: bool, needed: usize, places: usize) -> Result<(), Refusal>
     ensures { said result ≡ first (limits_row limited ∷ (name_rows asked ++ ((BufferLength, ltb places needed) ∷ []))) }
 {
     let named = name_ok(asked);
     if !limited {
-        return Answer::Refused(Refusal::PlanLimits); // 0
+        return Err(Refusal::PlanLimits); // 0
     }
     if !named {
-        return Answer::Refused(Refusal::TeamNumber); // 18
+        return Err(Refusal::TeamNumber); // 18
     }
     if places < needed {
-        return Answer::Refused(Refusal::BufferLength); // 11
+        return Err(Refusal::BufferLength); // 11
     }
-    Answer::Accepted
+    Ok(())
 }
 
 // The grounds of a quotation of all four figures: four parts of 512 places.
-pub fn ask_all(limited: bool, places: usize) -> Answer
+pub fn ask_all(limited: bool, places: usize) -> Result<(), Refusal>
     ensures { said result ≡ first (limits_row limited ∷ (BufferLength, ltb places 2048) ∷ []) }
 {
     if !limited {
-        return Answer::Refused(Refusal::PlanLimits);
+        return Err(Refusal::PlanLimits);
     }
     if places < 2048 {
-        return Answer::Refused(Refusal::BufferLength);
+        return Err(Refusal::BufferLength);
     }
-    Answer::Accepted
+    Ok(())
 }

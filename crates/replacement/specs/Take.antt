@@ -1,7 +1,7 @@
 -- What taking the octets of a plan promises. Document 02, E1: "Import is handed the old plan and replaces it as read does". Assumes nothing.
 use Rattle.std.specs.Prelude.{ℕ, ◌+◌, ◌≤◌, Bool, List, ◌≡◌, length}
 use Rattle.graph.specs.Graph.{Graph}
-use Rattle.rules.specs.declared.Answer.TheVariants.{Accepted}
+use Rattle.rules.specs.Answer.{Accepted}
 use Rattle.rules.specs.declared.Format.{Format}
 use Rattle.rules.specs.Calls.{step, replacing}
 use Rattle.rules.specs.Limits.{within}

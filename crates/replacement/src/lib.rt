@@ -9,7 +9,7 @@ ghost use Rattle.replacement.specs.Take.{filled, Takes};
 
 use image::reading;
 use imported::Found;
-use rules::{Answer, Format, Refusal};
+use rules::{Format, Refusal};
 
 // Reads an image into arrays, in one pass.
 fn read(
@@ -55,7 +55,7 @@ pub fn take(
 {
     if !limited {
         return Found {
-            answer: Answer::Refused(Refusal::PlanLimits),
+            answer: Err(Refusal::PlanLimits),
             states: 0,
             transitions: 0,
         };

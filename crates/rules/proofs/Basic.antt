@@ -26,7 +26,7 @@ use Rattle.graph.specs.Graph.{Graph, Transition, state_with, states, marks_of, s
 use Rattle.rules.specs.declared.Refusal.{Refusal}
 use Rattle.rules.specs.declared.Refusal.TheVariants.{PlanLimits, ImageShort, ImageLong, Version, StateCount, TransitionCount, SpareBits, StateNumber, Duration, ListFull}
 use Rattle.rules.specs.declared.Refusal.TheVariants.{TransitionNumber, BufferLength, MarksValue, StartCount, TextForm, FromState, ToState, TeamNumber}
-use Rattle.rules.specs.declared.Quotation.TheVariants.{Refused}
+use Rattle.std.proofs.Common.{Err}
 use Rattle.rules.specs.declared.Format.{Format}
 use Rattle.rules.specs.declared.Format.TheVariants.{Image, Text}
 use Rattle.rules.specs.Aldebaran.{plan_of, holding_rows, text_rows, graph_in_text, import_text, passing, export_text, export_rows, stripped}
@@ -463,7 +463,7 @@ pub touched : (f : Figure) (j : ℕ) → Shows P6.plan (cost_for LeastDelay P6.p
 touched f j x = let e : ◌≡◌ {A = ℕ} 8 9 = ap (λ (l : List ℕ). get_or l 0 0) x.later in omega arith
 
 -- "a refusal changes neither the plan nor any lent buffer": a quotation with too few places, and one of them touched
-pub refused_and_touched : Quotes (One LeastDelay) P1.plan (9 ∷ []) (8 ∷ []) (Refused BufferLength) → ⊥
+pub refused_and_touched : Quotes (One LeastDelay) P1.plan (9 ∷ []) (8 ∷ []) (Err BufferLength) → ⊥
 unfolding quote_rule within all
 refused_and_touched x = let e : ◌≡◌ {A = ℕ} 8 9 = ap (λ (l : List ℕ). get_or l 0 0) (x.kept BufferLength refl) in omega arith
 

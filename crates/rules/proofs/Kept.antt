@@ -14,8 +14,8 @@ use Rattle.graph.specs.Graph.{Graph, State, Transition, state_with, marked, stat
 use Rattle.rules.specs.declared.Format.{Format}
 use Rattle.rules.specs.declared.Format.TheVariants.{Image, Text}
 use Rattle.rules.specs.declared.FourQuotes.{FourQuotes}
-use Rattle.rules.specs.declared.Quotations.{Quotations}
-use Rattle.rules.specs.declared.Quotations.TheVariants.{Quoted as AllQuoted}
+use Rattle.rules.specs.Answer.{Quotations}
+use Rattle.std.proofs.Common.{Ok}
 use Rattle.rules.specs.declared.Refusal.TheVariants.{ListFull}
 use Rattle.rules.specs.Refusal.{Result, accepted, refused}
 use Rattle.rules.specs.Limits.{all, within, state_count_ok, marks_ok, state_ok, transition_ok}
@@ -133,7 +133,7 @@ held_in_within Image octets g e = read-within octets g e
 held_in_within Text octets g e = import-within octets g e
 
 -- where all four of an image are quoted, its plan is within the limits
-pub held-within-limits : (image before after : List ℕ) (r : Quotations) → QuotesHeld image before after r → (q : FourQuotes) → r ≡ AllQuoted q
+pub held-within-limits : (image before after : List ℕ) (r : Quotations) → QuotesHeld image before after r → (q : FourQuotes) → r ≡ Ok q
     → within (graph_in image) ≡ true
 unfolding held_rule read_image
 held-within-limits image before after r x q e =

@@ -6,8 +6,8 @@ use Prim.Native.Nat.{ℕ, zero, suc, ◌<◌}
 use native.Mathlib.Nat.{not-suc-le-zero, le_of_suc-le-suc}
 use native.Mathlib.Omega.{arith}
 use lib.ListN.{length, get_or, take, drop, set, replicate}
-use Rattle.rules.specs.declared.Answer.{Answer}
-use Rattle.rules.specs.declared.Answer.TheVariants.{Accepted, Refused}
+use Rattle.rules.specs.Answer.{Accepted, Answer}
+use Rattle.std.proofs.Common.{Ok, Err}
 use Rattle.rules.specs.declared.Refusal.{Refusal}
 use Rattle.rules.specs.Refusal.{Result, accepted, refused, answer_of, said, code}
 use Rattle.rules.specs.Limits.{all}
@@ -32,8 +32,8 @@ refused_as (refused j) k e = let i : k ≡ j = cc in rw i
 
 -- an answer that says what it should is the one that it should be
 pub accepted-answer : (a : Answer) → said a ≡ accepted tt → a ≡ Accepted
-accepted-answer Accepted e = refl
-accepted-answer (Refused r) e = absurd (never tt r e)
+accepted-answer (Ok _) e = refl
+accepted-answer (Err r) e = absurd (never tt r e)
 
 -- a result and its answer have one number
 pub code_answer : {A : Type 0} (o : Result A) → code o ≡ code (answer_of o)

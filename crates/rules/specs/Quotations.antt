@@ -15,14 +15,11 @@ use Rattle.field.specs.Field.{Field, pack}
 use Rattle.rules.specs.declared.Figure.{Figure as Answered}
 use Rattle.rules.specs.declared.Figure.TheVariants.{Number, None, Stranded, Endless}
 use Rattle.rules.specs.declared.Quote.{Quote}
-use Rattle.rules.specs.declared.Quotation.{Quotation}
-use Rattle.rules.specs.declared.Quotation.TheVariants.{Quoted, Refused}
+use Rattle.rules.specs.Answer.{Quotation, Quotations, Written}
+use Rattle.std.specs.Prelude.{Ok, Err}
 use Rattle.rules.specs.declared.FourQuotes.{FourQuotes}
-use Rattle.rules.specs.declared.Quotations.{Quotations}
-use Rattle.rules.specs.declared.Quotations.TheVariants.{Quoted as AllQuoted, Refused as NoneQuoted}
 use Rattle.rules.specs.Image.{field, graph_in, image_rows}
 use Rattle.rules.specs.declared.Refusal.{Refusal}
-use Rattle.rules.specs.declared.Written.{Written}
 use Rattle.rules.specs.Refusal.{Result, accepted, refused, wrote}
 use Rattle.rules.specs.Table.{Row, by_table, first}
 use Rattle.rules.specs.Rules.{limit_row, buffer_row, team_row, written}
@@ -38,12 +35,12 @@ meant Endless = ENDLESS
 
 -- what a quotation answers: that it was accepted, or the number of a refusal
 abbrev pub said_quotation : Quotation → Result (Unit {0})
-said_quotation (Quoted q) = accepted tt
-said_quotation (Refused r) = refused r
+said_quotation (Ok q) = accepted tt
+said_quotation (Err r) = refused r
 
 abbrev pub said_quotations : Quotations → Result (Unit {0})
-said_quotations (AllQuoted q) = accepted tt
-said_quotations (NoneQuoted r) = refused r
+said_quotations (Ok q) = accepted tt
+said_quotations (Err r) = refused r
 
 -- ---- the rules
 
@@ -201,7 +198,7 @@ says which g = says_over which (counted g) g
 pub record Quotes (asked : Asked) (g : Graph) (before after : List ℕ) (r : Quotation) : Type 0 where
   pub answer : said_quotation r ≡ quote_rule asked g before
   pub kept : (k : Refusal) → quote_rule asked g before ≡ refused k → after ≡ before
-  pub quoted : (q : Quote) → r ≡ Quoted q → Stated (says_asked asked g) q before after
+  pub quoted : (q : Quote) → r ≡ Ok q → Stated (says_asked asked g) q before after
 
 -- ---- all four at once
 
@@ -230,13 +227,13 @@ pub record AllStated (g : Graph) (q : FourQuotes) (before after : List ℕ) : Ty
 pub record QuotesAll (g : Graph) (before after : List ℕ) (r : Quotations) : Type 0 where
   pub answer : said_quotations r ≡ all_rule g before
   pub kept : (k : Refusal) → all_rule g before ≡ refused k → after ≡ before
-  pub quoted : (q : FourQuotes) → r ≡ AllQuoted q → AllStated g q before after
+  pub quoted : (q : FourQuotes) → r ≡ Ok q → AllStated g q before after
 
 -- a quotation of all four figures of the plan that an image holds: the same, by the rule of images, of the plan that the octets hold
 pub record QuotesHeld (image before after : List ℕ) (r : Quotations) : Type 0 where
   pub answer : said_quotations r ≡ held_rule image before
   pub kept : (k : Refusal) → held_rule image before ≡ refused k → after ≡ before
-  pub quoted : (q : FourQuotes) → r ≡ AllQuoted q → AllStated (graph_in image) q before after
+  pub quoted : (q : FourQuotes) → r ≡ Ok q → AllStated (graph_in image) q before after
 
 -- ---- calls that fill a lent buffer
 

@@ -1,10 +1,9 @@
 -- Refusals: the number of each row of document 01's table of refused calls, and what a call comes to, accepted or refused by a row.
 -- Assumes nothing.
 use Rattle.std.specs.Prelude.{ℕ}
-use Rattle.rules.specs.declared.Answer.{Answer}
-use Rattle.rules.specs.declared.Answer.TheVariants.{Accepted, Refused}
+use Rattle.rules.specs.Answer.{Answer, Written}
+use Rattle.std.specs.Prelude.{Ok, Err}
 use Rattle.rules.specs.declared.Refusal.{Refusal}
-use Rattle.rules.specs.declared.Written.{Written}
 use Rattle.rules.specs.declared.Refusal.TheVariants.{PlanLimits, ImageShort, ImageLong, Version, StateCount, TransitionCount}
 use Rattle.rules.specs.declared.Refusal.TheVariants.{SpareBits, StateNumber, Duration, ListFull, TransitionNumber, BufferLength}
 use Rattle.rules.specs.declared.Refusal.TheVariants.{MarksValue, StartCount, TextForm, FromState, ToState, TeamNumber}
@@ -43,18 +42,18 @@ answer_of (refused r) = refused r
 
 -- what an answer of the code says
 abbrev pub said : Answer → Result (Unit {0})
-said Accepted = accepted tt
-said (Refused r) = refused r
+said (Ok _) = accepted tt
+said (Err r) = refused r
 
 -- and of what the call made
 abbrev pub came : {A : Type 0} → Answer → A → Result A
-came Accepted a = accepted a
-came (Refused r) a = refused r
+came (Ok _) a = accepted a
+came (Err r) a = refused r
 
 -- the same, of an answer with a number of octets
 abbrev pub wrote : Written → Result ℕ
-wrote (Written.Length n) = accepted n
-wrote (Written.Refused r) = refused r
+wrote (Ok n) = accepted n
+wrote (Err r) = refused r
 
 -- an answer as one number: 256 for accepted, and otherwise the refusal's
 abbrev pub code : {A : Type 0} → Result A → ℕ

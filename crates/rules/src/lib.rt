@@ -1,4 +1,4 @@
-// The grounds on which a call is refused, and the answers of calls that edit a plan or fill a lent buffer. The rules themselves are definitions, in specs/.
+// The grounds on which a call is refused, and what is quoted. A call answers by a `Result`: what it made, or its ground. The rules themselves are definitions, in specs/.
 #![tactic(auto)]
 
 // A row of document 01's table of refused calls, as document 02 has changed it. specs/Refusal.antt gives the number of each.
@@ -49,20 +49,6 @@ pub enum Format {
     Text,
 }
 
-// The answer of a call that makes or changes a plan.
-#[derive(Clone, Copy)]
-pub enum Answer {
-    Accepted,
-    Refused(Refusal),
-}
-
-// The answer of a call that fills the front of a lent buffer: how many octets it put there, or a refusal.
-#[derive(Clone, Copy)]
-pub enum Written {
-    Length(usize),
-    Refused(Refusal),
-}
-
 // A figure: its number or kind.
 #[derive(Clone, Copy)]
 pub enum Figure {
@@ -80,13 +66,6 @@ pub struct Quote {
     pub j: usize,
 }
 
-// The answer of a quotation.
-#[derive(Clone, Copy)]
-pub enum Quotation {
-    Quoted(Quote),
-    Refused(Refusal),
-}
-
 // The quotes of the four figures, in the record's order.
 #[derive(Clone, Copy)]
 pub struct FourQuotes {
@@ -96,16 +75,9 @@ pub struct FourQuotes {
     pub greatest_count: Quote,
 }
 
-// The answer of a quotation of all four figures.
-#[derive(Clone, Copy)]
-pub enum Quotations {
-    Quoted(FourQuotes),
-    Refused(Refusal),
-}
-
 // The answer of a quotation of all four figures of the plan that an image holds, and the bits that were taken of it.
 #[derive(Clone, Copy)]
 pub struct HeldQuotations {
-    pub quotations: Quotations,
+    pub quotations: Result<FourQuotes, Refusal>,
     pub taken: usize,
 }

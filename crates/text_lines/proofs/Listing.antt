@@ -19,8 +19,8 @@ use Rattle.aldebaran.specs.Form.{Reading, off, on, and_then, read_form}
 use Rattle.aldebaran.specs.Text.{line_form, transition_of, read_lines}
 use Rattle.scan.specs.declared.Place.{Place}
 use Rattle.scan.specs.Places.{Sound, cut}
-use Rattle.rules.specs.declared.Answer.{Answer}
-use Rattle.rules.specs.declared.Answer.TheVariants.{Accepted, Refused}
+use Rattle.rules.specs.Answer.{Accepted, Answer}
+use Rattle.std.proofs.Common.{Ok, Err}
 use Rattle.rules.specs.Image.{tabulate, transition_rows}
 use Rattle.rules.specs.Limits.{durations_ok}
 use Rattle.rules.specs.Refusal.{Result, accepted, refused, said}
@@ -180,8 +180,8 @@ module _ (text : List ℕ) (at n m : ℕ) (a₀ : Answer) where
       rows = go answer refl
         where
           go : (x : Answer) → answer ≡ x → onward (said x) (transition_rows n (meant l)) ≡ onward (said x) (transition_rows n this)
-          go Accepted e = ap first (ap (transition_rows n) (means) ∙ rows_cut n this (small (so_far e)).0)
-          go (Refused q) e = refl
+          go (Ok _) e = ap first (ap (transition_rows n) (means) ∙ rows_cut n this (small (so_far e)).0)
+          go (Err q) e = refl
 
       more-held : r ≡ Accepted → transitions_of (i + 1) f'.from f'.to f'.low f'.high ≡ all
       unfolding this all

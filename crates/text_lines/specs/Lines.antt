@@ -2,8 +2,7 @@
 use Rattle.std.specs.Prelude.{ℕ, ◌≤◌, true, false, List, ◌≡◌, length, drop, set}
 use Rattle.graph.specs.Graph.{Transition}
 use Rattle.aldebaran.specs.Form.{Reading, off, on}
-use Rattle.rules.specs.declared.Answer.{Answer}
-use Rattle.rules.specs.declared.Answer.TheVariants.{Accepted}
+use Rattle.rules.specs.Answer.{Accepted, Answer}
 use Rattle.rules.specs.Image.{transition_rows}
 use Rattle.rules.specs.Refusal.{Result, accepted, refused, said}
 use Rattle.rules.specs.Table.{Row, first, each}

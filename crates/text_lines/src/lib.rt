@@ -3,26 +3,26 @@
 #![tactic(auto)]
 
 ghost use Rattle.std.specs.Prelude.{◌≡◌, ◌≤◌, ◌<◌, length, drop};
-ghost use Rattle.rules.specs.declared.Answer.TheVariants.{Accepted};
+ghost use Rattle.rules.specs.Answer.{Accepted};
 ghost use Rattle.aldebaran.specs.Text.{read_lines};
 ghost use Rattle.arrays.specs.Tables.{fields};
 ghost use Rattle.scan.specs.Places.{Sound};
 ghost use Rattle.text_lines.specs.Lines.{Room, meant, Added, Lists};
 
-use rules::Answer;
+use rules::Refusal;
 use scan::Place;
 use text_reading::Line;
 
 // What came of lines: the answer so far, and the place after them.
 #[derive(Drop)]
 pub struct Listed {
-    pub answer: Answer,
+    pub answer: Result<(), Refusal>,
     pub next: Place,
 }
 
 // One line more, after those that are answered so far: its grounds are looked at, and it is stored at place i, where no line before it was refused.
 fn add(
-    answer: Answer,
+    answer: Result<(), Refusal>,
     n: usize,
     i: usize,
     line: Line,
@@ -30,31 +30,26 @@ fn add(
     to: &mut [u16; 2048],
     low: &mut [u16; 2048],
     high: &mut [u16; 2048],
-) -> Answer
+) -> Result<(), Refusal>
     requires { (answer ≡ Accepted → (n ≤ 512) × (i < 2048)) × Room (fields from.old to.old low.old high.old) }
     ensures { Added n i (meant line) answer
         (fields from.old to.old low.old high.old)
         (fields from.new to.new low.new high.new) result }
 {
-    if let Answer::Refused(r) = answer {
-        return Answer::Refused(r);
-    }
-    let grounds = transition_grounds::checked(n, line.from, line.to, line.low, line.high);
-    if let Answer::Refused(r) = grounds {
-        return Answer::Refused(r);
-    }
+    answer?;
+    transition_grounds::checked(n, line.from, line.to, line.low, line.high)?;
     from[i] = line.from as u16;
     to[i] = line.to as u16;
     low[i] = line.low as u16;
     high[i] = line.high as u16;
-    Answer::Accepted
+    Ok(())
 }
 
 // Reads m lines of a plan with n states from a place on, after a first line that was answered so.
 pub fn lines(
     text: &[u8],
     at: usize,
-    first: Answer,
+    first: Result<(), Refusal>,
     n: usize,
     m: usize,
     from: &mut [u16; 2048],
@@ -71,15 +66,13 @@ pub fn lines(
 {
     let mut next = Place { on: true, at };
     let mut answer = first;
-    let mut i = 0;
-    while i < m {
+    for i in 0..m {
         let line = text_reading::read_line(text, next);
         next = line.next;
         if !next.on {
             break;
         }
         answer = add(answer, n, i, line, from, to, low, high);
-        i += 1;
     }
     Listed { answer, next }
 }

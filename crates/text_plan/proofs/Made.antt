@@ -4,7 +4,8 @@ use mathlib.Core.List.{List}
 use mathlib.Core.Path.{◌≡◌, refl, sym, ap, ◌∙◌}
 use Prim.Native.Nat.{ℕ}
 use Rattle.graph.specs.Graph.{Graph}
-use Rattle.rules.specs.declared.Answer.TheVariants.{Accepted, Refused}
+use Rattle.rules.specs.Answer.{Accepted}
+use Rattle.std.proofs.Common.{Err}
 use Rattle.rules.specs.declared.Format.TheVariants.{Text}
 use Rattle.rules.specs.declared.Refusal.{Refusal}
 use Rattle.rules.specs.Aldebaran.{import_text}
@@ -53,7 +54,7 @@ module _ (text : List ℕ) (f : Edited) (y : Edit no_plan (fresh_rule 1) 0 f) (e
         taken = alone.taken;
       }
 
-  pub refuses : (r : Refusal) → e.answer ≡ Refused r → (none : Edited) → Edit no_plan (fresh_rule 0) 0 none → HeldIn Text text (record { answer = e.answer; plan = none.plan; taken = 0 })
+  pub refuses : (r : Refusal) → e.answer ≡ Err r → (none : Edited) → Edit no_plan (fresh_rule 0) 0 none → HeldIn Text text (record { answer = e.answer; plan = none.plan; taken = 0 })
   refuses r a none z =
       let i : import_text text ≡ refused r = refused_as (import_text text) r (ap said (sym a) ∙ alone.answer) in
       let n : none.plan ≡ no_plan = z.whole ∙ ap (next_value no_plan) (fresh-refused 0 refl) in

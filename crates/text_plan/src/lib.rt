@@ -5,7 +5,7 @@ ghost use Rattle.rules.specs.declared.Format.TheVariants.{Text};
 ghost use Rattle.plan.specs.Promise.{HeldIn};
 
 use plan::Edited;
-use rules::{Answer, Format};
+use rules::Format;
 
 // The plan that a text holds, or the refusal of it. A refusal makes none: the plan value beside it has 0 states, all else zero.
 pub fn held(text: &[u8]) -> Edited
@@ -14,7 +14,7 @@ pub fn held(text: &[u8]) -> Edited
     let fresh = plan::fresh(1);
     let imported = plan::replace(fresh.plan, Format::Text, text);
     let answer = imported.answer;
-    if let Answer::Refused(_) = answer {
+    if let Err(_) = answer {
         let none = plan::fresh(0); // refused, with no plan beside it
         let plan = none.plan;
         return Edited {

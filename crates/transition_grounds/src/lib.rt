@@ -7,7 +7,7 @@ ghost use Rattle.rules.specs.Refusal.{said};
 ghost use Rattle.rules.specs.Table.{first};
 ghost use Rattle.arrays.specs.Tables.{transition};
 
-use rules::{Answer, Refusal};
+use rules::Refusal;
 
 // Whether a low and a high duration are within the limits.
 fn durations_ok(low: usize, high: usize) -> bool
@@ -17,18 +17,18 @@ fn durations_ok(low: usize, high: usize) -> bool
 }
 
 // The grounds of a transition of a plan with n states, in their order: for every call that is given transitions.
-pub fn checked(n: usize, from: usize, to: usize, low: usize, high: usize) -> Answer
+pub fn checked(n: usize, from: usize, to: usize, low: usize, high: usize) -> Result<(), Refusal>
     ensures { said result ≡ first (transition_rows n (transition from to low high)) }
 {
     let durations = durations_ok(low, high);
     if n <= from {
-        return Answer::Refused(Refusal::FromState); // 16
+        return Err(Refusal::FromState); // 16
     }
     if n <= to {
-        return Answer::Refused(Refusal::ToState); // 17
+        return Err(Refusal::ToState); // 17
     }
     if !durations {
-        return Answer::Refused(Refusal::Duration); // 8
+        return Err(Refusal::Duration); // 8
     }
-    Answer::Accepted
+    Ok(())
 }

@@ -6,7 +6,7 @@ ghost use Rattle.rules.specs.Quotations.{Write};
 ghost use Rattle.rules.specs.Rules.{write_rule};
 ghost use Rattle.arrays.specs.Tables.{graph_of};
 
-use rules::{Refusal, Written};
+use rules::Refusal;
 
 // Puts the image at the front of the buffer, and returns its length.
 pub fn write<'a>(
@@ -19,21 +19,21 @@ pub fn write<'a>(
     low: &'a [u16; 2048],
     high: &'a [u16; 2048],
     buffer: &mut [u8],
-) -> Written
+) -> Result<usize, Refusal>
     ensures { Write (image (graph_of n m marks.now teams.now from.now to.now low.now high.now))
         (write_rule (graph_of n m marks.now teams.now from.now to.now low.now high.now) buffer.old)
         buffer.old buffer.new result }
 {
     let limited = plan_limits::in_limits(n, m, marks, teams, from, to, low, high);
     if !limited {
-        return Written::Refused(Refusal::PlanLimits);
+        return Err(Refusal::PlanLimits);
     }
     let length = header_grounds::size(n, m);
     if buffer.len() < length {
-        return Written::Refused(Refusal::BufferLength);
+        return Err(Refusal::BufferLength);
     }
     writing::header(buffer, n, m);
     writing::states(buffer, marks, teams, n);
     writing::transitions(buffer, n, m, from, to, low, high);
-    Written::Length(length)
+    Ok(length)
 }

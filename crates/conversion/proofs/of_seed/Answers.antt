@@ -2,12 +2,12 @@
 use Rattle.conversion.proofs.Converting.{seed-refused, seed-put}
 use Rattle.conversion.proofs.of_seed.Goals as goal
 
-pub returns-in-Accepted : goal.returns-in-Accepted
-returns-in-Accepted c =
+pub returns-in-Ok : goal.returns-in-Ok
+returns-in-Ok c =
     let a = c.args in
-    seed-put a.seed a.n a.m a.buffer.now c.generate-made.result c.generate-made.ensures c.in-Accepted.is _ c.write.result c.write.ensures
+    seed-put a.seed a.n a.m a.buffer.now c.generate-made.result c.generate-made.ensures c.in-Ok.is _ c.write.result c.write.ensures
 
-pub returns-in-Refused : goal.returns-in-Refused
-returns-in-Refused c =
+pub returns-in-Err : goal.returns-in-Err
+returns-in-Err c =
     let a = c.args in
-    seed-refused a.seed a.n a.m a.buffer.now c.generate-made.result c.generate-made.ensures c.in-Refused.refusal c.in-Refused.is
+    seed-refused a.seed a.n a.m a.buffer.now c.generate-made.result c.generate-made.ensures c.in-Err.refusal c.in-Err.is

@@ -2,10 +2,10 @@
 use Rattle.generation.proofs.Made.{limits, none_made, made}
 use Rattle.generation.proofs.generate.Goals as goal
 
-pub returns-in-Refused : goal.returns-in-Refused
-returns-in-Refused c =
+pub returns-in-Err : goal.returns-in-Err
+returns-in-Err c =
     let a = c.args in
-    none_made a.seed a.n a.m c.grounds-answer.result c.grounds-answer.ensures _ c.in-Refused.is c.fresh-none.result c.fresh-none.ensures
+    none_made a.seed a.n a.m c.grounds-answer.result c.grounds-answer.ensures _ c.in-Err.is c.fresh-none.result c.fresh-none.ensures
 
 pub returns : goal.returns
 returns c =

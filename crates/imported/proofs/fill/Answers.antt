@@ -87,16 +87,16 @@ returns-then-end-text c =
       room = (c.requires.0, c.requires.1, l.ensures.2);
     })
 
-pub returns-in-Refused : goal.returns-in-Refused
+pub returns-in-Err : goal.returns-in-Err
 unfolding listed
-returns-in-Refused c =
+returns-in-Err c =
     let text = c.args.text.now in
     let r = c.read_first-heading.result in
     let l = c.lines-listed in
-    let d = read (goal.at.returns-in-Refused c).Else-not-end in
-    rw c.refuse-in-Refused.ensures
+    let d = read (goal.at.returns-in-Err c).Else-not-end in
+    rw c.refuse-in-Err.ensures
     (record {
-      rule = sym (by_rows text (short (goal.at.returns-in-Refused c).Else-not-start) r (told (goal.at.returns-in-Refused c).Else-not-start) d.transitions l.result.next.at d.all c.if-end-text.false (said l.result.answer) (answered (goal.at.returns-in-Refused c).Else-not-end) _ (ap said c.in-Refused.is));
+      rule = sym (by_rows text (short (goal.at.returns-in-Err c).Else-not-start) r (told (goal.at.returns-in-Err c).Else-not-start) d.transitions l.result.next.at d.all c.if-end-text.false (said l.result.answer) (answered (goal.at.returns-in-Err c).Else-not-end) _ (ap said c.in-Err.is));
       states = omega arith;
       transitions = omega arith;
       room = (c.requires.0, c.requires.1, l.ensures.2);

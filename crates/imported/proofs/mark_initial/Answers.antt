@@ -1,11 +1,11 @@
--- `imported::mark_initial`: the places below i are 0, of marks and of teams, until all n are; then one mark is stored. Assumes nothing.
-use Prim.Native.Nat.{ℕ, ◌≤◌, ◌<◌}
-use mathlib.Core.List.{List}
+-- `imported::mark_initial`: the first n places are zeros, of marks and of teams; then one mark is stored. Assumes nothing.
+use Prim.Native.Nat.{ℕ, ◌-◌, ◌≤◌, ◌<◌}
+use mathlib.Core.List.{List, ◌++◌}
 use mathlib.Core.Logic.{◌≢◌, ◌⊎◌, inl, inr}
 use mathlib.Core.Path.{◌≡◌, sym, ap, ap₂, ◌∙◌}
 use native.Mathlib.Omega.{arith}
-use lib.ListN.{length, get_or, set, replicate, length-set, length-replicate, get_or-replicate}
-use lib.Seq.{get_or-set_same, get_or-set_other}
+use lib.ListN.{length, get_or, set, take, drop, replicate, length-set, length-append, length-drop, length-replicate, get_or-append, get_or-replicate}
+use lib.Seq.{length-take-le, get_or-set_same, get_or-set_other}
 use Rattle.graph.specs.Graph.{State, state_with, marked}
 use Rattle.rules.proofs.Tabulated.{tabulate_of}
 use Rattle.arrays.specs.Tables.{state_of}
@@ -37,9 +37,21 @@ marked_all n initial marks teams room teams_room small below zeros none =
     each : (k : ℕ) → k < n → get_or (set all initial (marked 4)) k (marked 0) ≡ state_of (set marks initial 4) teams k
     each k h = go k h (same_or_not k initial)
 
+-- a list of which the first n places became zeros
+zeroed : (n : ℕ) (xs zeros : List ℕ) → n ≤ length xs → zeros ≡ replicate (length (take n xs)) 0
+    → (length (zeros ++ drop n (drop 0 xs)) ≡ length xs) × ((k : ℕ) → k < n → get_or (zeros ++ drop n (drop 0 xs)) k 0 ≡ 0)
+zeroed n xs zeros h e =
+    let front : length zeros ≡ n = ap length e ∙ length-replicate (length (take n xs)) 0 ∙ length-take-le n xs h in
+    let rest : length (drop n (drop 0 xs)) ≡ length xs - n = length-drop n (drop 0 xs) in (
+      length-append zeros (drop n (drop 0 xs)) ∙ (omega (arith, front, rest)),
+      λ k i. get_or-append zeros (drop n (drop 0 xs)) 0 k (omega (arith, front)) ∙ ap (λ (l : List ℕ). get_or l k 0) e
+          ∙ get_or-replicate (length (take n xs)) k 0 0 (omega (arith, length-take-le n xs h)),
+    )
+
 pub returns : goal.returns
 returns c =
-    let l = c.loop-i in
+    let a = c.args in
     let p = c.requires in
-    marked_all c.args.n c.args.initial l.marks l.teams l.invariant.1 l.invariant.2 p.2 p.3
-    (λ k h. l.invariant.3 k (omega (arith, h, c.loop-i-test))) (λ k h. l.invariant.4 k (omega (arith, h, c.loop-i-test)))
+    let m = zeroed a.n a.marks.now c.fill.new.self (omega arith) (c.fill.ensures.after (λ y e. e)) in
+    let t = zeroed a.n a.teams.now c.fill-2.new.self (omega arith) (c.fill-2.ensures.after (λ y e. e)) in
+    marked_all a.n a.initial _ _ (omega (arith, m.0)) (omega (arith, t.0)) p.2 p.3 m.1 t.1

@@ -11,7 +11,7 @@ use Rattle.lines.proofs.answer.Goals as goal
 pub four-requires-clause-which_bound : goal.four-requires-clause-which_bound
 four-requires-clause-which_bound c =
     let held = c.held-held in
-    let e = c.in-Quoted.is in
+    let e = c.in-Ok.is in
     let x = held.ensures.0 in
     let w = held-within-limits c.args.octets.now _ _ held.result.quotations x _ e in
     (four_small _ w _ _ _ (x.quoted _ e), λ which. omega (arith, quotes_fit _ _ _ _ (x.quoted _ e) w which))
@@ -19,12 +19,12 @@ four-requires-clause-which_bound c =
 pub refused-requires : goal.refused-requires
 refused-requires c = omega (arith, refused_room c.number.result (omega (arith, c.number.type_inv)), c.if-buffer-lt-ROOM.false)
 
-pub returns-in-Quoted : goal.returns-in-Quoted
-returns-in-Quoted c =
+pub returns-in-Ok : goal.returns-in-Ok
+returns-in-Ok c =
     let held = c.held-held in
-    prints-figures c.args.octets.now _ _ held.result.quotations (le_refl 2048) held.ensures.0 c.if-buffer-lt-ROOM.false _ c.in-Quoted.is c.four.ensures
+    prints-figures c.args.octets.now _ _ held.result.quotations (le_refl 2048) held.ensures.0 c.if-buffer-lt-ROOM.false _ c.in-Ok.is c.four.ensures
 
-pub returns-in-Refused : goal.returns-in-Refused
-returns-in-Refused c =
+pub returns-in-Err : goal.returns-in-Err
+returns-in-Err c =
     let held = c.held-held in
-    prints-refusal c.args.octets.now _ _ held.result.quotations (le_refl 2048) held.ensures.0 c.if-buffer-lt-ROOM.false c.in-Refused.r c.number.result c.number.ensures c.in-Refused.is c.refused.ensures
+    prints-refusal c.args.octets.now _ _ held.result.quotations (le_refl 2048) held.ensures.0 c.if-buffer-lt-ROOM.false c.in-Err.r c.number.result c.number.ensures c.in-Err.is c.refused.ensures

@@ -3,7 +3,7 @@
 use mathlib.Core.Path.{◌≡◌, refl, sym, ap, ◌∙◌}
 use native.Mathlib.Omega.{arith}
 use Rattle.graph.specs.Graph.{Graph}
-use Rattle.rules.specs.declared.Answer.{Answer}
+use Rattle.rules.specs.Answer.{Answer}
 use Rattle.rules.specs.Image.{read_image}
 use Rattle.rules.specs.Refusal.{came}
 use Rattle.taken.specs.Taken.{bits_taken}
@@ -22,12 +22,12 @@ filled c =
 ruled : (c : After-fill-filled) → read_image c.args.octets.now ≡ came c.fill-filled.result.answer (filled c)
 ruled c = sym c.fill-filled.ensures.read.rule
 
-pub returns-in-Accepted : goal.returns-in-Accepted
+pub returns-in-Ok : goal.returns-in-Ok
 unfolding view
-returns-in-Accepted c =
+returns-in-Ok c =
     let os = c.args.octets.now in
     let e = c.fill-filled.ensures in
-    let g = filled (goal.at.returns-in-Accepted c).After-fill-filled in
-    rw c.in-Accepted.is
-    (acceptance no_plan _ (read_image os) g (bits_taken os) _ (ruled (goal.at.returns-in-Accepted c).After-fill-filled ∙ ap (λ (x : Answer). came x g) c.in-Accepted.is) refl
+    let g = filled (goal.at.returns-in-Ok c).After-fill-filled in
+    rw c.in-Ok.is
+    (acceptance no_plan _ (read_image os) g (bits_taken os) _ (ruled (goal.at.returns-in-Ok c).After-fill-filled ∙ ap (λ (x : Answer). came x g) c.in-Ok.is) refl
     (record { marks = e.marks; teams = e.later_teams; from = e.later.from; to = e.later.to; low = e.later.low; high = e.later.high }) (omega (arith, e.read.bits)))

@@ -16,7 +16,7 @@ use Rattle.plan.specs.View.{view}
 use Rattle.plan.proofs.Edits.{stays, becomes, none-holds, marked, view-marked, past-marked}
 use Rattle.plan.specs.Laws.{Sized, states-view, count-view, limits-view}
 use Rattle.plan.proofs.mark.Goals as goal
-use Rattle.plan.proofs.mark.Goals.{After-mark_grounds-answer, In-Accepted, Start}
+use Rattle.plan.proofs.mark.Goals.{After-mark_grounds-answer, In-Ok, Start}
 
 -- the answer is the first row's
 answered : (c : After-mark_grounds-answer) → said c.mark_grounds-answer.result ≡ first (mark_rows (view c.args.p) c.args.state c.args.value)
@@ -29,10 +29,10 @@ record Known (p : Plan) (state value : ℕ) : Type 0 where
   states : p.states ≤ 512
   count : p.transitions ≤ 2048
 
-known : (c : In-Accepted) → said c.mark_grounds-answer.result ≡ first (mark_rows (view c.args.p) c.args.state c.args.value) → Known c.args.p c.args.state c.args.value
+known : (c : In-Ok) → said c.mark_grounds-answer.result ≡ first (mark_rows (view c.args.p) c.args.state c.args.value) → Known c.args.p c.args.state c.args.value
 known c e =
     let p = c.args.p in
-    let k = none-holds (mark_rows (view p) c.args.state c.args.value) _ c.in-Accepted.is e in
+    let k = none-holds (mark_rows (view p) c.args.state c.args.value) _ c.in-Ok.is e in
     let w : within (view p) ≡ true = not-false _ k.0 in
     let l = limited (view p) w in
     let v : marks_ok c.args.value ≡ true = not-false _ k.1.1.0 in
@@ -48,20 +48,20 @@ sized : (c : Start) → Sized c.args.p
 sized c = record { marks = search rules; teams = search rules; from = search rules; to = search rules; low = search rules; high = search rules }
 
 pub bounds-p-state : goal.bounds-p-state
-bounds-p-state c = omega (arith, (known (goal.at.bounds-p-state c).In-Accepted (answered (goal.at.bounds-p-state c).After-mark_grounds-answer)).below, (known (goal.at.bounds-p-state c).In-Accepted (answered (goal.at.bounds-p-state c).After-mark_grounds-answer)).states)
+bounds-p-state c = omega (arith, (known (goal.at.bounds-p-state c).In-Ok (answered (goal.at.bounds-p-state c).After-mark_grounds-answer)).below, (known (goal.at.bounds-p-state c).In-Ok (answered (goal.at.bounds-p-state c).After-mark_grounds-answer)).states)
 
-pub returns-in-Accepted : goal.returns-in-Accepted
-returns-in-Accepted c =
+pub returns-in-Ok : goal.returns-in-Ok
+returns-in-Ok c =
     let p = c.args.p in
     let state = c.args.state in
     let value = c.args.value in
-    let z = sized (goal.at.returns-in-Accepted c).Start in
-    let k = known (goal.at.returns-in-Accepted c).In-Accepted (answered (goal.at.returns-in-Accepted c).After-mark_grounds-answer) in
-    becomes p (marked p state value) (mark_rows (view p) state value) (with_mark (view p) state value) _ c.in-Accepted.is (answered (goal.at.returns-in-Accepted c).After-mark_grounds-answer)
+    let z = sized (goal.at.returns-in-Ok c).Start in
+    let k = known (goal.at.returns-in-Ok c).In-Ok (answered (goal.at.returns-in-Ok c).After-mark_grounds-answer) in
+    becomes p (marked p state value) (mark_rows (view p) state value) (with_mark (view p) state value) _ c.in-Ok.is (answered (goal.at.returns-in-Ok c).After-mark_grounds-answer)
     (view-marked p state value k.below (omega (arith, z.marks, k.below, k.states))) (past-marked p z state value k.below k.states k.count)
 
-pub returns-in-Refused : goal.returns-in-Refused
-returns-in-Refused c =
+pub returns-in-Err : goal.returns-in-Err
+returns-in-Err c =
     let p = c.args.p in
     stays p (mark_rows (view p) c.args.state c.args.value) (with_mark (view p) c.args.state c.args.value) _ _
-    c.in-Refused.is (answered (goal.at.returns-in-Refused c).After-mark_grounds-answer)
+    c.in-Err.is (answered (goal.at.returns-in-Err c).After-mark_grounds-answer)

@@ -3,7 +3,7 @@
 use mathlib.Core.Path.{◌≡◌, sym, ap, ◌∙◌, subst}
 use native.Mathlib.Omega.{arith}
 use Rattle.graph.specs.Graph.{Graph}
-use Rattle.rules.specs.declared.Answer.{Answer}
+use Rattle.rules.specs.Answer.{Answer}
 use Rattle.rules.specs.Calls.{Call, step, replacing}
 use Rattle.rules.specs.Refusal.{Result, came}
 use Rattle.taken.specs.Taken.{bits_of}
@@ -45,27 +45,27 @@ room c =
     let e = c.take-taken.ensures in
     record { marks = e.states.0; teams = e.states.1; from = e.transitions.0; to = e.transitions.1; low = e.transitions.2; high = e.transitions.3 }
 
-pub returns-in-Accepted : goal.returns-in-Accepted
+pub returns-in-Ok : goal.returns-in-Ok
 unfolding taken
-returns-in-Accepted c =
-    let at_take = (goal.at.returns-in-Accepted c).After-take-taken in
+returns-in-Ok c =
+    let at_take = (goal.at.returns-in-Ok c).After-take-taken in
     let p = c.args.p in
     let q = taken at_take in
     let r = room at_take in
-    let n = c.take-taken.ensures.counts c.in-Accepted.is in
+    let n = c.take-taken.ensures.counts c.in-Ok.is in
     let call : Call = replacing c.args.format c.args.octets.now in
     let o : Result Graph = step (view p) call in
-    let e : _ ≡ overlaid p q = same-arrays c.lay_states.ensures c.lay_states-in-Accepted.ensures c.lay.ensures c.lay-in-Accepted.ensures c.lay-in-Accepted-2.ensures c.lay-in-Accepted-3.ensures in
-    rw c.in-Accepted.is
-    (acceptance p _ o (view q) (bits_of (view p) call) _ (ruled at_take ∙ ap (λ (x : Answer). came x (view q)) c.in-Accepted.is) (ap view e ∙ view-overlaid p q r)
-    (subst (Past p) (sym e) (past-overlaid p (sized (goal.at.returns-in-Accepted c).Start) q r n.0 n.1)) (counted at_take))
+    let e : _ ≡ overlaid p q = same-arrays c.lay_states.ensures c.lay_states-in-Ok.ensures c.lay.ensures c.lay-in-Ok.ensures c.lay-in-Ok-2.ensures c.lay-in-Ok-3.ensures in
+    rw c.in-Ok.is
+    (acceptance p _ o (view q) (bits_of (view p) call) _ (ruled at_take ∙ ap (λ (x : Answer). came x (view q)) c.in-Ok.is) (ap view e ∙ view-overlaid p q r)
+    (subst (Past p) (sym e) (past-overlaid p (sized (goal.at.returns-in-Ok c).Start) q r n.0 n.1)) (counted at_take))
 
-pub returns-in-Refused : goal.returns-in-Refused
-returns-in-Refused c =
+pub returns-in-Err : goal.returns-in-Err
+returns-in-Err c =
     let args = c.args in
     let p = args.p in
-    let q = taken (goal.at.returns-in-Refused c).After-take-taken in
+    let q = taken (goal.at.returns-in-Err c).After-take-taken in
     let call : Call = replacing args.format args.octets.now in
     let o : Result Graph = step (view p) call in
-    rw c.in-Refused.is
-    (refusal p o _ (bits_of (view p) call) _ (ruled (goal.at.returns-in-Refused c).After-take-taken ∙ ap (λ (x : Answer). came x (view q)) c.in-Refused.is) (counted (goal.at.returns-in-Refused c).After-take-taken))
+    rw c.in-Err.is
+    (refusal p o _ (bits_of (view p) call) _ (ruled (goal.at.returns-in-Err c).After-take-taken ∙ ap (λ (x : Answer). came x (view q)) c.in-Err.is) (counted (goal.at.returns-in-Err c).After-take-taken))

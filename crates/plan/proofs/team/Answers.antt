@@ -17,7 +17,7 @@ use Rattle.plan.specs.View.{view}
 use Rattle.plan.proofs.Edits.{stays, becomes, none-holds, teamed, view-teamed, past-teamed}
 use Rattle.plan.specs.Laws.{Sized, states-view, count-view, limits-view}
 use Rattle.plan.proofs.team.Goals as goal
-use Rattle.plan.proofs.team.Goals.{After-team_grounds-answer, In-Accepted, Start}
+use Rattle.plan.proofs.team.Goals.{After-team_grounds-answer, In-Ok, Start}
 
 -- the answer is the first row's
 answered : (c : After-team_grounds-answer) → said c.team_grounds-answer.result ≡ first (team_rows (view c.args.p) c.args.state c.args.number)
@@ -30,10 +30,10 @@ record Known (p : Plan) (state number : ℕ) : Type 0 where
   states : p.states ≤ 512
   count : p.transitions ≤ 2048
 
-known : (c : In-Accepted) → said c.team_grounds-answer.result ≡ first (team_rows (view c.args.p) c.args.state c.args.number) → Known c.args.p c.args.state c.args.number
+known : (c : In-Ok) → said c.team_grounds-answer.result ≡ first (team_rows (view c.args.p) c.args.state c.args.number) → Known c.args.p c.args.state c.args.number
 known c e =
     let p = c.args.p in
-    let k = none-holds (team_rows (view p) c.args.state c.args.number) _ c.in-Accepted.is e in
+    let k = none-holds (team_rows (view p) c.args.state c.args.number) _ c.in-Ok.is e in
     let w : within (view p) ≡ true = not-false _ k.0 in
     let l = limited (view p) w in
     let v : team_ok c.args.number ≡ true = not-false _ k.1.1.0 in
@@ -49,20 +49,20 @@ sized : (c : Start) → Sized c.args.p
 sized c = record { marks = search rules; teams = search rules; from = search rules; to = search rules; low = search rules; high = search rules }
 
 pub bounds-p-state : goal.bounds-p-state
-bounds-p-state c = omega (arith, (known (goal.at.bounds-p-state c).In-Accepted (answered (goal.at.bounds-p-state c).After-team_grounds-answer)).below, (known (goal.at.bounds-p-state c).In-Accepted (answered (goal.at.bounds-p-state c).After-team_grounds-answer)).states)
+bounds-p-state c = omega (arith, (known (goal.at.bounds-p-state c).In-Ok (answered (goal.at.bounds-p-state c).After-team_grounds-answer)).below, (known (goal.at.bounds-p-state c).In-Ok (answered (goal.at.bounds-p-state c).After-team_grounds-answer)).states)
 
-pub returns-in-Accepted : goal.returns-in-Accepted
-returns-in-Accepted c =
+pub returns-in-Ok : goal.returns-in-Ok
+returns-in-Ok c =
     let p = c.args.p in
     let state = c.args.state in
     let number = c.args.number in
-    let z = sized (goal.at.returns-in-Accepted c).Start in
-    let k = known (goal.at.returns-in-Accepted c).In-Accepted (answered (goal.at.returns-in-Accepted c).After-team_grounds-answer) in
-    becomes p (teamed p state number) (team_rows (view p) state number) (with_team (view p) state number) _ c.in-Accepted.is (answered (goal.at.returns-in-Accepted c).After-team_grounds-answer)
+    let z = sized (goal.at.returns-in-Ok c).Start in
+    let k = known (goal.at.returns-in-Ok c).In-Ok (answered (goal.at.returns-in-Ok c).After-team_grounds-answer) in
+    becomes p (teamed p state number) (team_rows (view p) state number) (with_team (view p) state number) _ c.in-Ok.is (answered (goal.at.returns-in-Ok c).After-team_grounds-answer)
     (view-teamed p state number k.below (omega (arith, z.teams, k.below, k.states))) (past-teamed p z state number k.below k.states k.count)
 
-pub returns-in-Refused : goal.returns-in-Refused
-returns-in-Refused c =
+pub returns-in-Err : goal.returns-in-Err
+returns-in-Err c =
     let p = c.args.p in
     stays p (team_rows (view p) c.args.state c.args.number) (with_team (view p) c.args.state c.args.number) _ _
-    c.in-Refused.is (answered (goal.at.returns-in-Refused c).After-team_grounds-answer)
+    c.in-Err.is (answered (goal.at.returns-in-Err c).After-team_grounds-answer)

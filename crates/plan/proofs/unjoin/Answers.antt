@@ -17,7 +17,7 @@ use Rattle.plan.specs.View.{view}
 use Rattle.plan.proofs.Edits.{Past, stays, becomes, none-holds, same-arrays, unjoined, view-unjoined, past-unjoined}
 use Rattle.plan.specs.Laws.{Sized, states-view, count-view, limits-view}
 use Rattle.plan.proofs.unjoin.Goals as goal
-use Rattle.plan.proofs.unjoin.Goals.{After-unjoin_grounds-answer, In-Accepted, Start}
+use Rattle.plan.proofs.unjoin.Goals.{After-unjoin_grounds-answer, In-Ok, Start}
 
 -- the answer is the first row's
 answered : (c : After-unjoin_grounds-answer) → said c.unjoin_grounds-answer.result ≡ first (unjoin_rows (view c.args.p) c.args.number)
@@ -29,10 +29,10 @@ record Known (p : Plan) (number : ℕ) : Type 0 where
   states : p.states ≤ 512
   count : p.transitions ≤ 2048
 
-known : (c : In-Accepted) → said c.unjoin_grounds-answer.result ≡ first (unjoin_rows (view c.args.p) c.args.number) → Known c.args.p c.args.number
+known : (c : In-Ok) → said c.unjoin_grounds-answer.result ≡ first (unjoin_rows (view c.args.p) c.args.number) → Known c.args.p c.args.number
 known c e =
     let p = c.args.p in
-    let k = none-holds (unjoin_rows (view p) c.args.number) _ c.in-Accepted.is e in
+    let k = none-holds (unjoin_rows (view p) c.args.number) _ c.in-Ok.is e in
     let w : within (view p) ≡ true = not-false _ k.0 in
     let l = limited (view p) w in
     record {
@@ -46,28 +46,28 @@ sized : (c : Start) → Sized c.args.p
 sized c = record { marks = search rules; teams = search rules; from = search rules; to = search rules; low = search rules; high = search rules }
 
 pub remove-requires : goal.remove-requires
-remove-requires c = let k = known (goal.at.remove-requires c).In-Accepted (answered (goal.at.remove-requires c).After-unjoin_grounds-answer) in omega (arith, k.below, k.count, (sized (goal.at.remove-requires c).Start).from)
+remove-requires c = let k = known (goal.at.remove-requires c).In-Ok (answered (goal.at.remove-requires c).After-unjoin_grounds-answer) in omega (arith, k.below, k.count, (sized (goal.at.remove-requires c).Start).from)
 
-pub remove-requires-in-Accepted : goal.remove-requires-in-Accepted
-remove-requires-in-Accepted c = let k = known (goal.at.remove-requires-in-Accepted c).In-Accepted (answered (goal.at.remove-requires-in-Accepted c).After-unjoin_grounds-answer) in omega (arith, k.below, k.count, (sized (goal.at.remove-requires-in-Accepted c).Start).to)
+pub remove-requires-in-Ok : goal.remove-requires-in-Ok
+remove-requires-in-Ok c = let k = known (goal.at.remove-requires-in-Ok c).In-Ok (answered (goal.at.remove-requires-in-Ok c).After-unjoin_grounds-answer) in omega (arith, k.below, k.count, (sized (goal.at.remove-requires-in-Ok c).Start).to)
 
-pub remove-requires-in-Accepted-2 : goal.remove-requires-in-Accepted-2
-remove-requires-in-Accepted-2 c = let k = known (goal.at.remove-requires-in-Accepted-2 c).In-Accepted (answered (goal.at.remove-requires-in-Accepted-2 c).After-unjoin_grounds-answer) in omega (arith, k.below, k.count, (sized (goal.at.remove-requires-in-Accepted-2 c).Start).low)
+pub remove-requires-in-Ok-2 : goal.remove-requires-in-Ok-2
+remove-requires-in-Ok-2 c = let k = known (goal.at.remove-requires-in-Ok-2 c).In-Ok (answered (goal.at.remove-requires-in-Ok-2 c).After-unjoin_grounds-answer) in omega (arith, k.below, k.count, (sized (goal.at.remove-requires-in-Ok-2 c).Start).low)
 
-pub remove-requires-in-Accepted-3 : goal.remove-requires-in-Accepted-3
-remove-requires-in-Accepted-3 c = let k = known (goal.at.remove-requires-in-Accepted-3 c).In-Accepted (answered (goal.at.remove-requires-in-Accepted-3 c).After-unjoin_grounds-answer) in omega (arith, k.below, k.count, (sized (goal.at.remove-requires-in-Accepted-3 c).Start).high)
+pub remove-requires-in-Ok-3 : goal.remove-requires-in-Ok-3
+remove-requires-in-Ok-3 c = let k = known (goal.at.remove-requires-in-Ok-3 c).In-Ok (answered (goal.at.remove-requires-in-Ok-3 c).After-unjoin_grounds-answer) in omega (arith, k.below, k.count, (sized (goal.at.remove-requires-in-Ok-3 c).Start).high)
 
-pub returns-in-Accepted : goal.returns-in-Accepted
-returns-in-Accepted c =
+pub returns-in-Ok : goal.returns-in-Ok
+returns-in-Ok c =
     let p = c.args.p in
     let k = c.args.number in
-    let z = sized (goal.at.returns-in-Accepted c).Start in
-    let h = known (goal.at.returns-in-Accepted c).In-Accepted (answered (goal.at.returns-in-Accepted c).After-unjoin_grounds-answer) in
-    let e : _ ≡ unjoined p k = same-arrays refl refl c.remove.ensures c.remove-in-Accepted.ensures c.remove-in-Accepted-2.ensures c.remove-in-Accepted-3.ensures in
-    becomes p _ (unjoin_rows (view p) k) (without (view p) k) _ c.in-Accepted.is (answered (goal.at.returns-in-Accepted c).After-unjoin_grounds-answer)
+    let z = sized (goal.at.returns-in-Ok c).Start in
+    let h = known (goal.at.returns-in-Ok c).In-Ok (answered (goal.at.returns-in-Ok c).After-unjoin_grounds-answer) in
+    let e : _ ≡ unjoined p k = same-arrays refl refl c.remove.ensures c.remove-in-Ok.ensures c.remove-in-Ok-2.ensures c.remove-in-Ok-3.ensures in
+    becomes p _ (unjoin_rows (view p) k) (without (view p) k) _ c.in-Ok.is (answered (goal.at.returns-in-Ok c).After-unjoin_grounds-answer)
     (ap view e ∙ view-unjoined p z k h.below h.count) (subst (Past p) (sym e) (past-unjoined p z k h.states h.below h.count))
 
-pub returns-in-Refused : goal.returns-in-Refused
-returns-in-Refused c =
+pub returns-in-Err : goal.returns-in-Err
+returns-in-Err c =
     let p = c.args.p in
-    stays p (unjoin_rows (view p) c.args.number) (without (view p) c.args.number) _ _ c.in-Refused.is (answered (goal.at.returns-in-Refused c).After-unjoin_grounds-answer)
+    stays p (unjoin_rows (view p) c.args.number) (without (view p) c.args.number) _ _ c.in-Err.is (answered (goal.at.returns-in-Err c).After-unjoin_grounds-answer)

@@ -7,12 +7,12 @@ use Rattle.rules.specs.Refusal.{said}
 use Rattle.quotation.proofs.Kept.{all-refusal, all-acceptance}
 use Rattle.quotation.proofs.all.Goals as goal
 
-pub returns-in-Refused : goal.returns-in-Refused
+pub returns-in-Err : goal.returns-in-Err
 unfolding all_rule
-returns-in-Refused c =
+returns-in-Err c =
     let answered : said c.ask_all-asked.result ≡ all_rule (view c.args.p) c.args.walks.now =
     rw (sym c.within-limited.ensures) c.ask_all-asked.ensures in
-    all-refusal (view c.args.p) _ _ (sym answered ∙ ap said c.in-Refused.is)
+    all-refusal (view c.args.p) _ _ (sym answered ∙ ap said c.in-Err.is)
 
 pub returns : goal.returns
 unfolding all_rule

@@ -3,10 +3,10 @@ use Rattle.plan.specs.Laws.{held-within}
 use Rattle.quotation.proofs.Kept.{held-refused, held-short, held-quoted}
 use Rattle.quotation.proofs.held.Goals as goal
 
-pub returns-in-Refused : goal.returns-in-Refused
-returns-in-Refused c = let held = c.plan_held-edited in
+pub returns-in-Err : goal.returns-in-Err
+returns-in-Err c = let held = c.plan_held-edited in
     let args = c.args in
-    (held-refused args.octets.now args.walks.now held.result held.ensures c.in-Refused.r c.in-Refused.is, held.ensures.taken)
+    (held-refused args.octets.now args.walks.now held.result held.ensures c.in-Err.r c.in-Err.is, held.ensures.taken)
 
 pub returns-then-walks-lt2048 : goal.returns-then-walks-lt2048
 returns-then-walks-lt2048 c = let held = c.plan_held-edited in

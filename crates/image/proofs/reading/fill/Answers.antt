@@ -30,10 +30,10 @@ head c =
 clear : (c : In_default-marked) → first (states_rows c.args.octets.now c.header-heading.result.states) ≡ accepted tt
 clear c = sym c.states-marked.ensures.answer ∙ ap said c.in_default-marked.is
 
-pub returns-in-Refused : goal.returns-in-Refused
-returns-in-Refused c =
+pub returns-in-Err : goal.returns-in-Err
+returns-in-Err c =
     let os = c.args.octets.now in
-    let e = c.in-Refused.is in
+    let e = c.in-Err.is in
     let h = c.header-heading.ensures in
     record {
       read = record {
@@ -57,14 +57,14 @@ states-marked-requires c =
     let r = c.header-heading.ensures in
     (omega (arith, h.states, k), omega (arith, h.states, k), omega (arith, h.states, k), omega (arith, h.states, h.transitions, k), r.all e, omega (arith, r.bits, begun _ _ _ h), r.version e)
 
-pub returns-in-Refused-marked : goal.returns-in-Refused-marked
-returns-in-Refused-marked c =
+pub returns-in-Err-marked : goal.returns-in-Err-marked
+returns-in-Err-marked c =
     let header-here = c.header-heading in
     let os = c.args.octets.now in
-    let h = head (goal.at.returns-in-Refused-marked c).In_default in
+    let h = head (goal.at.returns-in-Err-marked c).In_default in
     let k = header _ _ _ h in
     let s = c.states-marked.ensures in
-    let e = c.in-Refused-marked.is in
+    let e = c.in-Err-marked.is in
     record {
       read = record {
         rule = rw e (sym (by_states os _ _ h _ (sym s.answer ∙ ap said e)));

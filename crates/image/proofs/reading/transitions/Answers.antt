@@ -7,6 +7,7 @@ use mathlib.Core.Path.{◌≡◌, sym, ap, subst, ◌∙◌}
 use native.Mathlib.Omega.{arith}
 use lib.ListN.{set}
 use borrow.Author.Count.{below_more}
+use Rattle.std.proofs.lemmas.Result.{err_from_is_err_and}
 use Rattle.graph.specs.Graph.{Transition}
 use Rattle.rules.specs.Image.{transition_at, transition_place, transition_rows}
 use Rattle.rules.specs.Refusal.{refused, said}
@@ -19,34 +20,35 @@ use Rattle.arrays.specs.Tables.{transition_of}
 use Rattle.image.specs.Values.{meant}
 use Rattle.arrays.proofs.Lists.{transition-other, transition-here, later_set}
 use Rattle.image.proofs.reading.transitions.Goals as goal
-use Rattle.image.proofs.reading.transitions.Goals.{After-transition-t, In_default}
+use Rattle.image.proofs.reading.transitions.Goals.{After-transition-t, In_ok-checked}
 
 -- the transition that was taken is the one at its place
 taken : (c : After-transition-t) → meant c.transition-t.result ≡ transition_at c.args.octets.now (transition_place c.args.n c.loop-i.i)
 taken c = c.transition-t.ensures.0 ∙ ap (transition_at c.args.octets.now) c.loop-i.invariant.2
 
 -- no row of the transition that was read holds
-clear : (c : In_default) → NoneHolds (transition_rows c.args.n (meant c.transition-t.result))
+clear : (c : In_ok-checked) → NoneHolds (transition_rows c.args.n (meant c.transition-t.result))
 clear c =
     (accepted_only (transition_rows c.args.n (meant c.transition-t.result)) tt tt
-    (sym c.checked-grounds.ensures ∙ ap said c.in_default.is)).0
+    (sym c.checked.ensures ∙ ap said c.in_ok-checked.was)).0
 
-pub returns-in-Refused : goal.returns-in-Refused
-returns-in-Refused c =
+pub returns-in_err-checked : goal.returns-in_err-checked
+returns-in_err-checked c =
     let a = c.args in
     let l = c.loop-i in
     let os = a.octets.now in
-    let r = c.in-Refused.r in
+    let r = c.in_err-checked.field-0.0 in
     let rows : ℕ → List Row = listed_rows os a.n in
     let e : first (rows l.i) ≡ refused r =
-    ap (λ (t : Transition). first (transition_rows a.n t)) (sym (taken (goal.at.returns-in-Refused c).After-transition-t)) ∙ sym c.checked-grounds.ensures ∙ ap said c.in-Refused.is in
+    ap (λ (t : Transition). first (transition_rows a.n t)) (sym (taken (goal.at.returns-in_err-checked c).After-transition-t)) ∙ sym c.checked.ensures ∙ ap said c.in_err-checked.was in
     let here : RefusedAt rows a.m l.i r = record { before = none_each rows l.i l.invariant.3; listed = omega arith; here = e } in
-    record {
+    let p = err_from_is_err_and c.from_residual.result c.from_residual.ensures.1 in
+    rw (p.1, p.2) (record {
       answer = sym (refused_by rows a.m l.i r here);
       transitions = λ e. absurd (let z : ◌≡◌ {A = ℕ} 0 1 = cc in omega arith);
       later = l.invariant.1;
       bits = omega (arith, c.transition-t.ensures.2, items_to rows a.m l.i r here);
-    }
+    })
 
 pub loop-i-preserved : goal.loop-i-preserved
 loop-i-preserved c =
@@ -64,7 +66,7 @@ loop-i-preserved c =
         high = later_set _ _ l.high l.i r.high (omega arith) f.high;
       },
       omega (arith, c.transition-t.ensures.1),
-      below_more _ _ l.invariant.3 (subst (λ (t : Transition). NoneHolds (transition_rows a.n t)) (taken (goal.at.loop-i-preserved c).After-transition-t) (clear (goal.at.loop-i-preserved c).In_default)),
+      below_more _ _ l.invariant.3 (subst (λ (t : Transition). NoneHolds (transition_rows a.n t)) (taken (goal.at.loop-i-preserved c).After-transition-t) (clear (goal.at.loop-i-preserved c).In_ok-checked)),
       below_more _ _
           (λ k h. transition-other l.from l.to l.low l.high l.i r.from r.to r.low r.high k (omega arith) ∙ l.invariant.4 k h)
           (here ∙ taken (goal.at.loop-i-preserved c).After-transition-t),
