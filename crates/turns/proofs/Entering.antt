@@ -9,7 +9,8 @@ use lib.ListN.{length-set}
 use lib.Seq.{get_or-set_same, get_or-set_other}
 use Rattle.search.specs.Arrays.{Arrays, at, StartIn, UnfinishedIn, Leaves}
 use Rattle.search.specs.Chain.{none, First}
-use Rattle.turns.specs.Search.{Table, Sized, Grown, Placed, Origin, Searching, Underway, to_do, work_in}
+use Rattle.turns.specs.declared.Table.{Table}
+use Rattle.turns.specs.Search.{Sized, Grown, Placed, Origin, Searching, Underway, to_do, work_in}
 use Rattle.search.proofs.Places.{at_set, sum-falls}
 use Rattle.search.proofs.Chained.{passed_none}
 use Rattle.turns.proofs.Stack.{Behind, Next, next_of, Stored, to_do_new, to_do_open, on_stack, stack-below, stack-rank, room, apart}

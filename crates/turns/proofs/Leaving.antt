@@ -11,7 +11,8 @@ use lib.Seq.{get_or-set_same, get_or-set_other}
 use Rattle.graph.proofs.Repeat.{Apart}
 use Rattle.search.specs.Arrays.{Arrays, at, Leaves}
 use Rattle.search.specs.Chain.{none}
-use Rattle.turns.specs.Search.{Table, Sized, Grown, Placed, Origin, Searching, to_do, work_in}
+use Rattle.turns.specs.declared.Table.{Table}
+use Rattle.turns.specs.Search.{Sized, Grown, Placed, Origin, Searching, to_do, work_in}
 use Rattle.search.proofs.Places.{at_set, sum-falls}
 use Rattle.arrays.proofs.Lists.{same_or_not}
 use Rattle.turns.proofs.Stack.{Behind, Stored, to_do_left, to_do_open, off_stack, AtTop, left-rank, stack-below, stack-rank, room, apart}

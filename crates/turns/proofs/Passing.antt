@@ -9,7 +9,8 @@ use lib.ListN.{length-set}
 use lib.Seq.{get_or-set_same, get_or-set_other}
 use Rattle.search.specs.Arrays.{Arrays, at, UnfinishedIn, Leaves}
 use Rattle.search.specs.Chain.{First}
-use Rattle.turns.specs.Search.{Table, Sized, Placed, Searching, Loop, to_do, work_in}
+use Rattle.turns.specs.declared.Table.{Table}
+use Rattle.turns.specs.Search.{Sized, Placed, Searching, Loop, to_do, work_in}
 use Rattle.search.proofs.Places.{at_set, sum-falls}
 use Rattle.arrays.proofs.Lists.{same_or_not}
 use Rattle.search.proofs.Chained.{first_passed, chain-rises}

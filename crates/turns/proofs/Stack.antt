@@ -12,7 +12,8 @@ use lib.Seq.{get_or-take, length-take-le}
 use Rattle.graph.proofs.Repeat.{Apart, nth_snoc, Snoc, different-take, different_snoc, different-length}
 use Rattle.search.specs.Arrays.{Arrays, at, FinalIn, Leaves}
 use Rattle.search.specs.Chain.{none, First}
-use Rattle.turns.specs.Search.{Table, table, Placed, Underway, to_do}
+use Rattle.turns.specs.declared.Table.{Table}
+use Rattle.turns.specs.Search.{table, Placed, Underway, to_do}
 
 -- one more number that is none of the first k
 pub room : (n : ℕ) (xs : List ℕ) (k v : ℕ) → k ≤ length xs → v < n → ((i : ℕ) → i < k → at xs i < n) → Apart (at xs) k
@@ -79,6 +80,10 @@ off_stack a done s = table (set a.rank s (done + 1)) a.cursor a.stack (set a.ord
 
 abbrev pub cursor_at : Table → ℕ → ℕ → Table
 cursor_at a s u = table a.rank (set a.cursor s u) a.stack a.order a.via
+
+-- tables of the same arrays are the same
+pub same_table : (a b : Table) → a.rank ≡ b.rank → a.cursor ≡ b.cursor → a.stack ≡ b.stack → a.order ≡ b.order → a.via ≡ b.via → a ≡ b
+same_table a b p q r s t = λ i. record { rank = p i; cursor = q i; stack = r i; order = s i; via = t i }
 
 module _ (A : Arrays) (head link : List ℕ) (a : Table) (d done : ℕ) where
   -- the search with the state s on top of the stack, at the place `high`

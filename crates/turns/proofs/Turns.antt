@@ -8,7 +8,8 @@ use native.Mathlib.Omega.{arith}
 use Rattle.search.specs.Arrays.{Arrays, at, StartIn, UnfinishedIn, Leaves}
 use Rattle.search.specs.Chain.{none}
 use Rattle.turns.specs.declared.Course.TheVariants.{On}
-use Rattle.turns.specs.Search.{Table, Searching, Underway, Turned}
+use Rattle.turns.specs.declared.Table.{Table}
+use Rattle.turns.specs.Search.{Searching, Underway, Turned}
 use Rattle.turns.proofs.Stack.{Passable, on_stack, off_stack, cursor_at, AtTop, AtStep}
 use Rattle.turns.proofs.Entering.{enter_depth, enter_grown, entered, enter_sized, enter_work}
 use Rattle.turns.proofs.Leaving.{top_below, top-rank, leave, leave_sized, leave_grown, leave_work}

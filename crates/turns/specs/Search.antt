@@ -5,19 +5,12 @@
 -- once it is left. The cursor of a state is its first transition that is not passed yet; it stays while the search is behind that transition, so
 -- the cursors of the states on the stack are the walk along it. Assumes nothing.
 use Rattle.std.specs.Prelude.{cond, List, ◌⊎◌, ◌≡◌, ℕ, suc, ◌+◌, ◌-◌, ◌≤◌, ◌<◌, eqb, ltb, length}
+use Rattle.turns.specs.declared.Table.{Table}
 use Rattle.turns.specs.declared.Course.{Course}
 use Rattle.turns.specs.declared.Course.TheVariants.{On, Back}
 use Rattle.search.specs.Arrays.{Arrays, at, StartIn, FinalIn, UnfinishedIn, Leaves}
 use Rattle.search.specs.Chain.{none, Linked}
 use Rattle.search.specs.Sizes.{sum_to}
-
--- the arrays of a search, 512 places each
-pub record Table : Type 0 where
-  pub rank : List ℕ
-  pub cursor : List ℕ
-  pub stack : List ℕ
-  pub order : List ℕ
-  pub via : List ℕ
 
 pub record Sized (a : Table) : Type 0 where
   pub rank : 512 ≤ length a.rank

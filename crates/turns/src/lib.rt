@@ -5,10 +5,20 @@
 
 ghost use Rattle.std.specs.Prelude.{List, ◌≡◌, ℕ, ◌+◌, ◌<◌, set};
 ghost use Rattle.search.specs.Arrays.{arrays, at};
-ghost use Rattle.turns.specs.Search.{table, Underway, Turned};
+ghost use Rattle.turns.specs.Search.{Underway, Turned};
 
-use arrays::limits::wide;
+use search::chain::Chain;
 use search::{NONE, is_final};
+
+// The arrays of a search: ranks, cursors, the stack, the order of leaving, and the transitions that led to the states.
+#[derive(Clone, Copy)]
+pub struct Table {
+    pub rank: [u16; 512],
+    pub cursor: [u16; 512],
+    pub stack: [u16; 512],
+    pub order: [u16; 512],
+    pub via: [u16; 512],
+}
 
 // How the search goes on after a turn: with so many states on the stack and so many left, or back to a place on the stack.
 #[derive(Drop)]
@@ -18,74 +28,56 @@ pub enum Course {
 }
 
 // Enters a state: it goes on the stack at place d.
-pub fn enter(
-    s: usize,
-    by: u16,
-    d: usize,
-    head: &[u16; 512],
-    rank: &mut [u16; 512],
-    cursor: &mut [u16; 512],
-    stack: &mut [u16; 512],
-    via: &mut [u16; 512],
-)
+pub fn enter(s: usize, by: u16, d: usize, out: &Chain, table: &mut Table)
     requires { (s < 512) × (d < 512) }
-    ensures { (rank.new ≡ set rank.old s (513 + d)) × (cursor.new ≡ set cursor.old s (at head.now s))
-        × (stack.new ≡ set stack.old d s) × (via.new ≡ set via.old s by) }
+    ensures { (table.new.rank ≡ set table.old.rank s (513 + d)) × (table.new.cursor ≡ set table.old.cursor s (at out.now.head s))
+        × (table.new.stack ≡ set table.old.stack d s) × (table.new.via ≡ set table.old.via s by) × (table.new.order ≡ table.old.order) }
 {
-    rank[s] = (513 + d) as u16;
-    cursor[s] = head[s];
-    stack[d] = s as u16;
-    via[s] = by;
+    table.rank[s] = (513 + d) as u16;
+    table.cursor[s] = out.head[s];
+    table.stack[d] = s as u16;
+    table.via[s] = by;
 }
 
 // One turn at the state on top of the stack, with its cursor: leaves the state, passes a transition, or enters the state that it leads to.
-// Lent one by one: a struct of the arrays would be copied at every turn.
 pub fn turn(
     d: usize,
     done: usize,
     marks: &[u8; 512],
     to: &[u16; 2048],
-    head: &[u16; 512],
-    link: &[u16; 2048],
-    rank: &mut [u16; 512],
-    cursor: &mut [u16; 512],
-    stack: &mut [u16; 512],
-    order: &mut [u16; 512],
-    via: &mut [u16; 512],
+    out: &Chain,
+    table: &mut Table,
 ) -> Course
     requires { (n m : ℕ) × (from : List ℕ) × (0 < d)
-        × Underway (arrays n m marks.now from to.now) head.now link.now (table rank.old cursor.old stack.old order.old via.old) d done }
+        × Underway (arrays n m marks.now from to.now) out.now.head out.now.link table.old d done }
     ensures { (n m : ℕ) (from : List ℕ)
-        → Underway (arrays n m marks.now from to.now) head.now link.now
-        (table rank.old cursor.old stack.old order.old via.old) d done
-        → Turned (arrays n m marks.now from to.now)
-        (table rank.old cursor.old stack.old order.old via.old) d result
-        (table rank.new cursor.new stack.new order.new via.new) }
+        → Underway (arrays n m marks.now from to.now) out.now.head out.now.link table.old d done
+        → Turned (arrays n m marks.now from to.now) table.old d result table.new }
 {
-    let s = wide(stack[d - 1]);
-    let t = wide(cursor[s]);
+    let s = usize::from(table.stack[d - 1]);
+    let t = usize::from(table.cursor[s]);
     if t == NONE {
-        order[done] = s as u16;
-        rank[s] = (done + 1) as u16;
+        table.order[done] = s as u16;
+        table.rank[s] = (done + 1) as u16;
         return Course::On {
             depth: d - 1,
             left: done + 1,
         };
     }
-    let v = wide(to[t]);
+    let v = usize::from(to[t]);
     if !is_final(marks[v]) {
-        let r = wide(rank[v]);
+        let r = usize::from(table.rank[v]);
         if 512 < r {
             let back = r - 513;
             return Course::Back(back);
         }
         if r == 0 {
-            enter(v, t as u16, d, head, rank, cursor, stack, via);
+            enter(v, t as u16, d, out, table);
             let depth = d + 1;
             return Course::On { depth, left: done };
         }
     }
-    cursor[s] = link[t];
+    table.cursor[s] = out.link[t];
     Course::On {
         depth: d,
         left: done,
