@@ -1,5 +1,5 @@
 -- What the hunt for a dead end goes by, and what it answers. Document 01: "It considers only states that unfinished walks reach." Assumes nothing.
-use Rattle.std.specs.Prelude.{List, ◌⊎◌, ◌≡◌, ℕ, ◌<◌}
+use Rattle.std.specs.Prelude.{List, ℕ, ◌<◌, Option, Some, None}
 use Rattle.search.specs.Arrays.{Arrays, at, UnfinishedIn, Leaves}
 use Rattle.search.specs.Chain.{Linked}
 use Rattle.turns.specs.Search.{Rooted}
@@ -18,6 +18,7 @@ module _ (A : Arrays) where
     pub rooted : (s : ℕ) → s < A.n → 0 < at rank s → Rooted A rank via s
     pub onward : (s t : ℕ) → s < A.n → 0 < at rank s → Leaves A s t → UnfinishedIn A.marks (at A.to t) → 0 < at rank (at A.to t)
 
-  -- what the hunt answers: a dead end, or 512
-  abbrev pub Hunted : List ℕ → ℕ → Type 0
-  Hunted rank r = DeadEndAt rank r ⊎ ((r ≡ 512) × NoDeadEnd rank)
+  -- what the hunt answers: a dead end, or that there is none
+  abbrev pub Hunted : List ℕ → Option ℕ → Type 0
+  Hunted rank (Some s) = DeadEndAt rank s
+  Hunted rank None = NoDeadEnd rank

@@ -10,7 +10,8 @@ use Rattle.search.specs.Arrays.{Arrays, at, StartIn, FinalIn, Leaves, Bounded}
 use Rattle.search.specs.Chain.{none}
 use Rattle.reach.specs.declared.Reach.{Reach}
 use Rattle.reach.specs.declared.Reach.TheVariants.{NoStart, Looped, DeadEnd, Ends}
-use Rattle.turns.specs.Search.{Table, Sized, Grown, Placed, Searching}
+use Rattle.turns.specs.declared.Table.{Table}
+use Rattle.turns.specs.Search.{Sized, Grown, Placed, Searching}
 use Rattle.reach.specs.Explored.{Ranked, Explored, Descended}
 use Rattle.arrays.proofs.Lists.{same_or_not}
 use Rattle.turns.proofs.Stack.{Behind}

@@ -1,15 +1,15 @@
 -- What the search left behind is what the hunt goes by (`ranked_entered`), and what the hunt then finds is what the starts reach: a dead end, or none. Assumes nothing.
+use Rattle.std.specs.Prelude.{Option, Some, None}
 use mathlib.Core.Bool.{true≢false}
 use mathlib.Core.List.{List}
-use mathlib.Core.Logic.{inl, inr, ⊎_elim}
+use mathlib.Core.Logic.{⊎_elim}
 use mathlib.Core.Path.{◌≡◌, refl, sym, ◌∙◌}
-use Prim.Native.Nat.{ℕ, ◌≤◌, ◌<◌}
-use native.Mathlib.Omega.{arith}
+use Prim.Native.Nat.{ℕ, ◌<◌}
 use Rattle.search.specs.Arrays.{Arrays, at, StartIn, UnfinishedIn, Leaves}
 use Rattle.search.specs.Chain.{Linked}
 use Rattle.reach.specs.declared.Reach.{Reach}
 use Rattle.reach.specs.declared.Reach.TheVariants.{NoStart, Looped, DeadEnd, Ends}
-use Rattle.turns.specs.Search.{Table}
+use Rattle.turns.specs.declared.Table.{Table}
 use Rattle.hunt.specs.Hunted.{Entered, Hunted}
 use Rattle.reach.specs.Explored.{Explored, Ranked, Reached}
 
@@ -24,13 +24,12 @@ module _ {A : Arrays} {a : Table} {done : ℕ} (r : Ranked A a done) where
   ranked_entered w = record { linked = w; rooted = r.origin; onward = λ s t h q l u. (onward-lower s t h q l u).0 }
 
   -- and what it found is what the starts reach: a dead end, or none
-  pub reached_dead : {x : ℕ} → Hunted A a.rank x → x < 512 → Reached A a (DeadEnd x)
-  reached_dead (inl w) l = ((done, r), w)
-  reached_dead (inr w) l = absurd (omega (arith, w.0))
+  pub reached_dead : {x : ℕ} → Hunted A a.rank (Some x) → Reached A a (DeadEnd x)
+  reached_dead w = ((done, r), w)
 
-  pub reached-end : {x : ℕ} → A.n ≤ 512 → (s : ℕ) × (s < A.n) × StartIn A.marks s → Hunted A a.rank x → 512 ≤ x → Reached A a (Ends done)
-  reached-end few started (inl w) l = absurd (omega (arith, w.0))
-  reached-end few started (inr w) l = (r, started, w.1)
+  pub reached-end : (s : ℕ) × (s < A.n) × StartIn A.marks s → (o : Option ℕ) → ((x : ℕ) → o ≡ Some x → ⊥) → Hunted A a.rank o → Reached A a (Ends done)
+  reached-end started (Some x) d w = absurd (d x refl)
+  reached-end started None d w = (r, started, w)
 
 -- what the search found where it did not come to its end, there is no hunt for
 pub reached_early : (A : Arrays) (a : Table) (r : Reach) → ((k : ℕ) → r ≡ Ends k → ⊥) → Explored A a r

@@ -1,15 +1,11 @@
--- What the depth-first search leaves behind, and what the starts reach: the arrays of the search are those of `Search` in turns. Assumes nothing.
+-- What the depth-first search leaves behind, and what the starts reach: the arrays of the search are those of `Table` in turns. Assumes nothing.
 use Rattle.std.specs.Prelude.{◌⊎◌, ◌≡◌, ℕ, suc, ◌≤◌, ◌<◌}
-use Rattle.reach.specs.declared.Searched.{Searched}
 use Rattle.reach.specs.declared.Reach.{Reach}
 use Rattle.reach.specs.declared.Reach.TheVariants.{NoStart, Looped, DeadEnd, Ends}
 use Rattle.search.specs.Arrays.{Arrays, at, StartIn, FinalIn, Leaves}
-use Rattle.turns.specs.Search.{Table, Sized, Grown, table, Origin, Searching, Loop}
+use Rattle.turns.specs.declared.Table.{Table}
+use Rattle.turns.specs.Search.{Sized, Grown, Origin, Searching, Loop}
 use Rattle.hunt.specs.Hunted.{DeadEndAt, NoDeadEnd}
-
--- what it leaves behind
-abbrev pub table_of : Searched → Table
-table_of s = table s.rank s.cursor s.stack s.order s.via
 
 module _ (A : Arrays) where
   -- the search is over: every start was entered, and all that was entered was left; the rank falls along the transitions

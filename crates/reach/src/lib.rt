@@ -3,6 +3,8 @@
 
 pub mod explore;
 
+use turns::Table;
+
 // What the search from the starts found: no start; a loop, from a stack of so many states back to a place on it; a dead end; or neither, with so
 // many states left.
 #[derive(Clone, Copy)]
@@ -13,13 +15,9 @@ pub enum Reach {
     Ends(usize),
 }
 
-// What the search found, with the arrays that it left behind: ranks, cursors, the stack, the order of leaving, and the transitions that led to the states.
+// What the search found, with the arrays that it left behind.
 #[derive(Clone, Copy)]
 pub struct Searched {
     pub found: Reach,
-    pub rank: [u16; 512],
-    pub cursor: [u16; 512],
-    pub stack: [u16; 512],
-    pub order: [u16; 512],
-    pub via: [u16; 512],
+    pub table: Table,
 }

@@ -3,15 +3,15 @@
 use Prim.Native.Nat.{ℕ}
 use mathlib.Core.List.{List}
 use Rattle.search.specs.Arrays.{arrays}
-use Rattle.turns.specs.Search.{table, Grown, Underway, work_in}
+use Rattle.turns.specs.Search.{Grown, Underway, work_in}
 use Rattle.reach.proofs.explore.descend.Given as goal
 
 abbrev pub invariant-loop-d : goal.invariant-loop-d
 invariant-loop-d l =
-    (n m : ℕ) (from : List ℕ) → Underway (arrays n m l.marks from l.to) l.head l.link (table l.initial.rank l.initial.cursor l.initial.stack l.initial.order l.initial.via) l.initial.d l.initial.left
-    → Underway (arrays n m l.marks from l.to) l.head l.link (table l.rank l.cursor l.stack l.order l.via) l.d l.left
-    × Grown (table l.initial.rank l.initial.cursor l.initial.stack l.initial.order l.initial.via) (table l.rank l.cursor l.stack l.order l.via)
+    (n m : ℕ) (from : List ℕ) → Underway (arrays n m l.marks from l.to) l.out.head l.out.link l.initial.table l.initial.d l.initial.left
+    → Underway (arrays n m l.marks from l.to) l.out.head l.out.link l.table l.d l.left
+    × Grown l.initial.table l.table
 
 abbrev pub decreases-loop-d : goal.decreases-loop-d
 decreases-loop-d l =
-    work_in (table l.rank l.cursor l.stack l.order l.via)
+    work_in l.table

@@ -1,25 +1,21 @@
--- `reach::explore::explore` meets its contract. The loop's invariant: in whatever graph it is, the search from the starts below s is over (`Exploring`). The measure is how many
--- states are left to look at. Assumes nothing.
+-- `reach::explore::explore` meets its contract. The loop's invariant: in whatever graph it is, the search from the starts below s is over (`Exploring`).
+-- Assumes nothing.
 use Prim.Native.Nat.{◌<◌}
 use mathlib.Core.Bool.{false≢true}
 use mathlib.Core.Logic.{inl, inr}
 use mathlib.Core.Path.{refl, sym, ◌∙◌}
 use native.Mathlib.Omega.{arith}
 use Rattle.search.specs.Arrays.{arrays, at, StartIn}
-use Rattle.turns.specs.Search.{Table, table}
 use Rattle.reach.proofs.Exploring.{exploring_more, explored_ends, explored_early}
-use Rattle.reach.proofs.explore.explore.Goals.{then-is_start+then-rank-s-eq0+in-Ends, then-is_start+else-rank-s-eq0, else-is_start}
+use Rattle.reach.proofs.explore.explore.Goals.{then-is_start+then-table-s-eq0+in-Ends, then-is_start+else-table-s-eq0, else-is_start}
 use Rattle.reach.proofs.explore.explore.Goals as goal
 
 pub returns-in_default : goal.returns-in_default
 returns-in_default c =
-    let behind : Table =
-    table c.descend-found.new.rank c.descend-found.new.cursor c.descend-found.new.stack c.descend-found.new.order
-    c.descend-found.new.via in
     λ m from w.
     let x = c.loop-s.invariant m from w in
     explored_early (arrays c.args.n m c.args.marks.now from c.args.to.now)
-    (table c.loop-s.rank c.loop-s.cursor c.loop-s.stack c.loop-s.order c.loop-s.via) behind c.loop-s.s c.descend-found.result c.in_default.not-Ends
+    c.loop-s.table c.descend-found.new.table c.loop-s.s c.descend-found.result c.in_default.not-Ends
     (c.descend-found.ensures c.args.n m from c.loop-s-test.true (record { linked = w; sized = x.sized; search = x.search }))
 
 pub loop-s-preserved : goal.loop-s-preserved
@@ -28,17 +24,17 @@ loop-s-preserved c =
     λ m from w.
     let i = c.loop-s.invariant m from w in
     elim c.if-is_start.branch [
-      | then-is_start+then-rank-s-eq0+in-Ends x ↦
+      | then-is_start+then-table-s-eq0+in-Ends x ↦
           let q = rw x.in-Ends.is at (x.descend-found.ensures c.args.n m from k (record { linked = w; sized = i.sized; search = i.search })) in
-          rw (x.rank-is, x.cursor-is, x.stack-is, x.order-is, x.via-is, x.any-is, x.left-is)
+          rw (x.table-is, x.any-is, x.left-is)
           (exploring_more i k q.0 q.1 q.2 (λ y. q.3) (inl (refl, sym c.is_start.ensures ∙ x.if-is_start.true)))
-      | then-is_start+else-rank-s-eq0 x ↦
-          let entered : 0 < at c.loop-s.rank c.loop-s.s = omega (arith, x.if-rank-s-eq0.false) in
-          rw (x.rank-is, x.cursor-is, x.stack-is, x.order-is, x.via-is, x.any-is, x.left-is)
+      | then-is_start+else-table-s-eq0 x ↦
+          let entered : 0 < at c.loop-s.table.rank c.loop-s.s = omega (arith, x.if-table-s-eq0.false) in
+          rw (x.table-is, x.any-is, x.left-is)
           (exploring_more i k i.search i.sized (λ s h. h) (λ y. entered) (inl (refl, sym c.is_start.ensures ∙ x.if-is_start.true)))
       | else-is_start x ↦
           let no : StartIn c.args.marks.now c.loop-s.s → ⊥ = λ y. false≢true (sym x.if-is_start.false ∙ c.is_start.ensures ∙ y) in
-          rw (x.rank-is, x.cursor-is, x.stack-is, x.order-is, x.via-is, x.any-is, x.left-is)
+          rw (x.table-is, x.any-is, x.left-is)
           (exploring_more i k i.search i.sized (λ s h. h) (λ y. absurd (no y)) (inr (refl, no)))
     ]
 
