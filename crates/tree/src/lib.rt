@@ -5,19 +5,16 @@ ghost use Rattle.std.specs.Prelude.{List, ◌≡◌, ℕ, ◌≤◌, ◌<◌, le
 ghost use Rattle.search.specs.Arrays.{at};
 ghost use Rattle.tree.specs.Tree.{Climbable, Climbs, Climbed};
 
-use arrays::limits::wide;
 use search::NONE;
 
 // Writes the cursors of the d states on the stack to the front of the places.
-pub fn along_stack<'a>(d: usize, stack: &'a [u16; 512], cursor: &'a [u16; 512], walk: &mut [u16])
+pub fn along_stack(d: usize, stack: &[u16; 512], cursor: &[u16; 512], walk: &mut [u16])
     requires { (d ≤ 512) × (d ≤ length walk.old) × ((i : ℕ) → i < d → at stack.now i < 512) }
     ensures { ((i : ℕ) → i < d → at walk.new i ≡ at cursor.now (at stack.now i))
         × (drop d walk.new ≡ drop d walk.old) }
 {
-    let mut i = 0;
-    while i < d {
-        walk[i] = cursor[wide(stack[i])];
-        i += 1;
+    for i in 0..d {
+        walk[i] = cursor[usize::from(stack[i])];
     }
 }
 
@@ -30,7 +27,7 @@ fn height(s: usize, from: &[u16; 2048], via: &[u16; 512]) -> usize
     let mut x = s;
     let mut k = 0;
     while via[x] < NONE as u16 {
-        x = wide(from[wide(via[x])]);
+        x = usize::from(from[usize::from(via[x])]);
         k += 1;
     }
     k
@@ -45,11 +42,9 @@ pub fn climb(s: usize, from: &[u16; 2048], via: &[u16; 512], walk: &mut [u16]) -
 {
     let k = height(s, from, via);
     let mut x = s;
-    let mut i = k;
-    while 0 < i {
-        i -= 1;
+    for i in (0..k).rev() {
         walk[i] = via[x];
-        x = wide(from[wide(via[x])]);
+        x = usize::from(from[usize::from(via[x])]);
     }
     k
 }

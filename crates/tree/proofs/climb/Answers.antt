@@ -1,4 +1,4 @@
--- `tree::climb` meets its contract. The invariant: x is k - i transitions up from s, and the places from i on hold those transitions (`Writing`). The measure is i.
+-- `tree::climb` meets its contract. The invariant: x is k - i transitions up from s, and the places from i on hold those transitions (`Writing`).
 -- Assumes nothing.
 use Prim.Native.Nat.{ℕ, suc, ◌-◌, ◌≤◌, ◌<◌}
 use mathlib.Core.Path.{◌≡◌, ap, ◌∙◌}
@@ -17,7 +17,7 @@ bounds-via-x c =
     let height : ℕ =
     c.height-k.result - c.loop-i.i in
     let x_below : c.loop-i.x < 512 =
-    omega (arith, c.loop-i.invariant.2, (way.below height (omega arith)).0, c.requires.4.states) in
+    omega (arith, c.loop-i.invariant.1, (way.below height (omega arith)).0, c.requires.4.states) in
     omega (arith, x_below)
 
 pub offset_bounds-walk-i : goal.offset_bounds-walk-i
@@ -27,7 +27,7 @@ offset_bounds-walk-i c =
     let i-below : (c.loop-i.i ≤ 512) × (c.loop-i.i ≤ length c.loop-i.walk) =
     let p = c.requires in
     let f = way.fits in
-    (omega (arith, p.4.states), omega (arith, p.3, c.loop-i.invariant.1)) in
+    (omega (arith, p.4.states), omega (arith, p.3, c.loop-i.invariant.0)) in
     omega (arith, i-below.0)
 
 pub bounds-walk-i : goal.bounds-walk-i
@@ -37,7 +37,7 @@ bounds-walk-i c =
     let i-below : (c.loop-i.i ≤ 512) × (c.loop-i.i ≤ length c.loop-i.walk) =
     let p = c.requires in
     let f = way.fits in
-    (omega (arith, p.4.states), omega (arith, p.3, c.loop-i.invariant.1)) in
+    (omega (arith, p.4.states), omega (arith, p.3, c.loop-i.invariant.0)) in
     omega (arith, i-below.1)
 
 pub bounds-via-x-in-loop-i : goal.bounds-via-x-in-loop-i
@@ -47,18 +47,18 @@ bounds-via-x-in-loop-i c =
     let height : ℕ =
     c.height-k.result - c.loop-i.i in
     let x_below : c.loop-i.x < 512 =
-    omega (arith, c.loop-i.invariant.2, (way.below height (omega arith)).0, c.requires.4.states) in
+    omega (arith, c.loop-i.invariant.1, (way.below height (omega arith)).0, c.requires.4.states) in
     omega (arith, x_below)
 
-pub bounds-from-wide : goal.bounds-from-wide
-bounds-from-wide c =
+pub bounds-from-from : goal.bounds-from-from
+bounds-from-from c =
     let way : Climbs c.requires.0 c.requires.1 c.args.from.now c.requires.2 c.args.via.now c.args.s c.height-k.result =
     let p = c.requires in c.height-k.ensures p.0 p.1 p.2 p.4 in
     let height : ℕ =
     c.height-k.result - c.loop-i.i in
-    let via-is : c.wide.result ≡ at c.args.via.now (up c.args.from.now c.args.via.now c.args.s height) =
-    c.wide.ensures ∙ ap (at c.args.via.now) c.loop-i.invariant.2 in
-    let via-below : c.wide.result < 2048 =
+    let via-is : c.from.result ≡ at c.args.via.now (up c.args.from.now c.args.via.now c.args.s height) =
+    c.from.ensures ∙ ap (at c.args.via.now) c.loop-i.invariant.1 in
+    let via-below : c.from.result < 2048 =
     omega (arith, via-is, (way.listed height (omega arith)).0, c.requires.4.count) in
     omega (arith, via-below)
 
@@ -69,22 +69,21 @@ loop-i-preserved c =
     let i-below : (c.loop-i.i ≤ 512) × (c.loop-i.i ≤ length c.loop-i.walk) =
     let p = c.requires in
     let f = way.fits in
-    (omega (arith, p.4.states), omega (arith, p.3, c.loop-i.invariant.1)) in
+    (omega (arith, p.4.states), omega (arith, p.3, c.loop-i.invariant.0)) in
     let height : ℕ =
     c.height-k.result - c.loop-i.i in
-    let via-is : c.wide.result ≡ at c.args.via.now (up c.args.from.now c.args.via.now c.args.s height) =
-    c.wide.ensures ∙ ap (at c.args.via.now) c.loop-i.invariant.2 in
+    let via-is : c.from.result ≡ at c.args.via.now (up c.args.from.now c.args.via.now c.args.s height) =
+    c.from.ensures ∙ ap (at c.args.via.now) c.loop-i.invariant.1 in
     let a = c.args in
     let l = c.loop-i in
     let k : ℕ = c.height-k.result in
     let u : ℕ = k - l.i in
-    let e : l.x ≡ up a.from.now a.via.now a.s u = l.invariant.2 in
+    let e : l.x ≡ up a.from.now a.via.now a.s u = l.invariant.1 in
     let p : suc (l.i - 1) ≡ l.i = omega arith in
     let q : k - (l.i - 1) ≡ suc u = omega arith in
-    let w = writing_turn a.from.now a.via.now a.s k (l.i - 1) u l.walk (omega (arith, i-below.1)) (omega arith) (rw p l.invariant.3) in (
-      omega arith,
-      length-set l.walk _ _ ∙ l.invariant.1,
-      rw q (c.wide-x.ensures ∙ ap (at a.from.now) via-is),
+    let w = writing_turn a.from.now a.via.now a.s k (l.i - 1) u l.walk (omega (arith, i-below.1)) (omega arith) (rw p l.invariant.2) in (
+      length-set l.walk _ _ ∙ l.invariant.0,
+      rw q (c.from-x.ensures ∙ ap (at a.from.now) via-is),
       rw e w,
-      drop-set-lt k l.walk (l.i - 1) _ (omega arith) ∙ l.invariant.4,
+      drop-set-lt k l.walk (l.i - 1) _ (omega arith) ∙ l.invariant.3,
     )

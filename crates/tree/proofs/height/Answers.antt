@@ -44,10 +44,10 @@ loop-x-smaller c =
 
 pub loop-x-preserved : goal.loop-x-preserved
 loop-x-preserved c =
-    let via-is : c.wide.result ≡ at c.args.via.now (up c.args.from.now c.args.via.now c.args.s c.loop-x.k) =
-    c.wide.ensures ∙ ap (at c.args.via.now) c.loop-x.invariant.0 in
+    let via-is : c.from.result ≡ at c.args.via.now (up c.args.from.now c.args.via.now c.args.s c.loop-x.k) =
+    c.from.ensures ∙ ap (at c.args.via.now) c.loop-x.invariant.0 in
     rw add-one (
-      c.wide-x.ensures ∙ ap (at c.args.from.now) via-is,
+      c.from-x.ensures ∙ ap (at c.args.from.now) via-is,
       λ n m rank p. climbing-turn p (c.loop-x.invariant.1 n m rank p) (rw c.loop-x.invariant.0 at c.loop-x-test.true),
     )
 
