@@ -23,7 +23,7 @@ use Rattle.graph.proofs.Certificate.{FallingRank, route-bound, no-forever, no-st
 use Rattle.search.specs.Arrays.{Arrays, at, FinalIn, UnfinishedIn, Leaves, Bounded, StandsIn}
 use Rattle.search.specs.Chain.{none}
 use Rattle.arrays.specs.Tables.{cost_of}
-use Rattle.turns.specs.Search.{Table}
+use Rattle.turns.specs.declared.Table.{Table}
 use Rattle.hunt.specs.Hunted.{NoDeadEnd}
 use Rattle.reach.specs.Explored.{Ranked}
 use Rattle.search.specs.Sizes.{far, heaviest}

@@ -8,7 +8,7 @@ use Rattle.search.specs.Chain.{Linked}
 use Rattle.search.specs.Sizes.{heaviest}
 use Rattle.search.specs.Route.{Accounts}
 use Rattle.best_step.specs.Steps.{Before}
-use Rattle.turns.specs.Search.{Table}
+use Rattle.turns.specs.declared.Table.{Table}
 use Rattle.hunt.specs.Hunted.{NoDeadEnd}
 use Rattle.reach.specs.Explored.{Ranked}
 

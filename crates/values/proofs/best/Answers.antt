@@ -27,7 +27,7 @@ first-first-requires c =
     let graph : ℕ → List ℕ → Arrays =
     λ m from. arrays c.args.n m c.args.marks.now from c.args.to.now in
     let Ended : ℕ → (from rank cursor stack via : List ℕ) → Type 0 =
-    λ m from rank cursor stack via. Over (graph m from) c.args.head.now c.args.link.now (table rank cursor stack c.args.order.now via) c.args.done in
+    λ m from rank cursor stack via. Over (graph m from) c.args.out.now.head c.args.out.now.link (table rank cursor stack c.args.order.now via) c.args.done in
     let closes : length c.args.close ≡ 512 =
     search rules in
     let unfilled : (m : ℕ) (from : List ℕ) → Valued c.args.least (graph m from) c.args.order.now c.args.weight.now c.args.close 0 c.args.close =
@@ -43,7 +43,7 @@ trace-k-requires c =
     let graph : ℕ → List ℕ → Arrays =
     λ m from. arrays c.args.n m c.args.marks.now from c.args.to.now in
     let Ended : ℕ → (from rank cursor stack via : List ℕ) → Type 0 =
-    λ m from rank cursor stack via. Over (graph m from) c.args.head.now c.args.link.now (table rank cursor stack c.args.order.now via) c.args.done in
+    λ m from rank cursor stack via. Over (graph m from) c.args.out.now.head c.args.out.now.link (table rank cursor stack c.args.order.now via) c.args.done in
     let closes : length c.args.close ≡ 512 =
     search rules in
     let unfilled : (m : ℕ) (from : List ℕ) → Valued c.args.least (graph m from) c.args.order.now c.args.weight.now c.args.close 0 c.args.close =
@@ -62,7 +62,7 @@ returns c =
     let graph : ℕ → List ℕ → Arrays =
     λ m from. arrays c.args.n m c.args.marks.now from c.args.to.now in
     let Ended : ℕ → (from rank cursor stack via : List ℕ) → Type 0 =
-    λ m from rank cursor stack via. Over (graph m from) c.args.head.now c.args.link.now (table rank cursor stack c.args.order.now via) c.args.done in
+    λ m from rank cursor stack via. Over (graph m from) c.args.out.now.head c.args.out.now.link (table rank cursor stack c.args.order.now via) c.args.done in
     let closes : length c.args.close ≡ 512 =
     search rules in
     let unfilled : (m : ℕ) (from : List ℕ) → Valued c.args.least (graph m from) c.args.order.now c.args.weight.now c.args.close 0 c.args.close =
