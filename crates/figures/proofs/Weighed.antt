@@ -44,7 +44,7 @@ use Rattle.search.specs.Quoted.{Quoted}
 use Rattle.search.specs.Weights.{Weights, cost_in}
 use Rattle.search.specs.Sizes.{heaviest}
 use Rattle.search.proofs.Held.{held-closed}
-use Rattle.turns.specs.Search.{Table}
+use Rattle.turns.specs.declared.Table.{Table}
 use Rattle.figures.specs.Figures.{extra_for, WeighsAs, WeighsOver, arrays_of}
 use Rattle.figures.proofs.Held.{marks-view, teams-view, from_view, low_view, high_view, stands, bounded_in, lows-most, highs-most}
 

@@ -1,4 +1,4 @@
--- From what the search left behind to the greatest figure, where it is no number (values' `best-quoted` has the numbers).
+-- From what the search left c.args.searched.now.table to the greatest figure, where it is no number (values' `best-quoted` has the numbers).
 --
 -- 1. A loop: the states on the stack are the first states of a walk, whose last transition leads back to one of them (`loop-shown`).
 -- 2. A rank that falls, from all starts (values' `falling`): no walk goes on forever. Up the tree the rank rises (`rising`), so a state that was entered
@@ -23,7 +23,8 @@ use Rattle.graph.proofs.Repeat.{nth, Apart}
 use Rattle.graph.proofs.Walks.{after_of}
 use Rattle.search.specs.Arrays.{Arrays, at, StartIn, UnfinishedIn, Leaves, Bounded, StandsIn}
 use Rattle.search.specs.Chain.{none}
-use Rattle.turns.specs.Search.{Table, Loop, Rooted}
+use Rattle.turns.specs.declared.Table.{Table}
+use Rattle.turns.specs.Search.{Loop, Rooted}
 use Rattle.hunt.specs.Hunted.{DeadEndAt}
 use Rattle.reach.specs.Explored.{Ranked}
 use Rattle.search.specs.Quoted.{Quoted}

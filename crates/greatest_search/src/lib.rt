@@ -9,43 +9,41 @@ ghost use Rattle.search.specs.Arrays.{arrays, StandsIn};
 ghost use Rattle.search.specs.Chain.{Linked};
 ghost use Rattle.search.specs.Quoted.{Quoted};
 ghost use Rattle.search.specs.Weights.{weights_of, Light};
-ghost use Rattle.reach.specs.Explored.{table_of, Reached};
+ghost use Rattle.reach.specs.Explored.{Reached};
 ghost use Rattle.rules.specs.Quotations.{meant};
 
 use reach::{Reach, Searched};
 use rules::{Figure, Quote};
+use search::chain::Chain;
 
-// The greatest figure from what the starts reach, and the walk that shows it. The closes are handed over, since they may become the values. Ten arguments:
-// chains and weights by value would be copied.
-pub fn greatest<'a>(
+// The greatest figure from what the starts reach, and the walk that shows it. The closes are handed over, since they may become the values.
+pub fn greatest(
     n: usize,
-    marks: &'a [u8; 512],
-    from: &'a [u16; 2048],
-    to: &'a [u16; 2048],
-    head: &'a [u16; 512],
-    link: &'a [u16; 2048],
-    searched: Searched,
-    weight: &'a [u32; 2048],
+    marks: &[u8; 512],
+    from: &[u16; 2048],
+    to: &[u16; 2048],
+    out: &Chain,
+    searched: &Searched,
+    weight: &[u32; 2048],
     close: [u32; 512],
     walk: &mut [u16],
 ) -> Quote
     requires n_in_bounds { (n ≤ length walk.old) × Light (weights_of weight.now close) }
-    requires by_index { (m : ℕ) × Linked (arrays n m marks.now from.now to.now) head.now link.now
-        × Reached (arrays n m marks.now from.now to.now) (table_of searched) searched.found }
-    ensures { (m : ℕ) → Linked (arrays n m marks.now from.now to.now) head.now link.now
-        → Reached (arrays n m marks.now from.now to.now) (table_of searched) searched.found
+    requires by_index { (m : ℕ) × Linked (arrays n m marks.now from.now to.now) out.now.head out.now.link
+        × Reached (arrays n m marks.now from.now to.now) searched.now.table searched.now.found }
+    ensures { (m : ℕ) → Linked (arrays n m marks.now from.now to.now) out.now.head out.now.link
+        → Reached (arrays n m marks.now from.now to.now) searched.now.table searched.now.found
         → (g : Graph) → StandsIn (arrays n m marks.now from.now to.now) g
         → Quoted (IsGreatest g (cost_of weight.now close)) g (cost_of weight.now close) (meant result.figure) result.k result.j walk.old walk.new }
 {
-    let found = searched.found;
-    match found {
+    match searched.found {
         Reach::NoStart => Quote {
             figure: Figure::None,
             k: 0,
             j: 0,
         },
         Reach::Looped { depth, back } => {
-            tree::along_stack(depth, &searched.stack, &searched.cursor, walk);
+            tree::along_stack(depth, &searched.table.stack, &searched.table.cursor, walk);
             Quote {
                 figure: Figure::Endless,
                 k: depth,
@@ -53,7 +51,7 @@ pub fn greatest<'a>(
             }
         }
         Reach::DeadEnd(s) => {
-            let k = tree::climb(s, from, &searched.via, walk);
+            let k = tree::climb(s, from, &searched.table.via, walk);
             Quote {
                 figure: Figure::Stranded,
                 k,
@@ -66,9 +64,8 @@ pub fn greatest<'a>(
             n,
             marks,
             to,
-            head,
-            link,
-            &searched.order,
+            out,
+            &searched.table.order,
             weight,
             close,
             walk,

@@ -10,37 +10,34 @@ ghost use Rattle.search.specs.Chain.{Chains, Linked};
 ghost use Rattle.search.specs.Quoted.{Quoted};
 ghost use Rattle.rules.specs.Quotations.{meant};
 ghost use Rattle.keys.specs.Keys.{Weighed};
-ghost use Rattle.reach.specs.Explored.{table_of, Reached};
+ghost use Rattle.reach.specs.Explored.{Reached};
 
 use reach::{Reach, Searched};
 use rules::{Figure, Quote};
+use search::chain::Chain;
 use search::{FAR, chain, route};
 
 // The least cost of a route, and a route that attains it, whatever the starts reach: by keys.
-// Ten arguments: chains and weights by value would be copied.
-fn by_keys<'a>(
+fn by_keys(
     n: usize,
     m: usize,
-    marks: &'a [u8; 512],
-    from: &'a [u16; 2048],
-    to: &'a [u16; 2048],
-    head: &'a [u16; 512],
-    link: &'a [u16; 2048],
-    weight: &'a [u32; 2048],
-    close: &'a [u32; 512],
+    marks: &[u8; 512],
+    from: &[u16; 2048],
+    to: &[u16; 2048],
+    out: &Chain,
+    weight: &[u32; 2048],
+    close: &[u32; 512],
     walk: &mut [u16],
 ) -> Quote
     requires bounded { Bounded (arrays n m marks.now from.now to.now) × Weighed m weight.now close.now × (n ≤ length walk.old) }
-    requires chains { Chains from.now m head.now link.now }
+    requires chains { Chains from.now m out.now.head out.now.link }
     ensures { (g : Graph) → StandsIn (arrays n m marks.now from.now to.now) g
         → Quoted (IsLeast g (cost_of weight.now close.now)) g (cost_of weight.now close.now) (meant result.figure) result.k result.j walk.old walk.new }
 {
     let into = chain::chains(to, m);
     let mut key = [0u32; 512];
-    spreading::spread(
-        n, marks, from, weight, close, &into.head, &into.link, &mut key,
-    );
-    let first = keys::settle(n, m, marks, from, to, head, link, weight, &mut key);
+    spreading::spread(n, marks, from, weight, close, &into, &mut key);
+    let first = keys::settle(n, m, marks, from, to, out, weight, &mut key);
     if FAR <= first.cost {
         return Quote {
             figure: Figure::None,
@@ -48,7 +45,7 @@ fn by_keys<'a>(
             j: 0,
         };
     }
-    let k = route::trace(first.transition, marks, to, head, link, weight, &key, walk);
+    let k = route::trace(first.transition, marks, to, out, weight, &key, walk);
     Quote {
         figure: Figure::Number(first.cost),
         k,
@@ -57,40 +54,37 @@ fn by_keys<'a>(
 }
 
 // The least figure from what the starts reach, and a route that attains it. Where they reach neither a loop nor a dead end, values in the order of leaving
-// give it at once. The closes are handed over, since they may become the values. Eleven arguments: chains and weights by value would be copied.
-pub fn least<'a>(
+// give it at once. The closes are handed over, since they may become the values.
+pub fn least(
     n: usize,
     m: usize,
-    marks: &'a [u8; 512],
-    from: &'a [u16; 2048],
-    to: &'a [u16; 2048],
-    head: &'a [u16; 512],
-    link: &'a [u16; 2048],
-    searched: Searched,
-    weight: &'a [u32; 2048],
+    marks: &[u8; 512],
+    from: &[u16; 2048],
+    to: &[u16; 2048],
+    out: &Chain,
+    searched: &Searched,
+    weight: &[u32; 2048],
     close: [u32; 512],
     walk: &mut [u16],
 ) -> Quote
-    requires linked { Linked (arrays n m marks.now from.now to.now) head.now link.now × Weighed m weight.now close × (n ≤ length walk.old) }
-    requires reached { Reached (arrays n m marks.now from.now to.now) (table_of searched) searched.found }
+    requires linked { Linked (arrays n m marks.now from.now to.now) out.now.head out.now.link × Weighed m weight.now close × (n ≤ length walk.old) }
+    requires reached { Reached (arrays n m marks.now from.now to.now) searched.now.table searched.now.found }
     ensures { (g : Graph) → StandsIn (arrays n m marks.now from.now to.now) g
         → Quoted (IsLeast g (cost_of weight.now close)) g (cost_of weight.now close) (meant result.figure) result.k result.j walk.old walk.new }
 {
-    let found = searched.found;
-    match found {
+    match searched.found {
         Reach::Ends(done) => values::best(
             true,
             done,
             n,
             marks,
             to,
-            head,
-            link,
-            &searched.order,
+            out,
+            &searched.table.order,
             weight,
             close,
             walk,
         ),
-        _ => by_keys(n, m, marks, from, to, head, link, weight, &close, walk),
+        _ => by_keys(n, m, marks, from, to, out, weight, &close, walk),
     }
 }

@@ -27,7 +27,8 @@ use Rattle.rules.proofs.Tabulated.{length-tabulate, get_d_tabulate}
 use Rattle.search.specs.Arrays.{Arrays, at, Bounded, StandsIn}
 use Rattle.search.specs.Quoted.{Quoted}
 use Rattle.search.proofs.Held.{begins_in, departs, leaves}
-use Rattle.turns.specs.Search.{Table, Loop}
+use Rattle.turns.specs.declared.Table.{Table}
+use Rattle.turns.specs.Search.{Loop}
 use Rattle.reach.specs.declared.Reach.{Reach}
 use Rattle.reach.specs.declared.Reach.TheVariants.{NoStart, Looped, DeadEnd, Ends}
 use Rattle.reach.specs.Explored.{Ranked, Reached}

@@ -12,7 +12,7 @@ use Rattle.plan.specs.declared.Plan.{Plan}
 use Rattle.plan.specs.View.{plan_of, view}
 use Rattle.open_search.specs.Open.{Answered, OpenAt}
 use Rattle.open_search.proofs.Opening.{ended_ranked, first_one}
-use Rattle.reach.specs.Explored.{table_of, Ranked}
+use Rattle.reach.specs.Explored.{Ranked}
 use Rattle.figures.specs.Figures.{arrays_of}
 use Rattle.figures.proofs.Held.{stands, bounded_in, from_small}
 use Rattle.figures.proofs.Weighed.{open_said, opens, none_beside}
