@@ -1,13 +1,12 @@
 -- Open transitions in the arrays, as the definitions have them.
 --
--- 1. What the hunt answers is an open transition if it is below m (`first_one`), and otherwise there is none (`first-none`).
--- 2. The walk down the tree to the state that an open transition leaves, with the transition at its end, is what is shown for ENDLESS (`open_quoted`).
--- 3. Where the hunt found none, a walk takes an open transition only where an endless one is (`open_beside-endless`): there is no start; or there is a loop; or the search
+-- 1. The walk down the tree to the state that an open transition leaves, with the transition at its end, is what is shown for ENDLESS (`open_quoted`).
+-- 2. Where the hunt found none, a walk takes an open transition only where an endless one is (`open_beside-endless`): there is no start; or there is a loop; or the search
 --    came to its end, and no open transition leaves a state that the starts reach.
 -- Assumes nothing.
 use mathlib.Core.Bool.{true}
 use mathlib.Core.List.{List, [], ◌∷◌, ◌++◌}
-use mathlib.Core.Logic.{inr, ⊎_elim}
+use mathlib.Core.Logic.{inr}
 use mathlib.Core.Path.{◌≡◌, refl, sym, ◌∙◌, ap}
 use Prim.Native.Nat.{ℕ, suc, ◌+◌, ◌≤◌, ◌<◌}
 use native.Mathlib.Nat.{le_refl, le_of_eq}
@@ -35,17 +34,11 @@ use Rattle.reach.specs.Explored.{Ranked, Reached}
 use Rattle.tree.specs.Tree.{Climbs, Climbed}
 use Rattle.values.proofs.BestFigure.{falling}
 use Rattle.greatest_search.proofs.GreatestFigure.{WalkDown, walked_down, loop-shown}
-use Rattle.open_search.specs.Open.{OpenAt, NoneOpen, FirstOpen, Ended}
+use Rattle.open_search.specs.Open.{NoneOpen, Ended}
 
 -- ---- 1
 
-pub first_one : {m r : ℕ} {from high rank : List ℕ} → r < m → FirstOpen m from high rank r → OpenAt m from high rank r
-first_one l f = ⊎_elim (λ o. o) (λ e. absurd (omega arith)) f.here
-
-pub first-none : {m r : ℕ} {from high rank : List ℕ} → m ≤ r → FirstOpen m from high rank r → NoneOpen m from high rank m
-first-none l f t h = f.none_before t (omega arith)
-
--- ---- 2
+-- ---- 1
 
 -- where the search came to its end, all that it entered was left
 pub ended_ranked : (A : Arrays) (a : Table) (found : Reach) → Reached A a found → Ended found → (done : ℕ) × Ranked A a done
@@ -90,7 +83,7 @@ module _ {A : Arrays} (b : Bounded A) {a : Table} {done : ℕ} (r : Ranked A a d
       shown : Shown g c ENDLESS (take (suc k) (set between k t)) (suc k)
       shown = rw (walk, sym long-walk) (inr (ring-shown g c down.first (take k between) down.walk down.different t leaves_s o))
 
--- ---- 3
+-- ---- 2
 
 module _ {A : Arrays} (b : Bounded A) (a : Table) {g : Graph} (held : StandsIn A g) (c : Cost) (high : List ℕ)
     (opens : (t : ℕ) → t < A.m → c.unlimited t ≡ is_open (limit (at high t))) where

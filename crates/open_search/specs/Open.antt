@@ -1,6 +1,6 @@
 -- Open transitions in the arrays of a plan, and what the hunt for one answers. Document 02, E2: "when an unfinished walk from a start can take a transition with
 -- an open high". Assumes nothing.
-use Rattle.std.specs.Prelude.{true, false, List, ◌⊎◌, ◌≡◌, ℕ, ◌≤◌, ◌<◌}
+use Rattle.std.specs.Prelude.{true, false, List, ◌≡◌, ℕ, ◌<◌, Option, Some, None}
 use Rattle.graph.specs.declared.Which.{Which}
 use Rattle.graph.specs.declared.Which.TheVariants.{GreatestDelay}
 use Rattle.graph.specs.Route.{limit, is_open}
@@ -19,10 +19,10 @@ module _ (m : ℕ) (from high rank : List ℕ) where
   abbrev pub NoneOpen : ℕ → Type 0
   NoneOpen k = (t : ℕ) → t < k → 0 < at rank (at from t) → is_open (limit (at high t)) ≡ false
 
-  -- r is the first of the m transitions that is one; m where none is
-  pub record FirstOpen (r : ℕ) : Type 0 where
-    pub none_before : NoneOpen r
-    pub here : OpenAt r ⊎ (r ≡ m)
+  -- the first of the m transitions that is one; or that none is
+  abbrev pub FirstOpen : Option ℕ → Type 0
+  FirstOpen (Some t) = NoneOpen t × OpenAt t
+  FirstOpen None = NoneOpen m
 
 -- the search came to its end: all that the starts reach has a rank
 abbrev pub Ended : Reach → Type 0
@@ -31,7 +31,7 @@ Ended (Looped d j) = ⊥
 Ended (DeadEnd s) = Unit {0}
 Ended (Ends done) = Unit {0}
 
--- r is the first open transition, where the figure is ENDLESS by it; m where it is ENDLESS by none
-pub record Answered (which : Which) (found : Reach) (m : ℕ) (from high rank : List ℕ) (r : ℕ) : Type 0 where
-  pub one : r < m → (which ≡ GreatestDelay) × Ended found × FirstOpen m from high rank r
-  pub no_other : m ≤ r → which ≡ GreatestDelay → Ended found → NoneOpen m from high rank m
+-- the first open transition, where the figure is ENDLESS by it; or that it is ENDLESS by none
+abbrev pub Answered : Which → Reach → ℕ → List ℕ → List ℕ → List ℕ → Option ℕ → Type 0
+Answered which found m from high rank (Some t) = (which ≡ GreatestDelay) × Ended found × FirstOpen m from high rank (Some t)
+Answered which found m from high rank None = which ≡ GreatestDelay → Ended found → NoneOpen m from high rank m
