@@ -7,7 +7,7 @@ ghost use Rattle.costs.specs.Scaled.{divided};
 ghost use Rattle.graph.specs.Class.{figure_of};
 ghost use Rattle.graph.specs.Which.{is_least};
 ghost use Rattle.plan.specs.View.{plan_of, view};
-ghost use Rattle.reach.specs.Explored.{table_of, Reached};
+ghost use Rattle.reach.specs.Explored.{Reached};
 ghost use Rattle.rules.specs.Limits.{within};
 ghost use Rattle.rules.specs.Quotations.{meant, says_asked, Stated};
 ghost use Rattle.search.specs.Arrays.{arrays};
@@ -26,9 +26,7 @@ fn divide(figure: Figure) -> Figure
 {
     match figure {
         Figure::Number(x) => Figure::Number(x / costs::SCALE),
-        Figure::None => Figure::None,
-        Figure::Stranded => Figure::Stranded,
-        Figure::Endless => Figure::Endless,
+        other => other,
     }
 }
 
@@ -45,15 +43,15 @@ fn figure_of(asked: Asked) -> Which
 
 // Fills the weights and the closes of what is asked for, of the plan in the arrays. Ten arguments: the arrays are lent one by one, and weights by value would be
 // copied.
-fn weigh<'a>(
+fn weigh(
     asked: Asked,
     n: usize,
     m: usize,
-    marks: &'a [u8; 512],
-    teams: &'a [u8; 512],
-    from: &'a [u16; 2048],
-    low: &'a [u16; 2048],
-    high: &'a [u16; 2048],
+    marks: &[u8; 512],
+    teams: &[u8; 512],
+    from: &[u16; 2048],
+    low: &[u16; 2048],
+    high: &[u16; 2048],
     weight: &mut [u32; 2048],
     close: &mut [u32; 512],
 )
@@ -81,32 +79,27 @@ fn weigh<'a>(
 fn is_least(which: Which) -> bool
     ensures { result ≡ is_least which }
 {
-    match which {
-        Which::LeastDelay => true,
-        Which::GreatestDelay => false,
-        Which::LeastCount => true,
-        Which::GreatestCount => false,
-    }
+    matches!(which, Which::LeastDelay | Which::LeastCount)
 }
 
 // What is asked for of the plan in the arrays, by a search over weights, where no open transition decides it. The arrays are lent one by one: a plan by value would
 // be copied for each figure.
-fn search<'a>(
+fn search(
     asked: Asked,
     n: usize,
     m: usize,
-    marks: &'a [u8; 512],
-    teams: &'a [u8; 512],
-    from: &'a [u16; 2048],
-    to: &'a [u16; 2048],
-    low: &'a [u16; 2048],
-    high: &'a [u16; 2048],
-    out: Chain,
-    reached: Searched,
+    marks: &[u8; 512],
+    teams: &[u8; 512],
+    from: &[u16; 2048],
+    to: &[u16; 2048],
+    low: &[u16; 2048],
+    high: &[u16; 2048],
+    out: &Chain,
+    reached: &Searched,
     walk: &mut [u16],
 ) -> Quote
     requires high_value { (within (view (plan_of n m marks.now teams.now from.now to.now low.now high.now)) ≡ true) × (n ≤ length walk.old) }
-    requires chains { Chains from.now m out.head out.link × Reached (arrays n m marks.now from.now to.now) (table_of reached) reached.found }
+    requires chains { Chains from.now m out.now.head out.now.link × Reached (arrays n m marks.now from.now to.now) reached.now.table reached.now.found }
     requires none_open { NoneOpen asked (view (plan_of n m marks.now teams.now from.now to.now low.now high.now)) }
     ensures { Stated
         (says_asked asked (view (plan_of n m marks.now teams.now from.now to.now low.now high.now)))
@@ -127,44 +120,37 @@ fn search<'a>(
         &mut close,
     );
     if is_least(figure_of(asked)) {
-        let found = least_search::least(
-            n, m, marks, from, to, &out.head, &out.link, reached, &weight, close, walk,
-        );
-        let figure = found.figure;
+        let found = least_search::least(n, m, marks, from, to, out, reached, &weight, close, walk);
         return Quote {
-            figure: divide(figure),
-            k: found.k,
-            j: found.j,
+            figure: divide(found.figure),
+            ..found
         };
     }
-    greatest_search::greatest(
-        n, marks, from, to, &out.head, &out.link, reached, &weight, close, walk,
-    )
+    greatest_search::greatest(n, marks, from, to, out, reached, &weight, close, walk)
 }
 
 // What is asked for of the plan in the arrays, from what the starts reach, with the walk that shows it.
-pub fn figure<'a>(
+pub fn figure(
     asked: Asked,
     n: usize,
     m: usize,
-    marks: &'a [u8; 512],
-    teams: &'a [u8; 512],
-    from: &'a [u16; 2048],
-    to: &'a [u16; 2048],
-    low: &'a [u16; 2048],
-    high: &'a [u16; 2048],
-    out: Chain,
-    reached: Searched,
+    marks: &[u8; 512],
+    teams: &[u8; 512],
+    from: &[u16; 2048],
+    to: &[u16; 2048],
+    low: &[u16; 2048],
+    high: &[u16; 2048],
+    out: &Chain,
+    reached: &Searched,
     walk: &mut [u16],
 ) -> Quote
     requires high_value { (within (view (plan_of n m marks.now teams.now from.now to.now low.now high.now)) ≡ true) × (n ≤ length walk.old) }
-    requires chains { Chains from.now m out.head out.link × Reached (arrays n m marks.now from.now to.now) (table_of reached) reached.found }
+    requires chains { Chains from.now m out.now.head out.now.link × Reached (arrays n m marks.now from.now to.now) reached.now.table reached.now.found }
     ensures { Stated
         (says_asked asked (view (plan_of n m marks.now teams.now from.now to.now low.now high.now)))
         result walk.old walk.new }
 {
-    let open = open_search::find(figure_of(asked), reached, m, from, high);
-    if open < m {
+    if let Some(open) = open_search::find(figure_of(asked), reached, m, from, high) {
         return open_search::show(open, from, reached, walk);
     }
     search(

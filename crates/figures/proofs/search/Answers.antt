@@ -19,8 +19,8 @@ pub least-found-requires-clause-linked : goal.least-found-requires-clause-linked
 least-found-requires-clause-linked c =
     let plan : Plan =
     plan_of c.args.n c.args.m c.args.marks.now c.args.teams.now c.args.from.now c.args.to.now c.args.low.now c.args.high.now in
-    let linked : Linked (arrays_of plan) c.args.out.head c.args.out.link =
-    linked_in plan c.requires.high_value.0 c.args.out c.requires.chains.0 in
+    let linked : Linked (arrays_of plan) c.args.out.now.head c.args.out.now.link =
+    linked_in plan c.requires.high_value.0 c.args.out.now c.requires.chains.0 in
     let weights : Weights =
     weights_of c.weigh.new.weight c.weigh.new.close in
     let weighs : Weighs c.args.asked plan weights =
@@ -33,8 +33,8 @@ pub greatest-requires-clause-by_index : goal.greatest-requires-clause-by_index
 greatest-requires-clause-by_index c =
     let plan : Plan =
     plan_of c.args.n c.args.m c.args.marks.now c.args.teams.now c.args.from.now c.args.to.now c.args.low.now c.args.high.now in
-    let linked : Linked (arrays_of plan) c.args.out.head c.args.out.link =
-    linked_in plan c.requires.high_value.0 c.args.out c.requires.chains.0 in
+    let linked : Linked (arrays_of plan) c.args.out.now.head c.args.out.now.link =
+    linked_in plan c.requires.high_value.0 c.args.out.now c.requires.chains.0 in
     (c.args.m, linked, c.requires.chains.1)
 
 pub returns-then-is_least : goal.returns-then-is_least
@@ -61,8 +61,8 @@ returns c =
     plan_of c.args.n c.args.m c.args.marks.now c.args.teams.now c.args.from.now c.args.to.now c.args.low.now c.args.high.now in
     let test : ℕ → Bool =
     counting c.args.asked (view plan) in
-    let linked : Linked (arrays_of plan) c.args.out.head c.args.out.link =
-    linked_in plan c.requires.high_value.0 c.args.out c.requires.chains.0 in
+    let linked : Linked (arrays_of plan) c.args.out.now.head c.args.out.now.link =
+    linked_in plan c.requires.high_value.0 c.args.out.now c.requires.chains.0 in
     let weights : Weights =
     weights_of c.weigh.new.weight c.weigh.new.close in
     let weighs : Weighs c.args.asked plan weights =
