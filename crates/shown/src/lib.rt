@@ -24,9 +24,9 @@ pub fn show(asked: Asked, p: Plan, walk: &mut [u16]) -> Quote
     let n = p.states;
     let m = p.transitions;
     let out = chain::chains(&p.from, m);
-    let reached = explore::reach(n, &p.marks, &p.to, &out.head, &out.link);
+    let reached = explore::reach(n, &p.marks, &p.to, &out);
     figures::figure(
-        asked, n, m, &p.marks, &p.teams, &p.from, &p.to, &p.low, &p.high, out, reached, walk,
+        asked, n, m, &p.marks, &p.teams, &p.from, &p.to, &p.low, &p.high, &out, &reached, walk,
     )
 }
 
@@ -52,15 +52,15 @@ fn chains(from: &[u16; 2048], m: usize) -> Chain
 }
 
 // The four figures of the plan in the arrays, by one search for what the starts reach; the walks stand in four parts of 512 places.
-pub fn show_all<'a>(
+pub fn show_all(
     n: usize,
     m: usize,
-    marks: &'a [u8; 512],
-    teams: &'a [u8; 512],
-    from: &'a [u16; 2048],
-    to: &'a [u16; 2048],
-    low: &'a [u16; 2048],
-    high: &'a [u16; 2048],
+    marks: &[u8; 512],
+    teams: &[u8; 512],
+    from: &[u16; 2048],
+    to: &[u16; 2048],
+    low: &[u16; 2048],
+    high: &[u16; 2048],
     walks: &mut [u16],
 ) -> FourQuotes
     requires { (within (view (plan_of n m marks.now teams.now from.now to.now low.now high.now)) ≡ true) × (2048 ≤ length walks.old) }
@@ -69,19 +69,17 @@ pub fn show_all<'a>(
         result walks.old walks.new }
 {
     let out = chains(from, m);
-    let reached = explore::reach(n, marks, to, &out.head, &out.link);
+    let reached = explore::reach(n, marks, to, &out);
     let mut quotes = [Quote {
         figure: Figure::None,
         k: 0,
         j: 0,
     }; 4];
-    let mut i = 0;
-    while i < 4 {
+    for i in 0..4 {
         let at = 512 * i;
         let end = at + 512;
-        let which = figure_at(i);
         quotes[i] = figures::figure(
-            Asked::One(which),
+            Asked::One(figure_at(i)),
             n,
             m,
             marks,
@@ -90,16 +88,12 @@ pub fn show_all<'a>(
             to,
             low,
             high,
-            out,
-            reached,
+            &out,
+            &reached,
             &mut walks[at..end],
         );
-        i += 1;
     }
-    let least_delay = quotes[0];
-    let greatest_delay = quotes[1];
-    let least_count = quotes[2];
-    let greatest_count = quotes[3];
+    let [least_delay, greatest_delay, least_count, greatest_count] = quotes;
     FourQuotes {
         least_delay,
         greatest_delay,

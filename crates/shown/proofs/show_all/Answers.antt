@@ -1,5 +1,4 @@
--- `shown::show_all`: the limits give what the chains, the search and each figure ask for. The invariant: the figures before place i are shown, each in its part (`Showing`). The
--- measure is how many are left. Assumes nothing.
+-- `shown::show_all`: the limits give what the chains, the search and each figure ask for. The invariant: the figures before place i are shown, each in its part (`Showing`). Assumes nothing.
 use mathlib.Core.Path.{◌≡◌, refl}
 use Prim.Native.Nat.{◌+◌, ◌*◌, ◌-◌}
 use native.Mathlib.Numerals.{add-one}
@@ -32,7 +31,7 @@ figure-requires-clause-high_value c =
     plan_of c.args.n c.args.m c.args.marks.now c.args.teams.now c.args.from.now c.args.to.now c.args.low.now c.args.high.now in
     let i = c.loop-i.i in
     let k : 512 * i + 512 - 512 * i ≡ 512 = omega arith in
-    let l = cut-length (512 * i) c.loop-i.walks (there c.requires.1 c.loop-i-test.true c.loop-i.invariant.1) in
+    let l = cut-length (512 * i) c.loop-i.walks (there c.requires.1 c.loop-i-test.true c.loop-i.invariant) in
     let n = (bounded_in plan c.requires.0).states in
     (c.requires.0, rw k (omega (arith, l, n)))
 
@@ -47,10 +46,10 @@ figure-requires-clause-chains c =
 pub loop-i-preserved : goal.loop-i-preserved
 loop-i-preserved c = let i = c.loop-i.i in
     let f = c.figure in
-    let s = rw c.figure_at-which.ensures at f.ensures in
+    let s = rw c.figure_at.ensures at f.ensures in
     let k : 512 * i + 512 - 512 * i ≡ 512 = omega arith in
-    (omega arith, rw add-one (showing_part c.requires.1 c.loop-i-test.true c.loop-i.invariant.1 f.result c.figure.new.walk (512 * i + 512 - 512 * i) k c.figure.auto.walk s))
+    rw add-one (showing_part c.requires.1 c.loop-i-test.true c.loop-i.invariant f.result c.figure.new.walk (512 * i + 512 - 512 * i) k c.figure.auto.walk s)
 
 pub returns : goal.returns
-returns c = let e : c.loop-i.i ≡ 4 = omega (arith, c.loop-i.invariant.0, c.loop-i-test.false) in
-    all_shown _ (rw e at c.loop-i.invariant.1) refl refl refl refl
+returns c = let e : c.loop-i.i ≡ 4 = omega arith in
+    all_shown _ (rw e at c.loop-i.invariant) refl refl refl refl
