@@ -1,10 +1,6 @@
--- `heap::nearest_of` meets its contract. The loop's invariant: the best place so far is one of the heap, at or after the first. The measure is
--- what is left of the four. Assumes nothing.
-use Prim.Native.Nat.{◌+◌, ◌-◌, ◌≤◌, ◌<◌}
+-- `heap::nearest_of` meets its contract. The loop's invariant: the best place so far is one of the heap, at or after the first. Assumes nothing.
+use Prim.Native.Nat.{◌≤◌, ◌<◌}
 use Rattle.heap.proofs.nearest_of.Given as goal
 
 abbrev pub invariant-loop-i : goal.invariant-loop-i
-invariant-loop-i l = (l.first ≤ l.best) × (l.best < l.size) × (l.first ≤ l.i)
-
-abbrev pub decreases-loop-i : goal.decreases-loop-i
-decreases-loop-i l = l.first + 4 - l.i
+invariant-loop-i l = (l.first ≤ l.best) × (l.best < l.size)

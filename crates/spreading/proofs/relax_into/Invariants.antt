@@ -1,6 +1,6 @@
 -- `spreading::relax_into` meets its contract. The loop's invariant: in whatever graph the keys were spread, they are kept, the pending states are states, and the chain
 -- of s is followed as far as t. A chain rises, so the measure is what is left of the numbers of transitions. Assumes nothing.
-use Prim.Native.Nat.{ℕ, ◌-◌, ◌≤◌, ◌<◌}
+use Prim.Native.Nat.{ℕ, ◌-◌, ◌<◌}
 use mathlib.Core.List.{List}
 use mathlib.Core.Path.{◌≡◌}
 use Rattle.search.specs.Arrays.{Arrays, arrays, at, Below}
@@ -15,9 +15,9 @@ pub record Relaxing (A : Arrays) (weight close key heap : List ℕ) (s t : ℕ) 
   pub followed : Followed A.to A.m (λ k. at A.to k ≡ s) s t
 
 abbrev pub invariant-loop-t : goal.invariant-loop-t
-invariant-loop-t l = (l.size ≤ 512) × Below 512 l.place
-    × ((n m : ℕ) (to close : List ℕ) → l.s < n → Spreading (arrays n m l.marks l.from to) l.weight close l.into.head l.into.link l.initial.key → Below n l.initial.heap
-    → Relaxing (arrays n m l.marks l.from to) l.weight close l.key l.heap l.s l.t)
+invariant-loop-t l = (n m : ℕ) (to close : List ℕ) → l.s < n
+    → Spreading (arrays n m l.marks l.from to) l.weight close l.into.head l.into.link l.initial.key → Below n l.initial.heap.items
+    → Relaxing (arrays n m l.marks l.from to) l.weight close l.key l.heap.items l.s l.t
 
 abbrev pub decreases-loop-t : goal.decreases-loop-t
 decreases-loop-t l = 2048 - l.t

@@ -7,4 +7,4 @@ use Rattle.spreading.proofs.seed.Given as goal
 
 abbrev pub invariant-loop-s : goal.invariant-loop-s
 invariant-loop-s l =
-    (l.size ≤ l.s) × Below l.n l.heap × Below 512 l.place × Seeding l.marks l.close l.s l.key
+    (l.heap.size ≤ l.s) × Below l.n l.heap.items × Seeding l.marks l.close l.s l.key
