@@ -10,24 +10,17 @@ use mathlib.Core.Path.{◌≡◌, refl, sym, ◌∙◌}
 use Prim.Native.Nat.{ℕ, suc, ◌+◌, ◌≤◌, ◌<◌}
 use native.Mathlib.Nat.{le_refl}
 use native.Mathlib.Omega.{arith}
-use lib.ListN.{length, set, replicate, length-set}
-use Rattle.search.specs.Arrays.{Arrays, arrays, at, FinalIn, UnfinishedIn, Leaves, Bounded, Below}
+use lib.ListN.{length, set, length-set}
+use Rattle.search.specs.Arrays.{Arrays, arrays, at, FinalIn, UnfinishedIn, Leaves, Bounded}
 use Rattle.search.specs.Sizes.{sum_to}
 use Rattle.keys.specs.Keys.{Keys, Settled, Passing, Offered, Relaxed}
 use Rattle.search.specs.Sizes.{far, heaviest}
-use Rattle.search.proofs.Places.{at_set, zeros, sum-falls}
+use Rattle.search.proofs.Places.{at_set, sum-falls}
 use Rattle.arrays.proofs.Lists.{same_or_not}
 
 -- no mark is both
 pub never_both : {b : Bool} → b ≡ true → b ≡ false → ⊥
 never_both p q = true≢false (sym p ∙ q)
-
--- what is below a bound is below a greater one, and zeros are below any bound above 0
-pub below_weaken : {k l : ℕ} (xs : List ℕ) → k ≤ l → Below k xs → Below l xs
-below_weaken xs h b i = omega (arith, b i)
-
-pub below-zeros : {k : ℕ} (n : ℕ) → 1 ≤ k → Below k (replicate n 0)
-below-zeros n h i = rw (zeros n i) h
 
 -- one key lowered raises none
 lowered_le : (key : List ℕ) (s x : ℕ) → s < length key → x < at key s → (u : ℕ) → at (set key s x) u ≤ at key u
