@@ -9,23 +9,15 @@ pub fn remove(places: &mut [u16; 2048], number: usize, m: usize)
     requires { (number < m) × (m ≤ length places.old) × (m ≤ 2048) }
     ensures { places.new ≡ paste places.old number (drop (suc number) places.old) (m - suc number) }
 {
-    let mut i = number;
-    while i + 1 < m {
-        places[i] = places[i + 1];
-        i += 1;
-    }
+    places.copy_within(number + 1..m, number);
 }
 
 // Lays the first k of some places over the first k of others.
-pub fn lay(places: &mut [u16; 2048], over: &[u16; 2048], k: usize)
-    requires { (k ≤ length places.old) × (k ≤ length over.now) × (k ≤ 2048) }
+pub fn lay<T: Copy>(places: &mut [T], over: &[T], k: usize)
+    requires { (k ≤ length places.old) × (k ≤ length over.now) }
     ensures { places.new ≡ paste places.old 0 over.now k }
 {
-    let mut i = 0;
-    while i < k {
-        places[i] = over[i];
-        i += 1;
-    }
+    places[..k].copy_from_slice(&over[..k]);
 }
 
 // Lays the first k of the states' marks values, or of their teams, over the first k of others.
@@ -33,9 +25,5 @@ pub fn lay_states(states: &mut [u8; 512], over: &[u8; 512], k: usize)
     requires { (k ≤ length states.old) × (k ≤ length over.now) × (k ≤ 512) }
     ensures { states.new ≡ paste states.old 0 over.now k }
 {
-    let mut i = 0;
-    while i < k {
-        states[i] = over[i];
-        i += 1;
-    }
+    lay(states, over, k);
 }
