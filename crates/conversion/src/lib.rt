@@ -22,11 +22,8 @@ pub fn to_image(text: &[u8], buffer: &mut [u8]) -> Result<usize, Refusal>
 {
     let fresh = plan::fresh(1);
     let imported = plan::replace(fresh.plan, Format::Text, text);
-    let answer = imported.answer;
-    match answer {
-        Ok(()) => plan::write(imported.plan, buffer),
-        Err(r) => Err(r),
-    }
+    imported.answer?;
+    plan::write(imported.plan, buffer)
 }
 
 // Puts the text of the plan that an image holds at the front of the buffer, and returns its length.
@@ -35,11 +32,8 @@ pub fn to_text(image: &[u8], buffer: &mut [u8]) -> Result<usize, Refusal>
         buffer.old buffer.new result }
 {
     let held = plan::held(image);
-    let answer = held.answer;
-    match answer {
-        Ok(()) => plan::export(held.plan, buffer),
-        Err(ground) => Err(ground),
-    }
+    held.answer?;
+    plan::export(held.plan, buffer)
 }
 
 // Puts the image of the plan of n states and m transitions that a seed makes at the front of the buffer, and returns its length.
@@ -48,9 +42,6 @@ pub fn of_seed(seed: u32, n: usize, m: usize, buffer: &mut [u8]) -> Result<usize
         buffer.old buffer.new result }
 {
     let made = generation::generate(seed, n, m);
-    let answer = made.answer;
-    match answer {
-        Ok(()) => plan::write(made.plan, buffer),
-        Err(refusal) => Err(refusal),
-    }
+    made.answer?;
+    plan::write(made.plan, buffer)
 }

@@ -1,13 +1,14 @@
 -- `conversion::of_seed`: refused as the numbers are, or the plan written (proofs/Converting.antt). Assumes nothing.
+use Rattle.std.proofs.lemmas.Result.{err_from_is_err_and}
 use Rattle.conversion.proofs.Converting.{seed-refused, seed-put}
 use Rattle.conversion.proofs.of_seed.Goals as goal
 
-pub returns-in-Ok : goal.returns-in-Ok
-returns-in-Ok c =
+pub returns : goal.returns
+returns c =
     let a = c.args in
-    seed-put a.seed a.n a.m a.buffer.now c.generate-made.result c.generate-made.ensures c.in-Ok.is _ c.write.result c.write.ensures
+    seed-put a.seed a.n a.m a.buffer.now c.generate-made.result c.generate-made.ensures c.in_ok-made.was _ c.write.result c.write.ensures
 
-pub returns-in-Err : goal.returns-in-Err
-returns-in-Err c =
+pub returns-in_err-made : goal.returns-in_err-made
+returns-in_err-made c =
     let a = c.args in
-    seed-refused a.seed a.n a.m a.buffer.now c.generate-made.result c.generate-made.ensures c.in-Err.refusal c.in-Err.is
+    let p = err_from_is_err_and c.from_residual.result c.from_residual.ensures.1 in rw (p.1, p.2) (seed-refused a.seed a.n a.m a.buffer.now c.generate-made.result c.generate-made.ensures c.in_err-made.field-0.0 c.in_err-made.was)
