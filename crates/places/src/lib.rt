@@ -19,11 +19,3 @@ pub fn lay<T: Copy>(places: &mut [T], over: &[T], k: usize)
 {
     places[..k].copy_from_slice(&over[..k]);
 }
-
-// Lays the first k of the states' marks values, or of their teams, over the first k of others.
-pub fn lay_states(states: &mut [u8; 512], over: &[u8; 512], k: usize)
-    requires { (k ≤ length states.old) × (k ≤ length over.now) × (k ≤ 512) }
-    ensures { states.new ≡ paste states.old 0 over.now k }
-{
-    lay(states, over, k);
-}

@@ -212,8 +212,8 @@ pub fn replace(mut p: Plan, format: Format, octets: &[u8]) -> Edited
         Ok(()) => {
             let states = taken.states;
             let transitions = taken.transitions;
-            places::lay_states(&mut p.marks, &marks, states);
-            places::lay_states(&mut p.teams, &teams, states);
+            places::lay(&mut p.marks, &marks, states);
+            places::lay(&mut p.teams, &teams, states);
             places::lay(&mut p.from, &from, transitions);
             places::lay(&mut p.to, &to, transitions);
             places::lay(&mut p.low, &low, transitions);

@@ -55,7 +55,7 @@ returns-in-Ok c =
     let n = c.take-taken.ensures.counts c.in-Ok.is in
     let call : Call = replacing c.args.format c.args.octets.now in
     let o : Result Graph = step (view p) call in
-    let e : _ ≡ overlaid p q = same-arrays c.lay_states.ensures c.lay_states-in-Ok.ensures c.lay.ensures c.lay-in-Ok.ensures c.lay-in-Ok-2.ensures c.lay-in-Ok-3.ensures in
+    let e : _ ≡ overlaid p q = same-arrays c.lay.ensures c.lay-in-Ok.ensures c.lay-in-Ok-2.ensures c.lay-in-Ok-3.ensures c.lay-in-Ok-4.ensures c.lay-in-Ok-5.ensures in
     rw c.in-Ok.is
     (acceptance p _ o (view q) (bits_of (view p) call) _ (ruled at_take ∙ ap (λ (x : Answer). came x (view q)) c.in-Ok.is) (ap view e ∙ view-overlaid p q r)
     (subst (Past p) (sym e) (past-overlaid p (sized (goal.at.returns-in-Ok c).Start) q r n.0 n.1)) (counted at_take))
