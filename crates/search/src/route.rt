@@ -18,7 +18,7 @@ fn accounting(
     requires { (A : Arrays) × (s < 512) × (A.m ≤ 2048) × Chains A.from A.m out.now.head out.now.link
         × Addable A.m to.now weight.now value.now
         × ((t : ℕ) × Leaves A s t × Accounts to.now weight.now value.now s t) }
-    ensures { Accounts to.now weight.now value.now s result
+    ensures { (result < 2048) × Accounts to.now weight.now value.now s result
         × ((A : Arrays) → Chains A.from A.m out.now.head out.now.link → Leaves A s result) }
 {
     let mut t = usize::from(out.head[s]);
