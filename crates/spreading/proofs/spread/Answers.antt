@@ -9,11 +9,6 @@ use Rattle.search.specs.Chain.{Chains}
 use Rattle.keys.specs.Keys.{Weighed, Spreading}
 use Rattle.spreading.proofs.spread.Goals as goal
 
-pub seed-requires : goal.seed-requires
-seed-requires c = let p = c.requires.by_index in
-    let h = c.new-heap.ensures in
-    (p.2.states, p.3.close-most, c.requires.in_bounds, h.0, λ i. omega (arith, h.1 i, p.2.some))
-
 pub loop-init : goal.loop-init
 loop-init c = let s = c.seed.ensures in (s.1, λ m to b w h. s.0 m _ to _)
 
