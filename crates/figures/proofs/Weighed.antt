@@ -3,7 +3,7 @@
 -- heavy for a search. Then what the search answers over them is what a quotation says of the figure (costs' `least_answered`, `greatest_answered`). An open
 -- transition that the hunt found is the greatest delay's (`open_said`), and where it found none it is none of the figure's (`none_beside`).
 -- Assumes nothing.
-use Rattle.std.specs.Prelude.{Option, Some, None}
+use Rattle.std.specs.Prelude.{None}
 use mathlib.Core.Bool.{Bool, true, false}
 use mathlib.Core.List.{List}
 use mathlib.Core.Logic.{◌⊎◌, inl, inr}
@@ -190,12 +190,11 @@ pub opens : (p : Plan) (t : ℕ) → t < p.transitions → (highs (view p)).unli
 opens p t h = ap (λ (x : ℕ). is_open (limit x)) (high_view p t h)
 
 -- where the hunt found none for the figure, a walk takes an open transition only beside an endless one
-pub none_beside : (p : Plan) → within (view p) ≡ true → (test : ℕ → Bool) (which : Which) (a : Table) (found : Reach) (r : Option ℕ) → Reached (arrays_of p) a found
-    → Answered which found p.transitions p.from p.high a.rank r → ((t : ℕ) → r ≡ Some t → ⊥)
+pub none_beside : (p : Plan) → within (view p) ≡ true → (test : ℕ → Bool) (which : Which) (a : Table) (found : Reach) → Reached (arrays_of p) a found
+    → Answered which found p.transitions p.from p.high a.rank None
     → HasOpenWalk (view p) (cost_over which test (view p)) → HasEndlessWalk (view p)
-none_beside p w test LeastDelay a found r reached answered d u = absurd (none_open (view p) (cost_over LeastDelay test (view p)) (λ t h. refl) u)
-none_beside p w test GreatestDelay a found (Some t) reached answered d u = absurd (d t refl)
-none_beside p w test GreatestDelay a found None reached answered d u =
+none_beside p w test LeastDelay a found reached answered u = absurd (none_open (view p) (cost_over LeastDelay test (view p)) (λ t h. refl) u)
+none_beside p w test GreatestDelay a found reached answered u =
     open_beside-endless (bounded_in p w) a (stands p) (highs (view p)) p.high (opens p) found reached (answered refl) u
-none_beside p w test LeastCount a found r reached answered d u = absurd (none_open (view p) (cost_over LeastCount test (view p)) (λ t h. refl) u)
-none_beside p w test GreatestCount a found r reached answered d u = absurd (none_open (view p) (cost_over GreatestCount test (view p)) (λ t h. refl) u)
+none_beside p w test LeastCount a found reached answered u = absurd (none_open (view p) (cost_over LeastCount test (view p)) (λ t h. refl) u)
+none_beside p w test GreatestCount a found reached answered u = absurd (none_open (view p) (cost_over GreatestCount test (view p)) (λ t h. refl) u)

@@ -86,11 +86,7 @@ pub fn all(p: Plan, walks: &mut [u16]) -> Result<FourQuotes, Refusal>
     if let Err(r) = asked {
         return Err(r);
     }
-    let n = p.states;
-    let m = p.transitions;
-    Ok(shown::show_all(
-        n, m, &p.marks, &p.teams, &p.from, &p.to, &p.low, &p.high, walks,
-    ))
+    Ok(shown::show_all(&p, walks))
 }
 
 // The plan that an image holds, in a frame of its own: what it fills is not on the stack while the figures are searched for.
@@ -121,19 +117,7 @@ pub fn held(octets: &[u8], walks: &mut [u16]) -> HeldQuotations
             taken,
         };
     }
-    let n = edited.plan.states;
-    let m = edited.plan.transitions;
-    let quotes = shown::show_all(
-        n,
-        m,
-        &edited.plan.marks,
-        &edited.plan.teams,
-        &edited.plan.from,
-        &edited.plan.to,
-        &edited.plan.low,
-        &edited.plan.high,
-        walks,
-    );
+    let quotes = shown::show_all(&edited.plan, walks);
     HeldQuotations {
         quotations: Ok(quotes),
         taken,
@@ -151,11 +135,7 @@ pub fn record(p: Plan, buffer: &mut [u8]) -> Result<usize, Refusal>
         return Err(Refusal::BufferLength);
     }
     let mut walks = [0u16; 2048];
-    let n = p.states;
-    let m = p.transitions;
-    let quotes = shown::show_all(
-        n, m, &p.marks, &p.teams, &p.from, &p.to, &p.low, &p.high, &mut walks,
-    );
+    let quotes = shown::show_all(&p, &mut walks);
     record_fields::put_record(buffer, quotes);
     Ok(11)
 }

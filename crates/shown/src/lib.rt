@@ -2,7 +2,7 @@
 #![tactic(auto)]
 
 ghost use Rattle.std.specs.Prelude.{true, ◌≡◌, ◌≤◌, ◌<◌, ℕ, length};
-ghost use Rattle.plan.specs.View.{plan_of, view};
+ghost use Rattle.plan.specs.View.{view};
 ghost use Rattle.rules.specs.Limits.{within};
 ghost use Rattle.rules.specs.Quotations.{says_asked, Stated, AllStated};
 ghost use Rattle.search.specs.Arrays.{at};
@@ -21,13 +21,9 @@ pub fn show(asked: Asked, p: Plan, walk: &mut [u16]) -> Quote
     requires { (within (view p) ≡ true) × (p.states ≤ length walk.old) }
     ensures { Stated (says_asked asked (view p)) result walk.old walk.new }
 {
-    let n = p.states;
-    let m = p.transitions;
-    let out = chain::chains(&p.from, m);
-    let reached = explore::reach(n, &p.marks, &p.to, &out);
-    figures::figure(
-        asked, n, m, &p.marks, &p.teams, &p.from, &p.to, &p.low, &p.high, &out, &reached, walk,
-    )
+    let out = chain::chains(&p.from, p.transitions);
+    let reached = explore::reach(p.states, &p.marks, &p.to, &out);
+    figures::figure(asked, &p, &out, &reached, walk)
 }
 
 // The figure at a place of the record; the last one past them.
@@ -51,25 +47,13 @@ fn chains(from: &[u16; 2048], m: usize) -> Chain
     chain::chains(from, m)
 }
 
-// The four figures of the plan in the arrays, by one search for what the starts reach; the walks stand in four parts of 512 places.
-pub fn show_all(
-    n: usize,
-    m: usize,
-    marks: &[u8; 512],
-    teams: &[u8; 512],
-    from: &[u16; 2048],
-    to: &[u16; 2048],
-    low: &[u16; 2048],
-    high: &[u16; 2048],
-    walks: &mut [u16],
-) -> FourQuotes
-    requires { (within (view (plan_of n m marks.now teams.now from.now to.now low.now high.now)) ≡ true) × (2048 ≤ length walks.old) }
-    ensures { AllStated
-        (view (plan_of n m marks.now teams.now from.now to.now low.now high.now))
-        result walks.old walks.new }
+// The four figures of a plan, by one search for what the starts reach; the walks stand in four parts of 512 places.
+pub fn show_all(p: &Plan, walks: &mut [u16]) -> FourQuotes
+    requires { (within (view p.now) ≡ true) × (2048 ≤ length walks.old) }
+    ensures { AllStated (view p.now) result walks.old walks.new }
 {
-    let out = chains(from, m);
-    let reached = explore::reach(n, marks, to, &out);
+    let out = chains(&p.from, p.transitions);
+    let reached = explore::reach(p.states, &p.marks, &p.to, &out);
     let mut quotes = [Quote {
         figure: Figure::None,
         k: 0,
@@ -77,21 +61,8 @@ pub fn show_all(
     }; 4];
     for i in 0..4 {
         let at = 512 * i;
-        let end = at + 512;
-        quotes[i] = figures::figure(
-            Asked::One(figure_at(i)),
-            n,
-            m,
-            marks,
-            teams,
-            from,
-            to,
-            low,
-            high,
-            &out,
-            &reached,
-            &mut walks[at..end],
-        );
+        let asked = Asked::One(figure_at(i));
+        quotes[i] = figures::figure(asked, p, &out, &reached, &mut walks[at..at + 512]);
     }
     let [least_delay, greatest_delay, least_count, greatest_count] = quotes;
     FourQuotes {

@@ -7,28 +7,24 @@ use Rattle.search.specs.Chain.{Linked}
 use Rattle.figures.specs.Figures.{arrays_of}
 use Rattle.figures.proofs.Held.{bounded_in, from_small, linked_in}
 use Rattle.plan.specs.declared.Plan.{Plan}
-use Rattle.plan.specs.View.{plan_of}
 use Rattle.shown.proofs.Parts.{cut-length, there, showing_part, all_shown}
 use Rattle.shown.proofs.show_all.Goals as goal
 
 pub chains-out-requires : goal.chains-out-requires
 chains-out-requires c =
-    let plan : Plan =
-    plan_of c.args.n c.args.m c.args.marks.now c.args.teams.now c.args.from.now c.args.to.now c.args.low.now c.args.high.now in
+    let plan : Plan = c.args.p.now in
     let p = plan in ((bounded_in p c.requires.0).count, from_small p c.requires.0)
 
 pub reach-reached-requires : goal.reach-reached-requires
 reach-reached-requires c =
-    let plan : Plan =
-    plan_of c.args.n c.args.m c.args.marks.now c.args.teams.now c.args.from.now c.args.to.now c.args.low.now c.args.high.now in
+    let plan : Plan = c.args.p.now in
     let linked : Linked (arrays_of plan) c.chains-out.result.head c.chains-out.result.link =
     linked_in plan c.requires.0 c.chains-out.result c.chains-out.ensures in
-    (c.args.m, c.args.from.now, linked)
+    (plan.transitions, plan.from, linked)
 
-pub figure-requires-clause-high_value : goal.figure-requires-clause-high_value
-figure-requires-clause-high_value c =
-    let plan : Plan =
-    plan_of c.args.n c.args.m c.args.marks.now c.args.teams.now c.args.from.now c.args.to.now c.args.low.now c.args.high.now in
+pub figure-requires-clause-limits : goal.figure-requires-clause-limits
+figure-requires-clause-limits c =
+    let plan : Plan = c.args.p.now in
     let i = c.loop-i.i in
     let k : 512 * i + 512 - 512 * i ≡ 512 = omega arith in
     let l = cut-length (512 * i) c.loop-i.walks (there c.requires.1 c.loop-i-test.true c.loop-i.invariant) in
@@ -37,11 +33,10 @@ figure-requires-clause-high_value c =
 
 pub figure-requires-clause-chains : goal.figure-requires-clause-chains
 figure-requires-clause-chains c =
-    let plan : Plan =
-    plan_of c.args.n c.args.m c.args.marks.now c.args.teams.now c.args.from.now c.args.to.now c.args.low.now c.args.high.now in
+    let plan : Plan = c.args.p.now in
     let linked : Linked (arrays_of plan) c.chains-out.result.head c.chains-out.result.link =
     linked_in plan c.requires.0 c.chains-out.result c.chains-out.ensures in
-    (c.chains-out.ensures, c.reach-reached.ensures c.args.m c.args.from.now linked)
+    (c.chains-out.ensures, c.reach-reached.ensures plan.transitions plan.from linked)
 
 pub loop-i-preserved : goal.loop-i-preserved
 loop-i-preserved c = let i = c.loop-i.i in
