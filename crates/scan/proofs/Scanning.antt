@@ -1,19 +1,21 @@
 -- What a scan of octets keeps.
 --
--- 1. A word is compared octet by octet: after i of them, what is left of the word is to be read from what is left of the text (`word_on`, `word-off`, `word-short`).
+-- 1. A word is read where the text begins with it, octet by octet (`word_begun`, `word_other`).
 -- 2. Digits are taken while there are some: those taken so far, and those at the front of what is left, are all the digits at the place (`Scanned`). A number that is cut off has the
 --    same next value, cut off, as the number itself (`cut-more`).
 -- 3. Whether the digits are a numeral is seen from how many they are, and from the first of them (`numeral-none`, `numeral-one`, `numeral-more`).
 -- 4. So what is found at a place is what the definitions read there, and after what was off the form nothing is read.
 -- Assumes nothing.
 use Prim.Native.Nat.{ℕ, zero, suc, ◌+◌, ◌-◌, ◌*◌, ◌≤◌, ◌<◌}
-use mathlib.Core.Bool.{Bool, true, false, not, cond, true≢false}
+use mathlib.Core.Bool.{Bool, true, false, not, cond, true≢false, ◌&&◌}
+use Rattle.std.specs.Char.{is_ascii_digit}
+use Rattle.std.specs.Cmp.Lexicographic.{pointwise}
 use mathlib.Core.List.{List, [], ◌∷◌, ◌++◌, append-nil, append_assoc}
 use mathlib.Core.Path.{◌≡◌, refl, sym, ap, ◌∙◌}
 use native.Mathlib.Omega.{arith}
-use borrow.Author.Tests.{ltb-true, ltb-false, eq-eqb, ne_eqb}
+use borrow.Author.Tests.{ltb-true, ltb-false}
 use lib.Dec.{ltb, eqb}
-use lib.ListN.{length, drop, get_or, length-append}
+use lib.ListN.{length, take, drop, get_or, length-append}
 use lib.Seq.{drop-drop}
 use Rattle.text.specs.Text.{value_after, value}
 use Rattle.text.proofs.Numerals.{value_snoc}
@@ -22,7 +24,7 @@ use Rattle.aldebaran.proofs.Numbers.{is_digit-true}
 use Rattle.scan.specs.declared.Place.{Place}
 use Rattle.scan.specs.declared.Taken.{Taken}
 use Rattle.scan.proofs.Cuts.{cut_below, cut_above}
-use Rattle.scan.specs.Places.{Sound, standing, word_then, number_then, WordAt, many, cut, more, DigitsAt, Tells}
+use Rattle.scan.specs.Places.{Sound, standing, word_then, number_then, many, cut, more, DigitsAt, Tells}
 
 -- what is left at a place of a list, from its first number on
 pub drop-next : (xs : List ℕ) (k : ℕ) → k < length xs → drop k xs ≡ get_or xs k 0 ∷ drop (suc k) xs
@@ -38,36 +40,37 @@ drop-none (x ∷ xs) (suc k) h = drop-none xs k (omega arith)
 
 -- ---- 1
 
-word-step : (a b : ℕ) (w xs : List ℕ) → a ≡ b → read_word (a ∷ w) (b ∷ xs) ≡ read_word w xs
+-- the front of the text, as long as the word, is the word
+pub word_begun : (w xs : List ℕ) → pointwise eqb w (take (length w) xs) ≡ true → (length w ≤ length xs) × (read_word w xs ≡ on [] (drop (length w) xs))
 unfolding read_word
-word-step a b w xs e = rw (eq-eqb a b e) refl
-
-word_stop : (a b : ℕ) (w xs : List ℕ) → (a ≡ b → ⊥) → read_word (a ∷ w) (b ∷ xs) ≡ off
-unfolding read_word
-word_stop a b w xs d = rw (ne_eqb a b d) refl
-
-pub word-short : (w xs : List ℕ) → length xs < length w → read_word w xs ≡ off
-unfolding read_word
-word-short [] xs h = absurd (omega arith)
-word-short (a ∷ w) [] h = refl
-word-short (a ∷ w) (x ∷ xs) h = go (eqb a x) (word-short w xs (omega arith))
+word_begun [] xs h = (omega arith, refl)
+word_begun (a ∷ w) [] h = absurd (true≢false (sym h))
+word_begun (a ∷ w) (x ∷ xs) h = go (eqb a x) h (word_begun w xs)
   where
-    go : (b : Bool) → read_word w xs ≡ off → cond b (read_word w xs) off ≡ off
-    go true e = e
-    go false e = refl
+    go : (b : Bool) → (b && pointwise eqb w (take (length w) xs)) ≡ true
+        → (pointwise eqb w (take (length w) xs) ≡ true → (length w ≤ length xs) × (read_word w xs ≡ on [] (drop (length w) xs)))
+        → (suc (length w) ≤ suc (length xs)) × (cond b (read_word w xs) off ≡ on [] (drop (length w) xs))
+    go true h rest = let (l, e) = rest h in (omega arith, e)
+    go false h rest = absurd (true≢false (sym h))
 
-module _ (text : List ℕ) (at : ℕ) (w : List ℕ) (i : ℕ) (inside : at + i < length text) (short : i < length w) where
-  pub word_on : get_or text (at + i) 0 ≡ get_or w i 0 → read_word (drop i w) (drop (at + i) text) ≡ read_word (drop (suc i) w) (drop (suc (at + i)) text)
-  word_on e = rw (drop-next w i short, drop-next text (at + i) inside) (word-step (get_or w i 0) (get_or text (at + i) 0) (drop (suc i) w) (drop (suc (at + i)) text) (sym e))
-
-  pub word-off : (get_or text (at + i) 0 ≡ get_or w i 0 → ⊥) → read_word (drop i w) (drop (at + i) text) ≡ off
-  word-off d = rw (drop-next w i short, drop-next text (at + i) inside) (word_stop (get_or w i 0) (get_or text (at + i) 0) (drop (suc i) w) (drop (suc (at + i)) text) (λ e. d (sym e)))
-
-pub word_end : (w xs : List ℕ) (i : ℕ) → length w ≤ i → read_word (drop i w) xs ≡ on [] xs
+-- or it is not
+pub word_other : (w xs : List ℕ) → pointwise eqb w (take (length w) xs) ≡ false → read_word w xs ≡ off
 unfolding read_word
-word_end w xs i h = rw (drop-none w i h) refl
+word_other [] xs h = absurd (true≢false h)
+word_other (a ∷ w) [] h = refl
+word_other (a ∷ w) (x ∷ xs) h = go (eqb a x) h (word_other w xs)
+  where
+    go : (b : Bool) → (b && pointwise eqb w (take (length w) xs)) ≡ false → (pointwise eqb w (take (length w) xs) ≡ false → read_word w xs ≡ off)
+        → cond b (read_word w xs) off ≡ off
+    go true h rest = rest h
+    go false h rest = refl
 
 -- ---- 2
+
+-- the library's test of an octet is the definition's
+pub ascii-digit : (x : ℕ) → is_ascii_digit x ≡ is_digit x
+unfolding is_digit
+ascii-digit x = refl
 
 front-more : (x : ℕ) (xs : List ℕ) → is_digit x ≡ true → front (x ∷ xs) ≡ x ∷ front xs
 unfolding front
@@ -195,10 +198,10 @@ module _ (text : List ℕ) (p : Place) where
     unfolding and_then
     word_not_there w r n f = (λ q. absurd (true≢false (sym q ∙ f)), rw (e, f, n) refl)
 
-    pub word-there : (w : List ℕ) → WordAt text p.at w true
+    pub word-there : (w : List ℕ) → p.at + length w ≤ length text → read_word w (drop p.at text) ≡ on [] (drop (length w) (drop p.at text))
         → Sound text (record { on = true; at = p.at + length w }) × (standing text (record { on = true; at = p.at + length w }) ≡ word_then text p w)
     unfolding and_then
-    word-there w (b, n) = (λ q. b, rw (e, n) refl)
+    word-there w b n = (λ q. b, rw (e, n, drop-drop (length w) p.at text) refl)
 
     pub number_not_there : (r : Taken) → is_numeral (front (drop p.at text)) ≡ false → r.next.on ≡ false → Sound text r.next × Tells text (number_then text p) r
     unfolding and_then read_number

@@ -1,5 +1,5 @@
 -- Places in a text, and what is read from them. Assumes nothing.
-use Rattle.std.specs.Prelude.{ℕ, ◌+◌, ◌-◌, ◌*◌, ◌≤◌, Bool, true, false, cond, List, [], ◌≡◌, ltb, length, drop}
+use Rattle.std.specs.Prelude.{ℕ, ◌+◌, ◌-◌, ◌*◌, ◌≤◌, true, false, cond, List, [], ◌≡◌, ltb, length, drop}
 use Rattle.text.specs.Text.{value}
 use Rattle.aldebaran.specs.Form.{Reading, off, on, and_then, read_word, read_number, front}
 use Rattle.scan.specs.declared.Taken.{Taken}
@@ -19,11 +19,6 @@ word_then text p w = and_then (standing text p) (λ u xs. read_word w xs)
 
 abbrev pub number_then : List ℕ → Place → Reading ℕ
 number_then text p = and_then (standing text p) (λ u xs. read_number xs)
-
--- whether the text begins with the word from the place on, as r says
-abbrev pub WordAt : List ℕ → ℕ → List ℕ → Bool → Type 0
-WordAt text at w true = (at + length w ≤ length text) × (read_word w (drop at text) ≡ on [] (drop (at + length w) text))
-WordAt text at w false = read_word w (drop at text) ≡ off
 
 -- ---- numbers, cut off: every limit of a plan, and the number of lines of every text, is below `many`
 abbrev pub many : ℕ

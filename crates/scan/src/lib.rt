@@ -4,7 +4,7 @@
 
 ghost use Rattle.std.specs.Prelude.{true, false, ◌≡◌, ◌+◌, ◌≤◌, length, drop};
 ghost use Rattle.aldebaran.specs.Form.{is_digit, is_numeral, front};
-ghost use Rattle.scan.specs.Places.{Sound, standing, word_then, number_then, WordAt, more as moreOf, DigitsAt, Tells};
+ghost use Rattle.scan.specs.Places.{Sound, standing, word_then, number_then, more as moreOf, DigitsAt, Tells};
 
 // Every number from here on is cut off to this one.
 pub const MANY: usize = 10_000_000_000_000_000_000;
@@ -24,28 +24,13 @@ pub struct Taken {
 }
 
 // What was off the form.
-fn off() -> Place
-    ensures { result.on ≡ false }
+pub fn off() -> Taken
+    ensures { result.next.on ≡ false }
 {
-    Place { on: false, at: 0 }
-}
-
-// Whether the octets from a place on begin with a word.
-fn begins(text: &[u8], at: usize, word: &[u8]) -> bool
-    requires { at ≤ length text.now }
-    ensures { WordAt text.now at word.now result }
-{
-    if text.len() - at < word.len() {
-        return false;
+    Taken {
+        value: 0,
+        next: Place { on: false, at: 0 },
     }
-    let mut i = 0;
-    while i < word.len() {
-        if text[at + i] != word[i] {
-            return false;
-        }
-        i += 1;
-    }
-    true
 }
 
 // Reads a fixed word.
@@ -54,23 +39,15 @@ pub fn word(text: &[u8], from: Place, word: &[u8]) -> Place
     ensures { Sound text.now result × (standing text.now result ≡ word_then text.now from word.now) }
 {
     if !from.on {
-        return off();
+        return off().next;
     }
-    let at = from.at;
-    if !begins(text, at, word) {
-        return off();
+    if !text[from.at..].starts_with(word) {
+        return off().next;
     }
     Place {
         on: true,
-        at: at + word.len(),
+        at: from.at + word.len(),
     }
-}
-
-// Whether an octet is a digit.
-fn is_digit(x: u8) -> bool
-    ensures { result ≡ is_digit x }
-{
-    (48 <= x) & (x <= 57)
 }
 
 // A number with one digit more.
@@ -79,7 +56,7 @@ fn more(value: usize, digit: u8) -> usize
     ensures { result ≡ moreOf value digit }
 {
     if value < MANY / 10 {
-        10 * value + (digit - 48) as usize
+        10 * value + usize::from(digit - b'0')
     } else {
         MANY
     }
@@ -92,12 +69,8 @@ pub fn digits(text: &[u8], at: usize) -> Taken
 {
     let mut value = 0;
     let mut i = at;
-    while i < text.len() {
-        let x = text[i];
-        if !is_digit(x) {
-            break;
-        }
-        value = more(value, x);
+    while i < text.len() && text[i].is_ascii_digit() {
+        value = more(value, text[i]);
         i += 1;
     }
     Taken {
@@ -111,13 +84,7 @@ fn is_numeral(text: &[u8], at: usize, end: usize) -> bool
     requires { (at ≤ length text.now) × (end ≡ at + length (front (drop at text.now))) }
     ensures { result ≡ is_numeral (front (drop at text.now)) }
 {
-    if end <= at {
-        return false;
-    }
-    if end <= at + 1 {
-        return true;
-    }
-    text[at] != 48
+    at < end && (end == at + 1 || text[at] != b'0')
 }
 
 // Reads a number.
@@ -126,19 +93,11 @@ pub fn number(text: &[u8], from: Place) -> Taken
     ensures { Sound text.now result.next × Tells text.now (number_then text.now from) result }
 {
     if !from.on {
-        return Taken {
-            value: 0,
-            next: off(),
-        };
+        return off();
     }
-    let at = from.at;
-    let read = digits(text, at);
-    let next = read.next;
-    if !is_numeral(text, at, next.at) {
-        return Taken {
-            value: 0,
-            next: off(),
-        };
+    let read = digits(text, from.at);
+    if !is_numeral(text, from.at, read.next.at) {
+        return off();
     }
     read
 }

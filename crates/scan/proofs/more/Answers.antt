@@ -3,5 +3,5 @@ use native.Mathlib.Omega.{arith}
 use Rattle.aldebaran.proofs.Numbers.{is_digit-true}
 use Rattle.scan.proofs.more.Goals as goal
 
-pub overflow_sub-result : goal.overflow_sub-result
-overflow_sub-result c = omega (arith, is_digit-true c.args.digit c.requires)
+pub overflow_sub-digit : goal.overflow_sub-digit
+overflow_sub-digit c = omega (arith, is_digit-true c.args.digit c.requires)
