@@ -26,9 +26,7 @@ fn added(buffer: &mut [u8], at: usize, figure: Figure, j: u32) -> usize
     ensures { Put buffer.old at (added_text (meant figure) j) buffer.new result }
 {
     match figure {
-        Figure::Number(_) => at,
-        Figure::None => at,
-        Figure::Stranded => at,
+        Figure::Number(_) | Figure::None | Figure::Stranded => at,
         Figure::Endless => {
             let place = put_text::word(buffer, at, b" @");
             put_text::number(buffer, place, j)
@@ -41,12 +39,9 @@ pub fn line(buffer: &mut [u8], at: usize, which: Which, quote: Quote, walk: &[u1
     requires { SmallQuote quote × (quote.k ≤ length walk.now) × (at + length (line_of which quote walk.now) ≤ length buffer.old) }
     ensures { Put buffer.old at (line_of which quote walk.now) buffer.new result }
 {
-    let figure = quote.figure;
-    let k = quote.k;
-    let j = quote.j;
-    let headed = heading(buffer, at, which, figure);
-    let walked = put_text::list(buffer, headed, walk, k);
-    let ended = added(buffer, walked, figure, j as u32);
+    let headed = heading(buffer, at, which, quote.figure);
+    let walked = put_text::list(buffer, headed, walk, quote.k);
+    let ended = added(buffer, walked, quote.figure, quote.j as u32);
     put_text::word(buffer, ended, b"\n")
 }
 

@@ -14,10 +14,9 @@ fn put_figure(buffer: &mut [u8], at: usize, quote: Quote)
     requires { Within buffer.old at 22 × (value (meant quote.figure) < 2 ^ 20) }
     ensures { buffer.new ≡ put_all buffer.old at (figure_fields (meant quote.figure)) }
 {
-    let figure = quote.figure;
-    let kind = numbers::kind(figure);
-    let number = numbers::value(figure);
-    put_field::put(buffer, at, 2, kind as u32);
+    let kind = numbers::kind(quote.figure);
+    let number = numbers::value(quote.figure);
+    put_field::put(buffer, at, 2, u32::from(kind));
     put_field::put(buffer, at + 2, 20, number);
 }
 
@@ -27,12 +26,8 @@ pub fn put_record(buffer: &mut [u8], quotes: FourQuotes)
     requires which_bound { (which : Which) → value (meant (quote_of quotes which).figure) < 2 ^ 20 }
     ensures { buffer.new ≡ put_all buffer.old 0 (quotes_fields quotes) }
 {
-    let first = quotes.least_delay;
-    let second = quotes.greatest_delay;
-    let third = quotes.least_count;
-    let fourth = quotes.greatest_count;
-    put_figure(buffer, 0, first);
-    put_figure(buffer, 22, second);
-    put_figure(buffer, 44, third);
-    put_figure(buffer, 66, fourth);
+    put_figure(buffer, 0, quotes.least_delay);
+    put_figure(buffer, 22, quotes.greatest_delay);
+    put_figure(buffer, 44, quotes.least_count);
+    put_figure(buffer, 66, quotes.greatest_count);
 }

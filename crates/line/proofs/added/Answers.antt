@@ -1,4 +1,5 @@
 -- `line::added`: ENDLESS alone adds anything, two puts in a row. Assumes nothing.
+use mathlib.Core.Logic.{⊎_elim}
 use native.Mathlib.Omega.{arith}
 use Rattle.wording.specs.Lines.{added_text}
 use Rattle.text.specs.Text.{octets, digits}
@@ -19,15 +20,9 @@ number-requires c =
 
 pub returns-in-Number : goal.returns-in-Number
 unfolding octets added_text
-returns-in-Number c = rw c.in-Number.is (put-none c.args.buffer.now c.args.at)
-
-pub returns-in-None : goal.returns-in-None
-unfolding octets added_text
-returns-in-None c = rw c.in-None.is (put-none c.args.buffer.now c.args.at)
-
-pub returns-in-Stranded : goal.returns-in-Stranded
-unfolding octets added_text
-returns-in-Stranded c = rw c.in-Stranded.is (put-none c.args.buffer.now c.args.at)
+returns-in-Number c =
+    let nothing = put-none c.args.buffer.now c.args.at in
+    ⊎_elim (λ number. rw number.1 nothing) (λ other. ⊎_elim (λ none. rw none nothing) (λ stranded. rw stranded nothing) other) c.in-Number.is
 
 pub returns-in-Endless : goal.returns-in-Endless
 unfolding octets added_text

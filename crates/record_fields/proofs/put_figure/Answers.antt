@@ -9,5 +9,5 @@ pub returns : goal.returns
 unfolding put_all
 returns c =
     let a = c.args in
-    rw (← c.kind-kind.ensures, ← c.value-number.ensures)
+    rw (← c.kind-kind.ensures, ← c.from.ensures, ← c.value-number.ensures)
     (c.put-2.ensures ∙ ap (λ (b : List ℕ). with_field b (a.at + 2) 20 c.value-number.result) c.put.ensures)
