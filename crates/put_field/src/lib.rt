@@ -20,6 +20,6 @@ pub fn put(octets: &mut [u8], at: usize, width: usize, value: u32)
         octets,
         at / 8,
         end,
-        (((before << width) + value as u64) << after) + low,
+        (((before << width) + u64::from(value)) << after) + low,
     )
 }

@@ -56,14 +56,14 @@ overflow_add-before-2 c =
     let a = c.args in
     let k = known c.window-whole.result a.octets.now a.at a.width a.value c.requires.within c.requires.value_bound c.window-whole.ensures in
     let e = machine c.window-whole.result a.width (8 * end_of a.at a.width - (a.at + a.width)) a.value k.small k.part (omega arith) in
-    rw e (omega (arith, k.part))
+    rw (c.from.ensures, e) (omega (arith, k.part))
 
 pub returns : goal.returns
 returns c =
     let a = c.args in
     let k = known c.window-whole.result a.octets.now a.at a.width a.value c.requires.within c.requires.value_bound c.window-whole.ensures in
     let after : ℕ = 8 * end_of a.at a.width - (a.at + a.width) in
-    c.store.ensures
+    (rw c.from.ensures at c.store.ensures)
     ∙ ap (λ (n : ℕ). stored a.octets.now (a.at / 8) (end_of a.at a.width) n)
     (machine c.window-whole.result a.width after a.value k.small k.part (omega arith)
     ∙ ap (λ (n : ℕ). with_part n a.width after a.value) k.is)
