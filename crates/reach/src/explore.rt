@@ -27,11 +27,11 @@ fn descend(
         → Underway (arrays n m marks.now from to.now) out.now.head out.now.link table.old 0 done
         → Descended (arrays n m marks.now from to.now) table.old s result table.new }
 {
-    turns::enter(s, NONE as u16, 0, out, table);
+    table.enter(s, NONE as u16, 0, out);
     let mut d = 1;
     let mut left = done;
     while 0 < d {
-        match turns::turn(d, left, marks, to, out, table) {
+        match table.turn(d, left, marks, to, out) {
             Course::On { depth, left: count } => {
                 d = depth;
                 left = count;

@@ -27,59 +27,61 @@ pub enum Course {
     Back(usize),
 }
 
-// Enters a state: it goes on the stack at place d.
-pub fn enter(s: usize, by: u16, d: usize, out: &Chain, table: &mut Table)
-    requires { (s < 512) × (d < 512) }
-    ensures { (table.new.rank ≡ set table.old.rank s (513 + d)) × (table.new.cursor ≡ set table.old.cursor s (at out.now.head s))
-        × (table.new.stack ≡ set table.old.stack d s) × (table.new.via ≡ set table.old.via s by) × (table.new.order ≡ table.old.order) }
-{
-    table.rank[s] = (513 + d) as u16;
-    table.cursor[s] = out.head[s];
-    table.stack[d] = s as u16;
-    table.via[s] = by;
-}
+impl Table {
+    // Enters a state: it goes on the stack at place d.
+    pub fn enter(&mut self, s: usize, by: u16, d: usize, out: &Chain)
+        requires { (s < 512) × (d < 512) }
+        ensures { (self.new.rank ≡ set self.old.rank s (513 + d)) × (self.new.cursor ≡ set self.old.cursor s (at out.now.head s))
+            × (self.new.stack ≡ set self.old.stack d s) × (self.new.via ≡ set self.old.via s by) × (self.new.order ≡ self.old.order) }
+    {
+        self.rank[s] = (513 + d) as u16;
+        self.cursor[s] = out.head[s];
+        self.stack[d] = s as u16;
+        self.via[s] = by;
+    }
 
-// One turn at the state on top of the stack, with its cursor: leaves the state, passes a transition, or enters the state that it leads to.
-pub fn turn(
-    d: usize,
-    done: usize,
-    marks: &[u8; 512],
-    to: &[u16; 2048],
-    out: &Chain,
-    table: &mut Table,
-) -> Course
-    requires { (n m : ℕ) × (from : List ℕ) × (0 < d)
-        × Underway (arrays n m marks.now from to.now) out.now.head out.now.link table.old d done }
-    ensures { (n m : ℕ) (from : List ℕ)
-        → Underway (arrays n m marks.now from to.now) out.now.head out.now.link table.old d done
-        → Turned (arrays n m marks.now from to.now) table.old d result table.new }
-{
-    let s = usize::from(table.stack[d - 1]);
-    let t = usize::from(table.cursor[s]);
-    if t == NONE {
-        table.order[done] = s as u16;
-        table.rank[s] = (done + 1) as u16;
-        return Course::On {
-            depth: d - 1,
-            left: done + 1,
-        };
-    }
-    let v = usize::from(to[t]);
-    if !is_final(marks[v]) {
-        let r = usize::from(table.rank[v]);
-        if 512 < r {
-            let back = r - 513;
-            return Course::Back(back);
+    // One turn at the state on top of the stack, with its cursor: leaves the state, passes a transition, or enters the state that it leads to.
+    pub fn turn(
+        &mut self,
+        d: usize,
+        done: usize,
+        marks: &[u8; 512],
+        to: &[u16; 2048],
+        out: &Chain,
+    ) -> Course
+        requires { (n m : ℕ) × (from : List ℕ) × (0 < d)
+            × Underway (arrays n m marks.now from to.now) out.now.head out.now.link self.old d done }
+        ensures { (n m : ℕ) (from : List ℕ)
+            → Underway (arrays n m marks.now from to.now) out.now.head out.now.link self.old d done
+            → Turned (arrays n m marks.now from to.now) self.old d result self.new }
+    {
+        let s = usize::from(self.stack[d - 1]);
+        let t = usize::from(self.cursor[s]);
+        if t == NONE {
+            self.order[done] = s as u16;
+            self.rank[s] = (done + 1) as u16;
+            return Course::On {
+                depth: d - 1,
+                left: done + 1,
+            };
         }
-        if r == 0 {
-            enter(v, t as u16, d, out, table);
-            let depth = d + 1;
-            return Course::On { depth, left: done };
+        let v = usize::from(to[t]);
+        if !is_final(marks[v]) {
+            let r = usize::from(self.rank[v]);
+            if 512 < r {
+                let back = r - 513;
+                return Course::Back(back);
+            }
+            if r == 0 {
+                self.enter(v, t as u16, d, out);
+                let depth = d + 1;
+                return Course::On { depth, left: done };
+            }
         }
-    }
-    table.cursor[s] = out.link[t];
-    Course::On {
-        depth: d,
-        left: done,
+        self.cursor[s] = out.link[t];
+        Course::On {
+            depth: d,
+            left: done,
+        }
     }
 }

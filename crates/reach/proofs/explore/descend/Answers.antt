@@ -22,7 +22,7 @@ turn-requires c =
     let begun : (n m : ℕ) (from : List ℕ) → c.args.s < n → Going n m from c.args.table.now 0 → Going n m from after 1 =
     λ n m from l u. let p = c.requires.start_in in
     record { linked = u.linked; sized = enter_sized u _ none l p.1; search = enter_start u _ l p.1 p.0 } in
-    let entered : (n m : ℕ) (from : List ℕ) → c.args.s < n → Going n m from c.args.table.now 0 → Going n m from c.enter.new.table 1 =
+    let entered : (n m : ℕ) (from : List ℕ) → c.args.s < n → Going n m from c.args.table.now 0 → Going n m from c.enter.new.self 1 =
     λ n m from l u. let e = c.enter.ensures in
     rw (same_table _ _ e.0 e.1 e.2 e.4 e.3) (begun n m from l u) in
     let p = c.requires.by_index in
@@ -37,7 +37,7 @@ loop-d-smaller c =
     let begun : (n m : ℕ) (from : List ℕ) → c.args.s < n → Going n m from c.args.table.now 0 → Going n m from after 1 =
     λ n m from l u. let p = c.requires.start_in in
     record { linked = u.linked; sized = enter_sized u _ none l p.1; search = enter_start u _ l p.1 p.0 } in
-    let entered : (n m : ℕ) (from : List ℕ) → c.args.s < n → Going n m from c.args.table.now 0 → Going n m from c.enter.new.table 1 =
+    let entered : (n m : ℕ) (from : List ℕ) → c.args.s < n → Going n m from c.args.table.now 0 → Going n m from c.enter.new.self 1 =
     λ n m from l u. let e = c.enter.ensures in
     rw (same_table _ _ e.0 e.1 e.2 e.4 e.3) (begun n m from l u) in
     let p = c.requires.by_index in
@@ -60,7 +60,7 @@ returns-in-Back c =
     let begun : (n m : ℕ) (from : List ℕ) → c.args.s < n → Going n m from c.args.table.now 0 → Going n m from after 1 =
     λ n m from l u. let p = c.requires.start_in in
     record { linked = u.linked; sized = enter_sized u _ none l p.1; search = enter_start u _ l p.1 p.0 } in
-    let entered : (n m : ℕ) (from : List ℕ) → c.args.s < n → Going n m from c.args.table.now 0 → Going n m from c.enter.new.table 1 =
+    let entered : (n m : ℕ) (from : List ℕ) → c.args.s < n → Going n m from c.args.table.now 0 → Going n m from c.enter.new.self 1 =
     λ n m from l u. let e = c.enter.ensures in
     rw (same_table _ _ e.0 e.1 e.2 e.4 e.3) (begun n m from l u) in
     λ n m from b u.
@@ -76,7 +76,7 @@ returns c =
     let begun : (n m : ℕ) (from : List ℕ) → c.args.s < n → Going n m from c.args.table.now 0 → Going n m from after 1 =
     λ n m from l u. let p = c.requires.start_in in
     record { linked = u.linked; sized = enter_sized u _ none l p.1; search = enter_start u _ l p.1 p.0 } in
-    let entered : (n m : ℕ) (from : List ℕ) → c.args.s < n → Going n m from c.args.table.now 0 → Going n m from c.enter.new.table 1 =
+    let entered : (n m : ℕ) (from : List ℕ) → c.args.s < n → Going n m from c.args.table.now 0 → Going n m from c.enter.new.self 1 =
     λ n m from l u. let e = c.enter.ensures in
     rw (same_table _ _ e.0 e.1 e.2 e.4 e.3) (begun n m from l u) in
     let e = c.enter.ensures.0 in
