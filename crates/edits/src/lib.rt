@@ -3,11 +3,53 @@
 #![tactic(auto)]
 
 ghost use Rattle.arrays.specs.Tables.{transition};
-ghost use Rattle.rules.specs.Calls.{mark, team, join, unjoin, replacing};
+ghost use Rattle.graph.specs.Graph.{Graph};
+ghost use Rattle.plan.specs.View.{no_plan};
+ghost use Rattle.rules.specs.Refusal.{Result};
+ghost use Rattle.rules.specs.Calls.{Call, mark, team, join, unjoin, replacing};
 ghost use Rattle.slices.specs.Lent.{slices};
-ghost use Rattle.edits.specs.Lent.{LentFresh, LentGenerate, LentHeld, LentTurn};
+ghost use Rattle.edits.specs.Lent.{LentEdit, LentFresh, LentGenerate, LentHeld, LentTurn, IsCall, IsMade};
 
+use plan::{Edited, Plan};
 use rules::Format;
+
+// A plan that is made from nothing, stored.
+fn made<F: FnOnce() -> Edited>(
+    counts: &mut [usize],
+    states: &mut [u8],
+    fields: &mut [u16],
+    make: F,
+) -> u32
+    requires { F.IsAlwaysCallable make }
+    ensures { (o : Result Graph) → IsMade (F.post make) o
+        → LentEdit no_plan (slices counts.old states.old fields.old)
+        (slices counts.new states.new fields.new) o result }
+{
+    if !slices::has_room(counts.len(), states.len(), fields.len()) {
+        return 255;
+    }
+    slices::finish(make(), counts, states, fields)
+}
+
+// The plan that the slices hold, changed and stored.
+fn changed<F: FnOnce(Plan) -> Edited>(
+    counts: &mut [usize],
+    states: &mut [u8],
+    fields: &mut [u16],
+    change: F,
+) -> u32
+    requires callable { F.IsAlwaysCallable change }
+    requires is_call { (call : Call) × IsCall (F.post change) call }
+    ensures { (call : Call) → IsCall (F.post change) call
+        → LentTurn (slices counts.old states.old fields.old)
+        (slices counts.new states.new fields.new) call result }
+{
+    if !slices::has_room(counts.len(), states.len(), fields.len()) {
+        return 255;
+    }
+    let edited = change(slices::load(counts, states, fields));
+    slices::update(edited, counts, states, fields)
+}
 
 // A fresh plan with n states.
 pub fn fresh(n: usize, counts: &mut [usize], states: &mut [u8], fields: &mut [u16]) -> u32
@@ -15,10 +57,7 @@ pub fn fresh(n: usize, counts: &mut [usize], states: &mut [u8], fields: &mut [u1
         (slices counts.old states.old fields.old)
         (slices counts.new states.new fields.new) result }
 {
-    if !slices::has_room(counts.len(), states.len(), fields.len()) {
-        return 255;
-    }
-    slices::finish(plan::fresh(n), counts, states, fields)
+    made(counts, states, fields, || plan::fresh(n))
 }
 
 // The plan of n states and m transitions that a seed makes.
@@ -34,10 +73,7 @@ pub fn generate(
         (slices counts.old states.old fields.old)
         (slices counts.new states.new fields.new) result }
 {
-    if !slices::has_room(counts.len(), states.len(), fields.len()) {
-        return 255;
-    }
-    slices::finish(generation::generate(seed, n, m), counts, states, fields)
+    made(counts, states, fields, || generation::generate(seed, n, m))
 }
 
 // The plan that an image holds, whatever the slices held before.
@@ -46,10 +82,7 @@ pub fn from_image(octets: &[u8], counts: &mut [usize], states: &mut [u8], fields
         (slices counts.old states.old fields.old)
         (slices counts.new states.new fields.new) result }
 {
-    if !slices::has_room(counts.len(), states.len(), fields.len()) {
-        return 255;
-    }
-    slices::finish(plan::held(octets), counts, states, fields)
+    made(counts, states, fields, || plan::held(octets))
 }
 
 // Makes a state's marks value the value given.
@@ -64,12 +97,12 @@ pub fn mark(
         (slices counts.new states.new fields.new)
         (mark state value) result }
 {
-    if !slices::has_room(counts.len(), states.len(), fields.len()) {
-        return 255;
-    }
-    let plan = slices::load(counts, states, fields);
-    let edited = plan::mark(plan, state, value);
-    slices::update(edited, counts, states, fields)
+    changed(
+        counts,
+        states,
+        fields,
+        |plan| plan::mark(plan, state, value),
+    )
 }
 
 // Makes a state's team the team given.
@@ -84,12 +117,12 @@ pub fn team(
         (slices counts.new states.new fields.new)
         (team state number) result }
 {
-    if !slices::has_room(counts.len(), states.len(), fields.len()) {
-        return 255;
-    }
-    let plan = slices::load(counts, states, fields);
-    let edited = plan::team(plan, state, number);
-    slices::update(edited, counts, states, fields)
+    changed(
+        counts,
+        states,
+        fields,
+        |plan| plan::team(plan, state, number),
+    )
 }
 
 // Puts a transition at the end of the list.
@@ -106,12 +139,12 @@ pub fn join(
         (slices counts.new states.new fields.new)
         (join (transition from to low high)) result }
 {
-    if !slices::has_room(counts.len(), states.len(), fields.len()) {
-        return 255;
-    }
-    let plan = slices::load(counts, states, fields);
-    let edited = plan::join(plan, from, to, low, high);
-    slices::update(edited, counts, states, fields)
+    changed(
+        counts,
+        states,
+        fields,
+        |plan| plan::join(plan, from, to, low, high),
+    )
 }
 
 // Takes a transition out of the list.
@@ -120,12 +153,7 @@ pub fn unjoin(counts: &mut [usize], states: &mut [u8], fields: &mut [u16], numbe
         (slices counts.new states.new fields.new)
         (unjoin number) result }
 {
-    if !slices::has_room(counts.len(), states.len(), fields.len()) {
-        return 255;
-    }
-    let plan = slices::load(counts, states, fields);
-    let edited = plan::unjoin(plan, number);
-    slices::update(edited, counts, states, fields)
+    changed(counts, states, fields, |plan| plan::unjoin(plan, number))
 }
 
 // Reads an image or imports a text, in place of the plan.
@@ -140,10 +168,10 @@ pub fn replace(
         (slices counts.new states.new fields.new)
         (replacing format octets.now) result }
 {
-    if !slices::has_room(counts.len(), states.len(), fields.len()) {
-        return 255;
-    }
-    let plan = slices::load(counts, states, fields);
-    let edited = plan::replace(plan, format, octets);
-    slices::update(edited, counts, states, fields)
+    changed(
+        counts,
+        states,
+        fields,
+        |plan| plan::replace(plan, format, octets),
+    )
 }
