@@ -5,10 +5,8 @@ use Rattle.graph.specs.Figure.{Figure, kind, value}
 use Rattle.graph.specs.Which.{in_turn}
 use Rattle.rules.specs.declared.Quote.{Quote}
 use Rattle.rules.specs.declared.FourQuotes.{FourQuotes}
-use Rattle.rules.specs.declared.Quotation.{Quotation}
-use Rattle.rules.specs.declared.Quotation.TheVariants.{Quoted, Refused}
-use Rattle.rules.specs.declared.Quotations.{Quotations}
-use Rattle.rules.specs.declared.Quotations.TheVariants.{Quoted as AllQuoted, Refused as NoneQuoted}
+use Rattle.rules.specs.Answer.{Quotation, Quotations}
+use Rattle.std.specs.Prelude.{Ok, Err}
 use Rattle.rules.specs.Quotations.{SmallQuote, quote_of, meant}
 use Rattle.rules.specs.Refusal.{Result, accepted, refused, number}
 use Rattle.arrays.specs.Tables.{over}
@@ -29,31 +27,31 @@ four_numbers q = in_turn (λ which. numbers_of (quote_of q which))
 
 -- k and j of a quotation that is not refused are small enough for the places of an answer, and there are places for its numbers
 abbrev pub Small : Quotation → Type 0
-Small r = (q : Quote) → r ≡ Quoted q → SmallQuote q
+Small r = (q : Quote) → r ≡ Ok q → SmallQuote q
 
 abbrev pub Fits : Quotation → List ℕ → Type 0
-Fits r out = (q : Quote) → r ≡ Quoted q → 4 ≤ length out
+Fits r out = (q : Quote) → r ≡ Ok q → 4 ≤ length out
 
 -- the same of four
 abbrev pub FourSmall : FourQuotes → Type 0
 FourSmall q = (which : Which) → SmallQuote (quote_of q which)
 
 abbrev pub AllSmall : Quotations → Type 0
-AllSmall r = (q : FourQuotes) → r ≡ AllQuoted q → FourSmall q
+AllSmall r = (q : FourQuotes) → r ≡ Ok q → FourSmall q
 
 abbrev pub AllFit : Quotations → List ℕ → Type 0
-AllFit r out = (q : FourQuotes) → r ≡ AllQuoted q → 16 ≤ length out
+AllFit r out = (q : FourQuotes) → r ≡ Ok q → 16 ≤ length out
 
 -- ---- what it leaves
 
 -- the numbers of a quotation, or of four, that is not refused
 abbrev pub numbers_in : Quotation → Result (List ℕ)
-numbers_in (Quoted q) = accepted (numbers_of q)
-numbers_in (Refused k) = refused k
+numbers_in (Ok q) = accepted (numbers_of q)
+numbers_in (Err k) = refused k
 
 abbrev pub all_numbers_in : Quotations → Result (List ℕ)
-all_numbers_in (AllQuoted q) = accepted (four_numbers q)
-all_numbers_in (NoneQuoted k) = refused k
+all_numbers_in (Ok q) = accepted (four_numbers q)
+all_numbers_in (Err k) = refused k
 
 -- the numbers at the front of the places, or after a refusal every place as it was
 abbrev pub Answered : Result (List ℕ) → List ℕ → List ℕ → ℕ → Type 0

@@ -8,7 +8,7 @@ ghost use Rattle.rules.specs.Quotations.{SmallQuote};
 ghost use Rattle.answers.specs.Answered.{numbers_of, four_numbers, Small, Fits, FourSmall, AllSmall, AllFit, numbers_in, all_numbers_in, Answered};
 ghost use Rattle.answers.specs.Handed.{Handed};
 
-use rules::{FourQuotes, Quotation, Quotations, Quote};
+use rules::{FourQuotes, Quote, Refusal};
 
 // Puts the four numbers of a quote into a slice, from a place on.
 fn put_quote(quote: Quote, out: &mut [u32], at: usize)
@@ -28,16 +28,16 @@ fn put_quote(quote: Quote, out: &mut [u32], at: usize)
 }
 
 // Puts the numbers of an accepted quotation at the front of a slice, and gives the number of its answer.
-pub fn one(quotation: Quotation, out: &mut [u32]) -> u32
+pub fn one(quotation: Result<Quote, Refusal>, out: &mut [u32]) -> u32
     requires { Small quotation × Fits quotation out.old }
     ensures { Answered (numbers_in quotation) out.old out.new result }
 {
     match quotation {
-        Quotation::Quoted(quote) => {
+        Ok(quote) => {
             put_quote(quote, out, 0);
             256
         }
-        Quotation::Refused(r) => numbers::number(r),
+        Err(r) => numbers::number(r),
     }
 }
 
@@ -58,16 +58,16 @@ pub fn put_quotes(quotes: FourQuotes, out: &mut [u32])
 }
 
 // Puts the numbers of four accepted quotations at the front of a slice, and gives the number of their answer.
-pub fn four(quotations: Quotations, out: &mut [u32]) -> u32
+pub fn four(quotations: Result<FourQuotes, Refusal>, out: &mut [u32]) -> u32
     requires { AllSmall quotations × AllFit quotations out.old }
     ensures { Answered (all_numbers_in quotations) out.old out.new result }
 {
     match quotations {
-        Quotations::Quoted(quotes) => {
+        Ok(quotes) => {
             put_quotes(quotes, out);
             256
         }
-        Quotations::Refused(r) => numbers::number(r),
+        Err(r) => numbers::number(r),
     }
 }
 

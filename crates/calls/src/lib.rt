@@ -10,7 +10,7 @@ ghost use Rattle.calls.specs.Rows.{replay_rule, asked};
 ghost use Rattle.calls.specs.Slices.{is_one, is_call, item_at, are_calls};
 
 use arrays::limits;
-use rules::{Answer, Refusal};
+use rules::Refusal;
 
 // Whether a part lies within so many octets.
 fn part_ok(start: usize, end: usize, long: usize) -> bool
@@ -55,31 +55,31 @@ fn are_calls(kinds: &[u8], arguments: &[usize], octets: &[u8]) -> bool
 }
 
 // Whether a list of calls from a fresh plan of n states is refused: n, then the places for its answers, those for the walks, and those for the figures.
-fn rows(n: usize, kinds: &[u8], answers: &[u32], walks: &[u16], out: &[u32]) -> Answer
+fn rows(n: usize, kinds: &[u8], answers: &[u32], walks: &[u16], out: &[u32]) -> Result<(), Refusal>
     ensures { said result ≡ replay_rule n kinds.now answers.now walks.now out.now }
 {
     if !limits::state_count_ok(n) {
-        return Answer::Refused(Refusal::StateCount);
+        return Err(Refusal::StateCount);
     }
     if answers.len() < kinds.len() {
-        return Answer::Refused(Refusal::BufferLength);
+        return Err(Refusal::BufferLength);
     }
     if walks.len() < 2048 {
-        return Answer::Refused(Refusal::BufferLength);
+        return Err(Refusal::BufferLength);
     }
     if out.len() < 16 {
-        return Answer::Refused(Refusal::BufferLength);
+        return Err(Refusal::BufferLength);
     }
-    Answer::Accepted
+    Ok(())
 }
 
 // An answer as one number: 256 for accepted, or the refusal's.
-fn code(answer: Answer) -> u32
+fn code(answer: Result<(), Refusal>) -> u32
     ensures { result ≡ code_of (said answer) }
 {
     match answer {
-        Answer::Accepted => 256,
-        Answer::Refused(r) => numbers::number(r),
+        Ok(()) => 256,
+        Err(r) => numbers::number(r),
     }
 }
 

@@ -1,8 +1,8 @@
 -- A plan in three lent slices: the two counts; the states, 512 marks values and 512 teams; and the transitions' fields. Document 01, "Choosing the form by
 -- place": the plan value that they hold, and the slices with one stored. Assumes nothing.
 use Rattle.std.specs.Prelude.{Bool, ◌&&◌, List, [], ◌∷◌, ◌++◌, ◌≡◌, ℕ, ◌≤◌, leb, length, get_or, take, drop}
-use Rattle.rules.specs.declared.Answer.{Answer}
-use Rattle.rules.specs.declared.Answer.TheVariants.{Accepted, Refused}
+use Rattle.rules.specs.Answer.{Accepted, Answer}
+use Rattle.std.specs.Prelude.{Ok, Err}
 use Rattle.rules.specs.Refusal.{number}
 use Rattle.arrays.specs.Tables.{over}
 use Rattle.plan.specs.declared.Plan.{Plan}
@@ -59,8 +59,8 @@ storing p s =
 
 -- what is left in the slices by an answer with a plan value: an accepted one stores it, and a refusal leaves every place
 abbrev pub Finished : Answer → Plan → Slices → Slices → ℕ → Type 0
-Finished Accepted p before after r = (r ≡ 256) × (after ≡ storing p before) × (plan_in after ≡ p)
-Finished (Refused k) p before after r = (r ≡ number k) × (after ≡ before)
+Finished (Ok _) p before after r = (r ≡ 256) × (after ≡ storing p before) × (plan_in after ≡ p)
+Finished (Err k) p before after r = (r ≡ number k) × (after ≡ before)
 
 -- a plan value within a plan's counts that has, past its own, what stands there in the slices
 pub record SameLater (p : Plan) (s : Slices) : Type 0 where

@@ -9,7 +9,6 @@ ghost use Rattle.std.proofs.Math.Seq.{paste};
 ghost use Rattle.slices.specs.Lent.{Roomy, roomy, lent_plan, plan_in, slices, storing, Finished, Updates};
 
 use plan::{Edited, Plan};
-use rules::Answer;
 
 // Whether three lent slices have the places of a plan.
 pub fn has_room(counts: usize, states: usize, fields: usize) -> bool
@@ -79,12 +78,12 @@ pub fn finish(edited: Edited, counts: &mut [usize], states: &mut [u8], fields: &
 {
     let answer = edited.answer;
     match answer {
-        Answer::Accepted => {
+        Ok(()) => {
             let plan = edited.plan;
             store(plan, counts, states, fields);
             256
         }
-        Answer::Refused(r) => numbers::number(r),
+        Err(r) => numbers::number(r),
     }
 }
 
@@ -97,7 +96,7 @@ pub fn update(edited: Edited, counts: &mut [usize], states: &mut [u8], fields: &
         (slices counts.new states.new fields.new) result }
 {
     let answer = edited.answer;
-    if let Answer::Refused(r) = answer {
+    if let Err(r) = answer {
         return numbers::number(r);
     }
     let n = edited.plan.states;

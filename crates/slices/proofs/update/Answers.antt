@@ -5,7 +5,7 @@ use mathlib.Core.List.{List}
 use mathlib.Core.Path.{◌≡◌, refl, ap, ◌∙◌}
 use borrow.Author.Rules.{rules}
 use lib.Seq.{paste}
-use Rattle.rules.specs.declared.Answer.{Answer}
+use Rattle.rules.specs.Answer.{Accepted}
 use Rattle.plan.specs.Laws.{Sized}
 use Rattle.slices.specs.Lent.{slices, SameLater}
 use Rattle.slices.proofs.Fronts.{fronts_stored}
@@ -25,7 +25,7 @@ returns c =
     let a = c.args in
     let p = a.edited.plan in
     let P : List ℕ → ℕ → List ℕ → List ℕ = λ d at s. paste d at s p.transitions in
-    let e : a.edited.answer ≡ Answer.Accepted = c.in_default.is in
+    let e : a.edited.answer ≡ Accepted = c.in_default.is in
     let w = fronts_stored p (sized (goal.at.returns c).Start) a.counts.now a.states.now a.fields.now c.requires.0 (later (goal.at.returns c).In_default) c.put-2.new.places c.put-6.new.places
     (c.put-2.ensures ∙ ap (λ (d : List ℕ). paste d 512 p.teams p.states) c.put.ensures)
     (c.put-6.ensures
