@@ -8,8 +8,8 @@ use Prim.Native.Nat.{ℕ}
 use lib.ListN.{length, drop, length-map}
 use lib.Seq.{drop_at}
 use Rattle.graph.specs.Graph.{Graph, State, Transition, states, count}
-use Rattle.rules.specs.declared.Answer.{Answer}
-use Rattle.rules.specs.declared.Answer.TheVariants.{Accepted, Refused}
+use Rattle.rules.specs.Answer.{Answer}
+use Rattle.std.proofs.Common.{Ok, Err}
 use Rattle.rules.specs.Calls.{Call, step}
 use Rattle.rules.specs.Refusal.{Result, accepted, refused, answer_of, said, code}
 use Rattle.rules.specs.Limits.{within}
@@ -32,7 +32,7 @@ code_of (refused k) r e = ap code e
 
 by_answer : (a : Answer) (p q : Plan) (s s' : Slices) (o : Result Graph) (r : ℕ) → has_room s ≡ true → said a ≡ answer_of o
     → ((g : Graph) → o ≡ accepted g → (view q ≡ g) × (q ≡ laid p g)) → Finished a q s s' r → LentEdit p s s' o r
-by_answer Accepted p q s s' o r room e v f =
+by_answer (Ok _) p q s s' o r room e v f =
     let g = accepted_as o e in
     let w = v g.0 g.1 in
     record {
@@ -41,7 +41,7 @@ by_answer Accepted p q s s' o r room e v f =
       plan = λ h. ap view f.2 ∙ w.0 ∙ sym (ap (next (view (plan_in s))) g.1);
       whole = λ h. f.1 ∙ ap (λ (x : Plan). storing x s) w.1 ∙ sym (ap (next_slices p s) g.1);
     }
-by_answer (Refused k) p q s s' o r room e v f =
+by_answer (Err k) p q s s' o r room e v f =
     let g = refused_as o k e in
     record {
       short = λ h. true-false (has_room s) room h;
@@ -59,8 +59,8 @@ finished p s s' o e r room x f =
 
 value_of : (a : Answer) (q : Plan) (s t : Slices) (o : Result Graph) (r : ℕ) → said a ≡ answer_of o → q ≡ next_value (plan_in s) o → Finished a q s t r
     → plan_in t ≡ next_value (plan_in s) o
-value_of Accepted q s t o r e w f = f.2 ∙ w
-value_of (Refused k) q s t o r e w f = ap plan_in f.1 ∙ ap (next_value (plan_in s)) (sym (refused_as o k e))
+value_of (Ok _) q s t o r e w f = f.2 ∙ w
+value_of (Err k) q s t o r e w f = ap plan_in f.1 ∙ ap (next_value (plan_in s)) (sym (refused_as o k e))
 
 pub turned : (call : Call) (p : Plan) (s t : Slices) (e : Edited) (r : ℕ) → has_room s ≡ true → p ≡ plan_in s → Turn p call e
     → Finished e.answer e.plan s t r → LentTurn s t call r
