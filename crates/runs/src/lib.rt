@@ -21,9 +21,7 @@ pub fn in_turn(
         (slices counts.old states.old fields.old)
         (slices counts.new states.new fields.new) }
 {
-    let mut turn = 0;
-    while turn < kinds.len() {
+    for turn in 0..kinds.len() {
         answers[turn] = item::obey(turn, kinds, arguments, octets, counts, states, fields);
-        turn += 1;
     }
 }

@@ -1,5 +1,5 @@
 -- `runs::in_turn`. The invariant: slices and answers are those after the calls passed (`LentAfter`), none at first (`lent_none`); a turn is one call more, by
--- the promise of `obey` (`lent-more`). The measure is what is left of the kinds. Assumes nothing.
+-- the promise of `obey` (`lent-more`). Assumes nothing.
 use Prim.Native.Nat.{ℕ}
 use mathlib.Core.List.{map}
 use mathlib.Core.Path.{◌≡◌, refl, ap, ◌∙◌}

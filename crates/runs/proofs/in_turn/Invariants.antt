@@ -1,6 +1,6 @@
 -- `runs::in_turn`. The invariant: slices and answers are those after the calls passed (`LentAfter`), none at first (`lent_none`); a turn is one call more, by
--- the promise of `obey` (`lent-more`). The measure is what is left of the kinds. Assumes nothing.
-use Prim.Native.Nat.{◌-◌, ◌≤◌}
+-- the promise of `obey` (`lent-more`). Assumes nothing.
+use Prim.Native.Nat.{◌≤◌}
 use mathlib.Core.Path.{◌≡◌}
 use lib.ListN.{length}
 use Rattle.calls.specs.Slices.{call_in, item_at}
@@ -12,6 +12,3 @@ abbrev pub invariant-loop-turn : goal.invariant-loop-turn
 invariant-loop-turn l =
     (l.turn ≤ length l.kinds) × (length l.answers ≡ length l.initial.answers) × (length l.counts ≡ length l.initial.counts) × (length l.states ≡ length l.initial.states) × (length l.fields ≡ length l.initial.fields)
     × LentAfter (λ k. call_in l.octets (item_at l.kinds l.arguments k)) l.initial.answers (slices l.initial.counts l.initial.states l.initial.fields) l.turn l.answers (slices l.counts l.states l.fields)
-
-abbrev pub decreases-loop-turn : goal.decreases-loop-turn
-decreases-loop-turn l = length l.kinds - l.turn
