@@ -7,3 +7,10 @@ pub mod limits;
 pub const START: u8 = 4;
 
 pub const FINAL: u8 = 2;
+
+// How many states and transitions the arrays hold.
+#[derive(Clone, Copy)]
+pub struct Counts {
+    pub states: usize,
+    pub transitions: usize,
+}

@@ -6,33 +6,28 @@ ghost use Rattle.header.specs.Header.{HeaderRead};
 
 use rules::Refusal;
 
-// What a header says: whether the image is refused by it, its version, and the two counts.
+// What a header says: its version, and the two counts.
 #[derive(Drop)]
 pub struct Heading {
-    pub answer: Result<(), Refusal>,
     pub version: usize,
     pub states: usize,
     pub transitions: usize,
 }
 
 // Reads the header, 32 bits, and adds what it takes to the count.
-pub fn header(octets: &[u8], at: &mut usize, taken: &mut usize) -> Heading
+pub fn header(octets: &[u8], at: &mut usize, taken: &mut usize) -> Result<Heading, Refusal>
     requires { (at.old ≡ 0) × (taken.old + 32 < 2 ^ 32) }
     ensures { HeaderRead octets.now at.new taken.old taken.new result }
 {
     if octets.len() < 4 {
-        return Heading {
-            answer: Err(Refusal::ImageShort),
-            version: 0,
-            states: 0,
-            transitions: 0,
-        };
+        return Err(Refusal::ImageShort);
     }
     let fields = image_fields::header(octets, at, taken);
-    Heading {
+    let heading = Heading {
         version: fields.first,
         states: fields.second,
         transitions: fields.third,
-        answer: header_grounds::grounds(octets, fields),
-    }
+    };
+    header_grounds::grounds(octets, fields)?;
+    Ok(heading)
 }

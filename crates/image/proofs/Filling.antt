@@ -7,13 +7,12 @@ use Prim.Native.Nat.{ℕ}
 use native.Mathlib.Omega.{arith}
 use borrow.Author.Tests.{le-ltb}
 use lib.ListN.{length}
-use Rattle.rules.specs.Answer.{Accepted, Answer}
-use Rattle.std.proofs.Common.{Ok, Err}
 use Rattle.rules.specs.declared.Refusal.{Refusal}
 use Rattle.rules.specs.Image.{tabulate, state_count_of, transition_count_of, state_at, state_place, transition_at, transition_place, graph_in}
 use Rattle.rules.specs.Image.{header_rows, state_rows, image_rows, read_image}
 use Rattle.taken.specs.Taken.{listed_rows, past_header, past_states, past_transitions, bits_taken}
-use Rattle.rules.specs.Refusal.{accepted, refused, said, came}
+use Rattle.rules.specs.Refusal.{accepted, refused}
+use Rattle.image.specs.Read.{states_in, transitions_in}
 use Rattle.rules.specs.Table.{Row, by_table, first, by_number, NoneHolds}
 use Rattle.rules.proofs.ReadWrite.{Header, clear_header}
 use Rattle.taken.proofs.Taken.{items_all, at-states, at-transitions}
@@ -43,6 +42,16 @@ pub record Head (os : List ℕ) (n m : ℕ) : Type 0 where
 
 pub header : (os : List ℕ) (n m : ℕ) → Head os n m → Header os
 header os n m h = clear_header os (clear (header_rows os) h.rows)
+
+-- so the counts that may stand in the arrays are the image's, and none beside a refusal of the header
+pub none-counted : (os : List ℕ) (r : Refusal) → first (header_rows os) ≡ refused r → (states_in os ≡ 0) × (transitions_in os ≡ 0)
+none-counted os r e = (rw e refl, rw e refl)
+
+pub states-counted : (os : List ℕ) (n m : ℕ) → Head os n m → n ≡ states_in os
+states-counted os n m h = rw h.rows h.states
+
+pub transitions-counted : (os : List ℕ) (n m : ℕ) → Head os n m → m ≡ transitions_in os
+transitions-counted os n m h = rw h.rows h.transitions
 
 module _ (os : List ℕ) (n m : ℕ) (h : Head os n m) where
   S : List Row
@@ -87,11 +96,11 @@ module _ (os : List ℕ) (n m : ℕ) (h : Head os n m) where
     past-states : read_image os ≡ by_table T (graph_in os)
     past-states = past-header ∙ after_none S T (graph_in os) (clear S (same-states ∙ s))
 
-    by_transitions : (r : Refusal) → first (transitions_rows os n m) ≡ refused r → read_image os ≡ refused r
+    pub by_transitions : (r : Refusal) → first (transitions_rows os n m) ≡ refused r → read_image os ≡ refused r
     by_transitions r e =
         past-states ∙ ap (λ (rows : List Row). by_table rows (graph_in os)) (sym (append-nil T)) ∙ after-refused T [] (graph_in os) r (same-transitions ∙ e)
 
-    by_none : (marks teams from to low high : List ℕ) → first (transitions_rows os n m) ≡ accepted tt
+    pub by_none : (marks teams from to low high : List ℕ) → first (transitions_rows os n m) ≡ accepted tt
         → states_of n marks teams ≡ tabulate n (λ i. state_at os (state_place i))
         → transitions_of m from to low high ≡ tabulate m (λ i. transition_at os (transition_place n i))
         → read_image os ≡ accepted (graph_of n m marks teams from to low high)
@@ -102,11 +111,3 @@ module _ (os : List ℕ) (n m : ℕ) (h : Head os n m) where
           state_list = sym (es ∙ ap (λ (k : ℕ). tabulate k (λ i. state_at os (state_place i))) h.states) i;
           transitions = sym (et ∙ ap₂ (λ (k j : ℕ). tabulate j (λ i. transition_at os (transition_place k i))) h.states h.transitions) i;
         })
-
-    -- so the answer of the transitions is the image's
-    pub by_answer : (a : Answer) (marks teams from to low high : List ℕ) → said a ≡ first (transitions_rows os n m)
-        → states_of n marks teams ≡ tabulate n (λ i. state_at os (state_place i))
-        → (a ≡ Accepted → transitions_of m from to low high ≡ tabulate m (λ i. transition_at os (transition_place n i)))
-        → came a (graph_of n m marks teams from to low high) ≡ read_image os
-    by_answer (Ok _) marks teams from to low high t es et = sym (by_none marks teams from to low high (sym t) es (et refl))
-    by_answer (Err r) marks teams from to low high t es et = sym (by_transitions r (sym t))

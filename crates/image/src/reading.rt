@@ -8,17 +8,9 @@ ghost use Rattle.image.specs.Read.{StatesRead, TransitionsRead, Fills};
 ghost use Rattle.image.specs.Values.{meant};
 
 use crate::Transition;
-use arrays::{FINAL, START};
+use arrays::{Counts, FINAL, START};
 use field::Four;
 use rules::Refusal;
-
-// What came of an image: the answer, and the counts of the states and transitions in the arrays.
-#[derive(Drop)]
-pub struct Filled {
-    pub answer: Result<(), Refusal>,
-    pub states: usize,
-    pub transitions: usize,
-}
 
 // The marks value of three fields of one bit.
 fn marks_of(fields: Four) -> u8
@@ -110,7 +102,7 @@ fn transitions(
     Ok(())
 }
 
-// Reads an image into arrays, and adds the bits that it takes to the count; places past the counts stay.
+// Reads an image into arrays, adds the bits that it takes to the count, and returns the counts of the states and transitions; places past the counts stay.
 pub fn fill(
     octets: &[u8],
     taken: &mut usize,
@@ -120,7 +112,7 @@ pub fn fill(
     to: &mut [u16; 2048],
     low: &mut [u16; 2048],
     high: &mut [u16; 2048],
-) -> Filled
+) -> Result<Counts, Refusal>
     requires { (taken.old < 2 ^ 30) × (512 ≤ length marks.old) × (512 ≤ length teams.old) × (2048 ≤ length from.old) × (2048 ≤ length to.old)
         × (2048 ≤ length low.old) × (2048 ≤ length high.old) }
     ensures { Fills octets.now taken.old taken.new marks.old marks.new teams.old teams.new
@@ -129,29 +121,13 @@ pub fn fill(
 {
     let mut position = 0;
     let at = &mut position;
-    let heading = header::header(octets, at, taken);
-    let head = heading.answer;
-    if let Err(_) = head {
-        return Filled {
-            answer: head,
-            states: 0,
-            transitions: 0,
-        };
-    }
+    let heading = header::header(octets, at, taken)?;
     let n = heading.states;
     let m = heading.transitions;
-    let marked = states(octets, at, taken, heading.version, n, marks, teams);
-    if let Err(_) = marked {
-        return Filled {
-            answer: marked,
-            states: n,
-            transitions: m,
-        };
-    }
-    let listed = transitions(octets, at, taken, n, m, from, to, low, high);
-    Filled {
-        answer: listed,
+    states(octets, at, taken, heading.version, n, marks, teams)?;
+    transitions(octets, at, taken, n, m, from, to, low, high)?;
+    Ok(Counts {
         states: n,
         transitions: m,
-    }
+    })
 }

@@ -8,29 +8,10 @@ ghost use Rattle.rules.specs.Refusal.{said};
 ghost use Rattle.rules.specs.Table.{first};
 ghost use Rattle.arrays.specs.Tables.{fields};
 ghost use Rattle.text_lines.specs.Lines.{Room};
-ghost use Rattle.imported.specs.Import.{none, Marked, Imports};
+ghost use Rattle.imported.specs.Import.{Marked, Imports};
 
-use arrays::{START, limits};
+use arrays::{Counts, START, limits};
 use rules::Refusal;
-
-// What came of octets that are to be a plan: the answer, and the counts of the states and transitions in the arrays, 0 where there is no plan.
-#[derive(Drop)]
-pub struct Found {
-    pub answer: Result<(), Refusal>,
-    pub states: usize,
-    pub transitions: usize,
-}
-
-// No plan.
-fn refuse(refusal: Refusal) -> Found
-    ensures { result ≡ none refusal }
-{
-    Found {
-        answer: Err(refusal),
-        states: 0,
-        transitions: 0,
-    }
-}
 
 // The grounds of the first line, in their order.
 fn first_grounds(initial: usize, m: usize, n: usize) -> Result<(), Refusal>
@@ -58,7 +39,7 @@ fn mark_initial(marks: &mut [u8; 512], teams: &mut [u8; 512], n: usize, initial:
     marks[initial] = START;
 }
 
-// Reads a text into arrays.
+// Reads a text into arrays, and returns the counts of the states and transitions.
 pub fn fill(
     text: &[u8],
     marks: &mut [u8; 512],
@@ -67,7 +48,7 @@ pub fn fill(
     to: &mut [u16; 2048],
     low: &mut [u16; 2048],
     high: &mut [u16; 2048],
-) -> Found
+) -> Result<Counts, Refusal>
     requires { (512 ≤ length marks.old) × (512 ≤ length teams.old) × Room (fields from.old to.old low.old high.old) }
     ensures { Imports text.now marks.new teams.new
         (fields from.new to.new low.new high.new) result }
@@ -75,7 +56,7 @@ pub fn fill(
     let heading = text_reading::read_first(text);
     let start = heading.next;
     if !start.on {
-        return refuse(Refusal::TextForm);
+        return Err(Refusal::TextForm);
     }
     let initial = heading.initial;
     let m = heading.transitions;
@@ -84,19 +65,15 @@ pub fn fill(
     let listed = text_lines::lines(text, start.at, grounds, n, m, from, to, low, high);
     let end = listed.next;
     if !end.on {
-        return refuse(Refusal::TextForm);
+        return Err(Refusal::TextForm);
     }
     if end.at < text.len() {
-        return refuse(Refusal::TextForm);
+        return Err(Refusal::TextForm);
     }
-    let answer = listed.answer;
-    if let Err(r) = answer {
-        return refuse(r);
-    }
+    listed.answer?;
     mark_initial(marks, teams, n, initial);
-    Found {
-        answer,
+    Ok(Counts {
         states: n,
         transitions: m,
-    }
+    })
 }

@@ -207,11 +207,10 @@ pub fn replace(mut p: Plan, format: Format, octets: &[u8]) -> Edited
         format, limited, octets, &mut bits, &mut marks, // not the plan's: a refusal leaves those
         &mut teams, &mut from, &mut to, &mut low, &mut high,
     );
-    let answer = taken.answer;
-    match answer {
-        Ok(()) => {
-            let states = taken.states;
-            let transitions = taken.transitions;
+    match taken {
+        Ok(counts) => {
+            let states = counts.states;
+            let transitions = counts.transitions;
             places::lay(&mut p.marks, &marks, states);
             places::lay(&mut p.teams, &teams, states);
             places::lay(&mut p.from, &from, transitions);
@@ -220,13 +219,17 @@ pub fn replace(mut p: Plan, format: Format, octets: &[u8]) -> Edited
             places::lay(&mut p.high, &high, transitions);
             p.states = states;
             p.transitions = transitions;
+            Edited {
+                plan: p,
+                answer: Ok(()),
+                taken: bits,
+            }
         }
-        Err(_) => {} // the old plan
-    }
-    Edited {
-        plan: p,
-        answer,
-        taken: bits,
+        Err(refusal) => Edited {
+            plan: p, // the old plan
+            answer: Err(refusal),
+            taken: bits,
+        },
     }
 }
 
@@ -244,27 +247,26 @@ pub fn held(octets: &[u8]) -> Edited
     let filled = reading::fill(
         octets, &mut bits, &mut marks, &mut teams, &mut from, &mut to, &mut low, &mut high,
     );
-    let answer = filled.answer;
-    let mut plan = Plan {
-        states: filled.states,
-        transitions: filled.transitions,
-        marks,
-        teams,
-        from,
-        to,
-        low,
-        high,
-    };
-    match answer {
-        Ok(()) => {}
-        Err(_) => {
-            plan = blank(0); // no plan
-        }
-    }
-    Edited {
-        plan,
-        answer,
-        taken: bits,
+    match filled {
+        Ok(counts) => Edited {
+            plan: Plan {
+                states: counts.states,
+                transitions: counts.transitions,
+                marks,
+                teams,
+                from,
+                to,
+                low,
+                high,
+            },
+            answer: Ok(()),
+            taken: bits,
+        },
+        Err(refusal) => Edited {
+            plan: blank(0), // no plan
+            answer: Err(refusal),
+            taken: bits,
+        },
     }
 }
 

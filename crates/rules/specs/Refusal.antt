@@ -1,6 +1,6 @@
 -- Refusals: the number of each row of document 01's table of refused calls, and what a call comes to, accepted or refused by a row.
 -- Assumes nothing.
-use Rattle.std.specs.Prelude.{ℕ}
+use Rattle.std.specs.Prelude.{ℕ, Result as Returned}
 use Rattle.rules.specs.Answer.{Answer, Written}
 use Rattle.std.specs.Prelude.{Ok, Err}
 use Rattle.rules.specs.declared.Refusal.{Refusal}
@@ -49,6 +49,11 @@ said (Err r) = refused r
 abbrev pub came : {A : Type 0} → Answer → A → Result A
 came (Ok _) a = accepted a
 came (Err r) a = refused r
+
+-- the same, of a call that returns what tells what it made
+abbrev pub made : {A B : Type 0} → Returned A Refusal → (A → B) → Result B
+made (Ok a) f = accepted (f a)
+made (Err r) f = refused r
 
 -- the same, of an answer with a number of octets
 abbrev pub wrote : Written → Result ℕ

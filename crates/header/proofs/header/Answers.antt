@@ -17,9 +17,9 @@ returns-then-octets-lt4 c =
     let e : ltb (length c.args.octets.now) 4 ≡ true = lt-ltb (length c.args.octets.now) 4 c.if-octets-lt4.true in
     record {
       answer = rw e;
-      version = λ e. absurd (let z : ◌≡◌ {A = ℕ} 0 1 = cc in omega arith);
-      states = λ e. absurd (let z : ◌≡◌ {A = ℕ} 0 1 = cc in omega arith);
-      transitions = λ e. absurd (let z : ◌≡◌ {A = ℕ} 0 1 = cc in omega arith);
-      all = λ e. absurd (let z : ◌≡◌ {A = ℕ} 0 1 = cc in omega arith);
+      version = tt;
+      states = tt;
+      transitions = tt;
+      all = tt;
       bits = rw e (omega arith);
     }

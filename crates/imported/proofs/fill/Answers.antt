@@ -16,6 +16,7 @@ use Rattle.text_reading.specs.Forms.{begin, first_numbers}
 use Rattle.text_reading.proofs.Reading.{Told, form_told, form_off}
 use Rattle.imported.proofs.Importing.{Read, not_refused, lists-on, lists-off, first_off, by_lines, by_end, by_rows, by_plan}
 use borrow.Author.Rules.{rules}
+use Rattle.std.proofs.lemmas.Result.{err_from_is_err_and}
 use Rattle.imported.proofs.fill.Goals as goal
 use Rattle.imported.proofs.fill.Goals.{After-lines-listed, Else-not-end, Else-not-start}
 
@@ -50,13 +51,11 @@ pub returns-then-not-start : goal.returns-then-not-start
 returns-then-not-start c =
     let text = c.args.text.now in
     let r = c.read_first-heading in
-    rw c.refuse.ensures
-    (record {
+    record {
       rule = sym (first_off text (form_off text begin first_form (first_numbers r.result) r.result.next refl r.ensures.1 (not-true r.result.next.on c.if-not-start.true)));
-      states = omega arith;
-      transitions = omega arith;
+      counts = tt;
       room = c.requires;
-    })
+    }
 
 pub returns-then-not-end : goal.returns-then-not-end
 unfolding listed
@@ -64,13 +63,11 @@ returns-then-not-end c =
     let text = c.args.text.now in
     let r = c.read_first-heading.result in
     let l = c.lines-listed in
-    rw c.refuse-then-not-end.ensures
-    (record {
+    record {
       rule = sym (by_lines text (short (goal.at.returns-then-not-end c).Else-not-start) r (told (goal.at.returns-then-not-end c).Else-not-start) (lists-off text r.states r.transitions c.first_grounds-grounds.result (listed (goal.at.returns-then-not-end c).After-lines-listed) l.result _ l.ensures.1 (not-true l.result.next.on c.if-not-end.true)));
-      states = omega arith;
-      transitions = omega arith;
+      counts = tt;
       room = (c.requires.0, c.requires.1, l.ensures.2);
-    })
+    }
 
 pub returns-then-end-text : goal.returns-then-end-text
 unfolding listed
@@ -79,26 +76,23 @@ returns-then-end-text c =
     let r = c.read_first-heading.result in
     let l = c.lines-listed in
     let d = read (goal.at.returns-then-end-text c).Else-not-end in
-    rw c.refuse-then-end-text.ensures
-    (record {
+    record {
       rule = sym (by_end text (short (goal.at.returns-then-end-text c).Else-not-start) r (told (goal.at.returns-then-end-text c).Else-not-start) d.transitions l.result.next.at d.all c.if-end-text.true);
-      states = omega arith;
-      transitions = omega arith;
+      counts = tt;
       room = (c.requires.0, c.requires.1, l.ensures.2);
-    })
+    }
 
-pub returns-in-Err : goal.returns-in-Err
+pub returns-in_err-listed : goal.returns-in_err-listed
 unfolding listed
-returns-in-Err c =
+returns-in_err-listed c =
     let text = c.args.text.now in
     let r = c.read_first-heading.result in
     let l = c.lines-listed in
-    let d = read (goal.at.returns-in-Err c).Else-not-end in
-    rw c.refuse-in-Err.ensures
-    (record {
-      rule = sym (by_rows text (short (goal.at.returns-in-Err c).Else-not-start) r (told (goal.at.returns-in-Err c).Else-not-start) d.transitions l.result.next.at d.all c.if-end-text.false (said l.result.answer) (answered (goal.at.returns-in-Err c).Else-not-end) _ (ap said c.in-Err.is));
-      states = omega arith;
-      transitions = omega arith;
+    let d = read (goal.at.returns-in_err-listed c).Else-not-end in
+    let p = err_from_is_err_and c.from_residual.result c.from_residual.ensures.1 in
+    rw (p.1, p.2) (record {
+      rule = sym (by_rows text (short (goal.at.returns-in_err-listed c).Else-not-start) r (told (goal.at.returns-in_err-listed c).Else-not-start) d.transitions l.result.next.at d.all c.if-end-text.false (said l.result.answer) (answered (goal.at.returns-in_err-listed c).Else-not-end) _ (ap said c.in_err-listed.was));
+      counts = tt;
       room = (c.requires.0, c.requires.1, l.ensures.2);
     })
 
@@ -109,13 +103,12 @@ returns c =
     let r = c.read_first-heading.result in
     let l = c.lines-listed in
     let d = read (goal.at.returns c).Else-not-end in
-    let h = (not_refused r.initial r.transitions r.states (onward-accepted _ _ (sym (answered (goal.at.returns c).Else-not-end) ∙ ap said c.in_default.is)).0) in
+    let h = (not_refused r.initial r.transitions r.states (onward-accepted _ _ (sym (answered (goal.at.returns c).Else-not-end) ∙ ap said c.in_ok-listed.was)).0) in
     let f = listed (goal.at.returns c).After-lines-listed in
-    let ok = c.in_default.is in
+    let ok = c.in_ok-listed.was in
     record {
-      rule = rw ok (by_plan text (short (goal.at.returns c).Else-not-start) r (told (goal.at.returns c).Else-not-start) d.transitions l.result.next.at d.all c.if-end-text.false (said l.result.answer) (answered (goal.at.returns c).Else-not-end)
-          (ap said ok) h _ _ f.from f.to f.low f.high c.mark_initial.ensures (d.held ok));
-      states = h.most;
-      transitions = h.lines;
+      rule = by_plan text (short (goal.at.returns c).Else-not-start) r (told (goal.at.returns c).Else-not-start) d.transitions l.result.next.at d.all c.if-end-text.false (said l.result.answer) (answered (goal.at.returns c).Else-not-end)
+          (ap said ok) h _ _ f.from f.to f.low f.high c.mark_initial.ensures (d.held ok);
+      counts = (h.most, h.lines);
       room = (c.mark_initial.ensures.room, c.mark_initial.ensures.teams_room, l.ensures.2);
     }
