@@ -2,7 +2,7 @@
 #![tactic(auto)]
 
 ghost use Rattle.std.specs.Prelude.{◌≡◌};
-ghost use Rattle.graph.specs.Class.{class_of, class_place, same_class};
+ghost use Rattle.graph.specs.Class.{class_of, same_class};
 
 use graph::Class;
 
@@ -19,22 +19,9 @@ fn class_of(team: usize) -> Class
     }
 }
 
-// The place of a class in the table.
-fn place(class: Class) -> usize
-    ensures { result ≡ class_place class }
-{
-    match class {
-        Class::None => 0,
-        Class::Wards => 1,
-        Class::Clinics => 2,
-        Class::Switchboards => 3,
-        Class::OutsideLines => 4,
-    }
-}
-
 // Whether two teams are of one class.
 pub fn same_class(team: usize, named: usize) -> bool
     ensures { result ≡ same_class team named }
 {
-    place(class_of(team)) == place(class_of(named))
+    class_of(team) == class_of(named)
 }

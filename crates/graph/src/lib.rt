@@ -19,7 +19,7 @@ pub enum Duration {
 }
 
 // "Team 0 is none, 1 to 9 wards, 10 to 19 clinics, 20 to 29 switchboards, 30 and 31 outside lines." (document 02, E4)
-#[derive(Clone, Copy)]
+#[derive(Clone, Copy, PartialEq, Eq)]
 pub enum Class {
     None,
     Wards,
