@@ -1,15 +1,16 @@
 -- Four parts of 512 places of a list, replaced one after another. A part that was replaced holds what was put there; a part before it, and
 -- all that lies after it, is as it was (`put`). So what each call says of the part that it was lent holds of the parts of the whole, whichever of the four are
 -- done (`Showing`). Assumes nothing.
-use mathlib.Core.List.{List, ◌++◌}
+use mathlib.Core.List.{List, [], ◌∷◌, ◌++◌}
 use mathlib.Core.Logic.{◌⊎◌, inl, inr, ◌≢◌}
 use mathlib.Core.Path.{◌≡◌, refl, sym, ap, ◌∙◌, subst}
-use Prim.Native.Nat.{ℕ, suc, ◌+◌, ◌-◌, ◌*◌, ◌≤◌, ◌<◌}
+use Prim.Native.Nat.{ℕ, zero, suc, ◌+◌, ◌-◌, ◌*◌, ◌≤◌, ◌<◌}
 use native.Mathlib.Omega.{arith}
 use borrow.Rule.Slice.PartMut.{same_len_mid}
 use lib.ListN.{length, take, drop, get_or, set, take-append-drop, length-drop, length-set}
 use lib.Seq.{length-take-le, take-append-le, drop-append-le, drop-drop, take_at, drop_at, get_or-set_same, get_or-set_other}
 use Rattle.arrays.proofs.Lists.{same_or_not}
+use Rattle.graph.specs.declared.Which.{Which}
 use Rattle.graph.specs.declared.Which.TheVariants.{LeastDelay, GreatestDelay, LeastCount, GreatestCount}
 use Rattle.graph.specs.Graph.{Graph}
 use Rattle.graph.proofs.Figures.{each_of}
@@ -59,6 +60,14 @@ module _ (a : ℕ) (ys xs : List ℕ) (h : a + 512 ≤ length xs) (l : length ys
       ∙ ap (λ (z : List ℕ). cut c z) (take-append-drop a xs)
 
 -- ---- four parts, one after another
+
+-- the figure at a place of the four in the record's order
+pub in_order : (i : ℕ) (d : Which) → i < 4 → get_or (LeastDelay ∷ GreatestDelay ∷ LeastCount ∷ GreatestCount ∷ []) i d ≡ figure_at i
+in_order zero d h = refl
+in_order (suc zero) d h = refl
+in_order (suc (suc zero)) d h = refl
+in_order (suc (suc (suc zero))) d h = refl
+in_order (suc (suc (suc (suc i)))) d h = absurd (omega arith)
 
 -- the quote at a place
 abbrev pub quote_at : List Quote → ℕ → Quote

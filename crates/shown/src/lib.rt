@@ -7,7 +7,6 @@ ghost use Rattle.rules.specs.Limits.{within};
 ghost use Rattle.rules.specs.Quotations.{says_asked, Stated, AllStated};
 ghost use Rattle.search.specs.Arrays.{at};
 ghost use Rattle.search.specs.Chain.{Chains};
-ghost use Rattle.shown.specs.Places.{figure_at};
 
 use graph::{Asked, Which};
 use plan::Plan;
@@ -26,18 +25,6 @@ pub fn show(asked: Asked, p: Plan, walk: &mut [u16]) -> Quote
     figures::figure(asked, &p, &out, &reached, walk)
 }
 
-// The figure at a place of the record; the last one past them.
-fn figure_at(i: usize) -> Which
-    ensures { result ≡ figure_at i }
-{
-    match i {
-        0 => Which::LeastDelay,
-        1 => Which::GreatestDelay,
-        2 => Which::LeastCount,
-        _ => Which::GreatestCount,
-    }
-}
-
 // The transitions by the state that they leave, in a frame of its own: what it fills is not on the stack while the figures are searched for.
 #[inline(never)]
 fn chains(from: &[u16; 2048], m: usize) -> Chain
@@ -54,6 +41,13 @@ pub fn show_all(p: &Plan, walks: &mut [u16]) -> FourQuotes
 {
     let out = chains(&p.from, p.transitions);
     let reached = explore::reach(p.states, &p.marks, &p.to, &out);
+    // in the order of the record
+    let order = [
+        Which::LeastDelay,
+        Which::GreatestDelay,
+        Which::LeastCount,
+        Which::GreatestCount,
+    ];
     let mut quotes = [Quote {
         figure: Figure::None,
         k: 0,
@@ -61,7 +55,7 @@ pub fn show_all(p: &Plan, walks: &mut [u16]) -> FourQuotes
     }; 4];
     for i in 0..4 {
         let at = 512 * i;
-        let asked = Asked::One(figure_at(i));
+        let asked = Asked::One(order[i]);
         quotes[i] = figures::figure(asked, p, &out, &reached, &mut walks[at..at + 512]);
     }
     let [least_delay, greatest_delay, least_count, greatest_count] = quotes;

@@ -7,7 +7,7 @@ use Rattle.search.specs.Chain.{Linked}
 use Rattle.figures.specs.Figures.{arrays_of}
 use Rattle.figures.proofs.Held.{bounded_in, from_small, linked_in}
 use Rattle.plan.specs.declared.Plan.{Plan}
-use Rattle.shown.proofs.Parts.{cut-length, there, showing_part, all_shown}
+use Rattle.shown.proofs.Parts.{cut-length, there, showing_part, all_shown, in_order}
 use Rattle.shown.proofs.show_all.Goals as goal
 
 pub chains-out-requires : goal.chains-out-requires
@@ -41,7 +41,7 @@ figure-requires-clause-chains c =
 pub loop-i-preserved : goal.loop-i-preserved
 loop-i-preserved c = let i = c.loop-i.i in
     let f = c.figure in
-    let s = rw c.figure_at.ensures at f.ensures in
+    let s = rw (in_order i _ c.loop-i-test.true) at f.ensures in
     let k : 512 * i + 512 - 512 * i ≡ 512 = omega arith in
     rw add-one (showing_part c.requires.1 c.loop-i-test.true c.loop-i.invariant f.result c.figure.new.walk (512 * i + 512 - 512 * i) k c.figure.auto.walk s)
 
