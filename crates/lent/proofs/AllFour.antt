@@ -5,8 +5,8 @@ use mathlib.Core.Path.{◌≡◌, refl, sym, ap, subst, ◌∙◌}
 use Prim.Native.Nat.{ℕ}
 use native.Mathlib.Omega.{arith}
 use lib.ListN.{length}
-use Rattle.rules.specs.declared.Quotations.{Quotations}
-use Rattle.rules.specs.declared.Quotations.TheVariants.{Quoted, Refused}
+use Rattle.rules.specs.Answer.{Quotations}
+use Rattle.std.proofs.Common.{Ok, Err}
 use Rattle.rules.specs.Image.{graph_in, image_rows}
 use Rattle.rules.specs.Quotations.{AllStated, QuotesHeld, held_rows, held_rule, lent_held_rule, said_quotations}
 use Rattle.rules.specs.Refusal.{Result, code}
@@ -38,9 +38,9 @@ module _ (image walks out : List ℕ) (end : ℕ) (h : Handed (length walks) (le
 
   pub quotes_done : (left out' : List ℕ) (a : Quotations) (r : ℕ) → QuotesHeld image (part end walks) left a → Answered (all_numbers_in a) out out' r
       → LentQuotes image walks (back end walks left) out out' r
-  quotes_done left out' (Quoted q) r x a =
+  quotes_done left out' (Ok q) r x a =
       let g = graph_in image in
-      let l = sixteen_places left (Quoted q) x q refl in
+      let l = sixteen_places left (Ok q) x q refl in
       let e = x.answer ∙ same in
       let stated : AllStated g q walks left = subst (λ (z : List ℕ). AllStated g q z left) (handed-all walks out 16 end h l) (x.quoted q refl) in
       record {
@@ -52,7 +52,7 @@ module _ (image walks out : List ℕ) (end : ℕ) (h : Handed (length walks) (le
           places = a.1;
         };
       }
-  quotes_done left out' (Refused n) r x a =
+  quotes_done left out' (Err n) r x a =
       let e = x.answer ∙ same in
       record {
         answer = a.0 ∙ ap (λ (o : Result (Unit {0})). code o) e;

@@ -8,7 +8,7 @@ use Prim.Native.Nat.{ℕ, ◌≤◌}
 use native.Mathlib.Omega.{arith}
 use lib.ListN.{length}
 use Rattle.graph.specs.Graph.{Graph, states, count}
-use Rattle.rules.specs.declared.Written.{Written}
+use Rattle.rules.specs.Answer.{Written}
 use Rattle.rules.specs.Aldebaran.{export_text, export_rows, export_rule}
 use Rattle.rules.specs.Image.{image_length}
 use Rattle.rules.specs.Limits.{within}

@@ -10,8 +10,8 @@ use lib.ListN.{length}
 use Rattle.graph.specs.Class.{figure_of, counting}
 use Rattle.graph.specs.Graph.{Graph, states}
 use Rattle.graph.specs.declared.Asked.{Asked}
-use Rattle.rules.specs.declared.Quotation.{Quotation}
-use Rattle.rules.specs.declared.Quotation.TheVariants.{Quoted, Refused}
+use Rattle.rules.specs.Answer.{Quotation}
+use Rattle.std.proofs.Common.{Ok, Err}
 use Rattle.rules.specs.Quotations.{Quotes, Stated, says_asked, name_rows, quote_rows, quote_rule, lent_quote_rule, said_quotation, meant}
 use Rattle.rules.specs.Refusal.{Result, code}
 use Rattle.rules.specs.Limits.{within}
@@ -63,10 +63,10 @@ module _ (asked : Asked) (g : Graph) (walk out : List ℕ) (end : ℕ) (h : Hand
 pub quote-finished : (asked : Asked) (p : Plan) (s : Slices) (walk left out out' : List ℕ) (end : ℕ) (q : Quotation) (r : ℕ)
     → Handed (length walk) (length out) 4 end → has_room s ≡ true → p ≡ plan_in s
     → Quotes asked (view p) (part end walk) left q → Answered (numbers_in q) out out' r → LentQuote asked s walk (back end walk left) out out' r
-quote-finished asked p s walk left out out' end (Quoted q) r h room i x a =
+quote-finished asked p s walk left out out' end (Ok q) r h room i x a =
     let g = view (plan_in s) in
-    let y : Quotes asked g (part end walk) left (Quoted q) = rw i at x in
-    let l = four-places asked g walk out end h left (Quoted q) y q refl in
+    let y : Quotes asked g (part end walk) left (Ok q) = rw i at x in
+    let l = four-places asked g walk out end h left (Ok q) y q refl in
     let e = y.answer ∙ same asked g walk out end h in
     let said : Stated (says_asked asked g) q walk left = subst (λ (z : List ℕ). Stated (says_asked asked g) q z left) (handed-all walk out 4 end h l) (y.quoted q refl) in
     record {
@@ -81,9 +81,9 @@ quote-finished asked p s walk left out out' end (Quoted q) r h room i x a =
         places = a.1;
       };
     }
-quote-finished asked p s walk left out out' end (Refused n) r h room i x a =
+quote-finished asked p s walk left out out' end (Err n) r h room i x a =
     let g = view (plan_in s) in
-    let y : Quotes asked g (part end walk) left (Refused n) = rw i at x in
+    let y : Quotes asked g (part end walk) left (Err n) = rw i at x in
     let e = y.answer ∙ same asked g walk out end h in
     record {
       short = λ f. true-false (has_room s) room f;

@@ -10,7 +10,7 @@ ghost use Rattle.lent.specs.Written.{LentFill, octets_of, rule_of};
 
 use graph::Asked;
 use plan::Plan;
-use rules::Written;
+use rules::Refusal;
 
 // What is put into a lent buffer: the plan's image, the record of its figures, or the plan's text.
 #[derive(Drop)]
@@ -21,7 +21,7 @@ pub enum Content {
 }
 
 // Puts a content of a plan at the front of the buffer.
-fn put(content: Content, plan: Plan, buffer: &mut [u8]) -> Written
+fn put(content: Content, plan: Plan, buffer: &mut [u8]) -> Result<usize, Refusal>
     ensures { Write (octets_of content (view plan)) (rule_of content (view plan) buffer.old)
         buffer.old buffer.new result }
 {
@@ -48,8 +48,8 @@ pub fn fill(
     }
     let written = put(content, slices::load(counts, states, fields), buffer);
     match written {
-        Written::Length(n) => 256 + n as u32,
-        Written::Refused(r) => numbers::number(r),
+        Ok(n) => 256 + n as u32,
+        Err(r) => numbers::number(r),
     }
 }
 
