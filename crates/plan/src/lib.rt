@@ -39,13 +39,20 @@ pub struct Edited {
     pub taken: usize,
 }
 
-// Whether a plan value is within the limits of a plan.
-pub fn within(p: Plan) -> bool
-    ensures { result ≡ withinLimits (view p) }
+// Whether a lent plan value is within the limits of a plan.
+fn in_limits(p: &Plan) -> bool
+    ensures { result ≡ withinLimits (view p.now) }
 {
     let n = p.states;
     let m = p.transitions;
     plan_limits::in_limits(n, m, &p.marks, &p.teams, &p.from, &p.to, &p.low, &p.high)
+}
+
+// Whether a plan value is within the limits of a plan.
+pub fn within(p: Plan) -> bool
+    ensures { result ≡ withinLimits (view p) }
+{
+    in_limits(&p)
 }
 
 // A refusal, with the plan as it was.
@@ -101,8 +108,7 @@ pub fn mark(mut p: Plan, state: usize, value: usize) -> Edited
     ensures { Turn p (mark state value) result }
 {
     let n = p.states;
-    let m = p.transitions;
-    let limited = plan_limits::in_limits(n, m, &p.marks, &p.teams, &p.from, &p.to, &p.low, &p.high);
+    let limited = in_limits(&p);
     let answer = grounds::mark_grounds(limited, n, state, value);
     match answer {
         Ok(()) => {
@@ -122,8 +128,7 @@ pub fn team(mut p: Plan, state: usize, number: usize) -> Edited
     ensures { Turn p (team state number) result }
 {
     let n = p.states;
-    let m = p.transitions;
-    let limited = plan_limits::in_limits(n, m, &p.marks, &p.teams, &p.from, &p.to, &p.low, &p.high);
+    let limited = in_limits(&p);
     let answer = grounds::team_grounds(limited, n, state, number);
     match answer {
         Ok(()) => {
@@ -144,7 +149,7 @@ pub fn join(mut p: Plan, from: usize, to: usize, low: usize, high: usize) -> Edi
 {
     let n = p.states;
     let m = p.transitions;
-    let limited = plan_limits::in_limits(n, m, &p.marks, &p.teams, &p.from, &p.to, &p.low, &p.high);
+    let limited = in_limits(&p);
     let answer = grounds::join_grounds(limited, n, m, from, to, low, high);
     match answer {
         Ok(()) => {
@@ -167,9 +172,8 @@ pub fn join(mut p: Plan, from: usize, to: usize, low: usize, high: usize) -> Edi
 pub fn unjoin(mut p: Plan, number: usize) -> Edited
     ensures { Turn p (unjoin number) result }
 {
-    let n = p.states;
     let m = p.transitions;
-    let limited = plan_limits::in_limits(n, m, &p.marks, &p.teams, &p.from, &p.to, &p.low, &p.high);
+    let limited = in_limits(&p);
     let answer = grounds::unjoin_grounds(limited, m, number);
     match answer {
         Ok(()) => {
@@ -193,9 +197,7 @@ pub fn unjoin(mut p: Plan, number: usize) -> Edited
 pub fn replace(mut p: Plan, format: Format, octets: &[u8]) -> Edited
     ensures { Turn p (replacing format octets.now) result }
 {
-    let n = p.states;
-    let m = p.transitions;
-    let limited = plan_limits::in_limits(n, m, &p.marks, &p.teams, &p.from, &p.to, &p.low, &p.high);
+    let limited = in_limits(&p);
     let mut marks = [0u8; 512];
     let mut teams = [0u8; 512];
     let mut from = [0u16; 2048];

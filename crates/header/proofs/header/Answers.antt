@@ -1,7 +1,6 @@
 -- `header::header` meets its contract: fewer than four octets are the rule's first ground, and the others are those of `grounds`, over the
 -- four fields that stand from bit position 0 on.
 -- Assumes nothing.
-use Prim.Native.Nat.{ℕ}
 use mathlib.Core.Path.{◌≡◌}
 use native.Mathlib.Omega.{arith}
 use borrow.Author.Tests.{lt-ltb}

@@ -1,7 +1,6 @@
 -- `imported::fill`: the first line, its lines and the end of the text are looked at in turn, and each way to end is one of proofs/Importing.antt. Assumes nothing.
 use Prim.Native.Nat.{◌<◌, ◌^◌}
 use mathlib.Core.Path.{◌≡◌, refl, sym, ap, ◌∙◌}
-use native.Mathlib.Omega.{arith}
 use borrow.Author.Tests.{not-true, not-false}
 use lib.ListN.{length, drop}
 use Rattle.aldebaran.specs.Text.{first_form, read_lines}
