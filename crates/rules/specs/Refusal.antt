@@ -45,12 +45,7 @@ abbrev pub said : Answer → Result (Unit {0})
 said (Ok _) = accepted tt
 said (Err r) = refused r
 
--- and of what the call made
-abbrev pub came : {A : Type 0} → Answer → A → Result A
-came (Ok _) a = accepted a
-came (Err r) a = refused r
-
--- the same, of a call that returns what tells what it made
+-- and of what the call made, told by what it returns
 abbrev pub made : {A B : Type 0} → Returned A Refusal → (A → B) → Result B
 made (Ok a) f = accepted (f a)
 made (Err r) f = refused r
