@@ -13,8 +13,8 @@ use lib.ListN.{length}
 use Rattle.graph.specs.Graph.{Graph}
 use Rattle.arrays.specs.Tables.{over}
 use Rattle.rules.specs.declared.FourQuotes.{FourQuotes}
-use Rattle.rules.specs.declared.Quotations.{Quotations}
-use Rattle.rules.specs.declared.Quotations.TheVariants.{Quoted as AllQuoted, Refused as NoneQuoted}
+use Rattle.rules.specs.Answer.{Quotations}
+use Rattle.std.proofs.Common.{Ok, Err}
 use Rattle.rules.specs.declared.Refusal.{Refusal}
 use Rattle.rules.specs.Calls.{Call, run, run_fresh}
 use Rattle.rules.specs.Limits.{state_count_ok, within}
@@ -98,7 +98,7 @@ module _ (n : ℕ) (kinds arguments octets answers : List ℕ) (s : Slices) (wal
         last : view p ≡ (run_fresh n calls).last
         last = ap view turns.whole ∙ view-value f.plan calls ∙ ap (λ (g : Graph). (run g calls).last) from_fresh
 
-        one : (a : Quotations) (q : FourQuotes) → QuotesAll (view p) walks left a → a ≡ AllQuoted q → OneList n calls answers answers' p q walks left
+        one : (a : Quotations) (q : FourQuotes) → QuotesAll (view p) walks left a → a ≡ Ok q → OneList n calls answers answers' p q walks left
         one a q y g =
             record {
               answers = turns.answers ∙ ap (λ (z : Graph). over (map code (run z calls).answers) answers) from_fresh;
@@ -107,7 +107,7 @@ module _ (n : ℕ) (kinds arguments octets answers : List ℕ) (s : Slices) (wal
               quoted = subst (λ (z : Graph). AllStated z q walks left) last (y.quoted q g);
             }
 
-        not_refused : (a : Quotations) (k : Refusal) → QuotesAll (view p) walks left a → a ≡ NoneQuoted k → ⊥
+        not_refused : (a : Quotations) (k : Refusal) → QuotesAll (view p) walks left a → a ≡ Err k → ⊥
         not_refused a k y g = all_not_refused (view p) walks left a k y g (all_done (view p) walks (ap within last ∙ listed_within n calls n_ok) walks_fit)
 
         -- what is quoted is within the limits
@@ -116,8 +116,8 @@ module _ (n : ℕ) (kinds arguments octets answers : List ℕ) (s : Slices) (wal
 
         pub replay_made : (a : Quotations) (out' : List ℕ) (r : ℕ) → QuotesAll (view p) walks left a → Answered (all_numbers_in a) out out' r
             → LentReplay n kinds arguments octets (places answers s walks out) (places answers' t left out') r
-        replay_made (NoneQuoted k) out' r y z = absurd (not_refused (NoneQuoted k) k y refl)
-        replay_made (AllQuoted q) out' r y z =
+        replay_made (Err k) out' r y z = absurd (not_refused (Err k) k y refl)
+        replay_made (Ok q) out' r y z =
             let first-is : b ≡ storing (plan_in b) s = st.0 ∙ ap (λ (v : Plan). storing v s) (sym st.1) in
             record {
               short = λ g. true-false (has_room s) room g;
@@ -127,7 +127,7 @@ module _ (n : ℕ) (kinds arguments octets answers : List ℕ) (s : Slices) (wal
               made = λ _ _ _. record {
                 value = p;
                 quotes = q;
-                claim = one (AllQuoted q) q y refl;
+                claim = one (Ok q) q y refl;
                 stored = (l.whole s first-is ∙ ap (λ (v : Plan). storing v s) (sym e), sym e);
                 figures = z.1;
               };
