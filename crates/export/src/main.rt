@@ -19,10 +19,9 @@ fn print(rt: &HostRuntime, image: &[u8]) -> ExitCode {
 }
 
 fn main(rt: HostRuntime) -> ExitCode {
-    let mut octets = [0u8; ENOUGH];
-    let n = program::read_full(&rt, &mut octets);
-    if !program::is_read(&rt, n, ENOUGH) {
-        return program::fault(&rt, b"export: standard input cannot be read\n");
-    }
-    print(&rt, &octets[..n])
+    program::run::<ENOUGH, _>(
+        &rt,
+        b"export: standard input cannot be read\n",
+        |octets| print(&rt, octets),
+    )
 }

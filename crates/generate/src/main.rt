@@ -2,21 +2,12 @@
 // refused by on standard error.
 #![tactic(auto)]
 
-ghost use Rattle.std.specs.Prelude.{◌≡◌, length};
-
 use arguments::Arguments;
 use program::Status;
 use std::process::ExitCode;
 
 // The octets of the longest arguments that are answered, 393,216, and one more, by which longer ones are known: three lines of 131,072, as long as Linux hands on.
 const ENOUGH: usize = 393_217;
-
-// That many octets. The `ensures` gives only their number, which lending them needs: a list of so many zeros is too long to be computed with.
-fn room() -> [u8; ENOUGH]
-    ensures { 393217 ≡ length result }
-{
-    [0; ENOUGH]
-}
 
 // Prints the image of the plan that a seed makes.
 fn print(rt: &HostRuntime, seed: u32, states: usize, transitions: usize) -> ExitCode {
@@ -32,9 +23,12 @@ fn print(rt: &HostRuntime, seed: u32, states: usize, transitions: usize) -> Exit
 
 // Answers the arguments: by an image, by a refusal, or by how the program is used.
 fn answer(rt: &HostRuntime, octets: &[u8]) -> ExitCode {
+    if octets.len() == ENOUGH {
+        return program::fault(rt, b"generate: more than 393,216 octets of arguments\n");
+    }
     let arguments = arguments::read(octets);
     match arguments {
-        Arguments::Misused => program::end(Status::Misused),
+        Arguments::Misused => ExitCode::from(Status::Misused),
         Arguments::Given {
             seed,
             states,
@@ -44,13 +38,9 @@ fn answer(rt: &HostRuntime, octets: &[u8]) -> ExitCode {
 }
 
 fn main(rt: HostRuntime) -> ExitCode {
-    let mut octets = room();
-    let n = program::read_full(&rt, &mut octets);
-    if !program::is_read(&rt, n, ENOUGH) {
-        return program::fault(&rt, b"generate: standard input cannot be read\n");
-    }
-    if n == ENOUGH {
-        return program::fault(&rt, b"generate: more than 393,216 octets of arguments\n");
-    }
-    answer(&rt, &octets[..n])
+    program::run::<ENOUGH, _>(
+        &rt,
+        b"generate: standard input cannot be read\n",
+        |octets| answer(&rt, octets),
+    )
 }

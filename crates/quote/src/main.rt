@@ -2,7 +2,6 @@
 #![tactic(auto)]
 
 use program::Status;
-use rules::Written;
 use std::process::ExitCode;
 
 // The octets of the longest image, 10,756, and one more, which says all that read has to know of a longer input.
@@ -13,20 +12,19 @@ fn print(rt: &HostRuntime, octets: &[u8]) -> ExitCode {
     let mut buffer = [0u8; lines::ROOM];
     let answer = lines::answer(octets, &mut buffer);
     match answer {
-        Written::Length(length) => program::answer(
+        Ok(length) => program::answer(
             rt,
             &buffer[..length],
             b"quote: standard output cannot be written\n",
         ),
-        Written::Refused(_) => program::end(Status::Faulty),
+        Err(_) => ExitCode::from(Status::Faulty),
     }
 }
 
 fn main(rt: HostRuntime) -> ExitCode {
-    let mut octets = [0u8; ENOUGH];
-    let n = program::read_full(&rt, &mut octets);
-    if !program::is_read(&rt, n, ENOUGH) {
-        return program::fault(&rt, b"quote: standard input cannot be read\n");
-    }
-    print(&rt, &octets[..n])
+    program::run::<ENOUGH, _>(
+        &rt,
+        b"quote: standard input cannot be read\n",
+        |octets| print(&rt, octets),
+    )
 }

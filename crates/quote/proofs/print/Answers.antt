@@ -5,7 +5,7 @@ use Rattle.lines.proofs.Prints.{prints-within}
 use Rattle.quote.proofs.print.Goals as goal
 
 pub slice_bounds-buffer-end : goal.slice_bounds-buffer-end
-slice_bounds-buffer-end c = prints-within _ _ _ _ (c.answer-answer.ensures.printed _ c.in-Length.is)
+slice_bounds-buffer-end c = prints-within _ _ _ _ (c.answer-answer.ensures.printed _ c.in-Ok.is)
 
-pub slice_bounds-answer-end-in-Length : goal.slice_bounds-answer-end-in-Length
-slice_bounds-answer-end-in-Length c = sym (length-take-le _ _ (prints-within _ _ _ _ (c.answer-answer.ensures.printed _ c.in-Length.is)))
+pub slice_bounds-answer-end-in-Ok : goal.slice_bounds-answer-end-in-Ok
+slice_bounds-answer-end-in-Ok c = sym (length-take-le _ _ (prints-within _ _ _ _ (c.answer-answer.ensures.printed _ c.in-Ok.is)))
