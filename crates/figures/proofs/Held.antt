@@ -85,9 +85,6 @@ module _ (p : Plan) where
     pub from_small : (t : ℕ) → t < p.transitions → get_or p.from t 0 < 512
     from_small t h = omega (arith, bounded_in.leaves t h, bounded_in.states)
 
-    pub to_small : (t : ℕ) → t < p.transitions → get_or p.to t 0 < 512
-    to_small t h = omega (arith, bounded_in.arrives t h, bounded_in.states)
-
     -- with the chains out of the states, a search can go through it
     pub linked_in : (c : Chain) → OutOf p c → Linked (arrays_of p) c.head c.link
     linked_in c h = record { bounded = bounded_in; chains = h }

@@ -1,14 +1,12 @@
 -- `figures::figure`: an open transition by which the figure is ENDLESS is shown as it is; where there is none, the search over weights decides. Assumes nothing.
 use mathlib.Core.Bool.{Bool}
-use mathlib.Core.Path.{sym, subst, ◌∙◌}
+use mathlib.Core.Path.{sym, ◌∙◌}
 use Prim.Native.Nat.{ℕ}
-use Rattle.graph.specs.declared.Which.{Which}
 use Rattle.graph.specs.Class.{figure_of, counting}
 use Rattle.graph.specs.Route.{highs}
 use Rattle.greatest_search.proofs.GreatestFigure.{climbable}
 use Rattle.plan.specs.declared.Plan.{Plan}
 use Rattle.plan.specs.View.{view}
-use Rattle.open_search.specs.Open.{Answered}
 use Rattle.open_search.proofs.Opening.{ended_ranked}
 use Rattle.turns.specs.declared.Table.{Table}
 use Rattle.figures.specs.Figures.{arrays_of}
