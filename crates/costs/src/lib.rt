@@ -21,8 +21,9 @@ fn counts(asked: Asked, value: u8, team: u8) -> bool
 {
     match asked {
         Asked::One(_) => search::is_counted(value),
-        Asked::LeastCountFor(named) => classes::same_class(usize::from(team), named),
-        Asked::GreatestCountFor(named) => classes::same_class(usize::from(team), named),
+        Asked::LeastCountFor(named) | Asked::GreatestCountFor(named) => {
+            classes::same_class(usize::from(team), named)
+        }
     }
 }
 
