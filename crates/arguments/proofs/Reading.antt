@@ -15,7 +15,8 @@ use Rattle.scan.specs.declared.Place.{Place}
 use Rattle.scan.specs.declared.Taken.{Taken}
 use Rattle.scan.specs.Places.{Sound, standing, word_then, cut, DigitsAt, Tells}
 use Rattle.scan.proofs.Cuts.{leb_cut, cut-is}
-use Rattle.arguments.specs.declared.Arguments.TheVariants.{Misused, Given}
+use Rattle.std.proofs.Common.{Some, None}
+use Rattle.arguments.specs.declared.Arguments.{Arguments}
 use Rattle.arguments.specs.Arguments.{read_decimal, read_argument, Three, three_in, given, as_given, arguments_in, decimal_then, argument_then}
 
 -- ---- a number
@@ -111,11 +112,11 @@ module _ (text : List ℕ) (s n m : Taken) (seed : Tells text (argument_then tex
       let (u, x, first, cx) = argument_on text begin s seed a in
       (record { seed = x; states = y; transitions = z }, rw (first, second, third) refl, cx, cy, cz)
 
-  pub three-off : m.next.on ≡ false → arguments_in text ≡ Misused
+  pub three-off : m.next.on ≡ false → arguments_in text ≡ None
   unfolding and_then three_in arguments_in
   three-off o = go s.next.on refl n.next.on refl
     where
-      go : (a : Bool) → s.next.on ≡ a → (b : Bool) → n.next.on ≡ b → as_given (three_in text) ≡ Misused
+      go : (a : Bool) → s.next.on ≡ a → (b : Bool) → n.next.on ≡ b → as_given (three_in text) ≡ None
       go false a b e = rw (argument_off text begin s seed refl a) refl
       go true a false b =
           let (u, x, first, c) = argument_on text begin s seed a in
@@ -126,13 +127,13 @@ module _ (text : List ℕ) (s n m : Taken) (seed : Tells text (argument_then tex
           rw (first, second, argument_off text n.next m transitions b o) refl
 
   -- on form, and more behind them
-  pub more_behind : m.next.on ≡ true → m.next.at < length text → arguments_in text ≡ Misused
+  pub more_behind : m.next.on ≡ true → m.next.at < length text → arguments_in text ≡ None
   unfolding arguments_in
   more_behind o h =
       let (t, e, cs, cn, cm) = three-on o in
       ap as_given e ∙ go t (drop m.next.at text) (omega (arith, length-drop m.next.at text))
     where
-      go : (t : Three) (rest : List ℕ) → 0 < length rest → as_given (on t rest) ≡ Misused
+      go : (t : Three) (rest : List ℕ) → 0 < length rest → as_given (on t rest) ≡ None
       go t [] l = absurd (omega arith)
       go t (x ∷ rest) l = refl
 
@@ -149,17 +150,18 @@ module _ (text : List ℕ) (s n m : Taken) (seed : Tells text (argument_then tex
       go t (x ∷ rest) l = absurd (omega arith)
 
   -- and the seed is too great, or it has 32 bits
-  pub great_seed : m.next.on ≡ true → length text ≤ m.next.at → 4294967295 < s.value → arguments_in text ≡ Misused
+  pub great_seed : m.next.on ≡ true → length text ≤ m.next.at → 4294967295 < s.value → arguments_in text ≡ None
   great_seed o h g =
       let (t, e, cs, cn, cm) = all_given o h in
       let l : leb t.seed 4294967295 ≡ false = sym (leb_cut t.seed 4294967295 (omega arith)) ∙ lt-leb (cut t.seed) 4294967295 (omega (arith, g, cs)) in
       e ∙ rw l refl
 
-  pub all_there : m.next.on ≡ true → length text ≤ m.next.at → s.value ≤ 4294967295 → arguments_in text ≡ Given s.value n.value m.value
+  pub all_there : m.next.on ≡ true → length text ≤ m.next.at → s.value ≤ 4294967295 → arguments_in text ≡ Some (record { seed = s.value; states = n.value; transitions = m.value })
   all_there o h g =
       let (t, e, cs, cn, cm) = all_given o h in
       let i : cut t.seed ≡ t.seed = cut-is t.seed (omega (arith, g, cs)) in
       let l : leb t.seed 4294967295 ≡ true = le-leb t.seed 4294967295 (omega (arith, g, cs, i)) in
       let seed-is : t.seed ≡ s.value = sym (cs ∙ i) in
-      let all : Given t.seed (cut t.states) (cut t.transitions) ≡ Given s.value n.value m.value = λ j. Given (seed-is j) (sym cn j) (sym cm j) in
-      e ∙ ap (λ (b : Bool). cond b (Given t.seed (cut t.states) (cut t.transitions)) Misused) l ∙ all
+      let read : Arguments = record { seed = t.seed; states = cut t.states; transitions = cut t.transitions } in
+      let all : read ≡ record { seed = s.value; states = n.value; transitions = m.value } = λ j. record { seed = seed-is j; states = sym cn j; transitions = sym cm j } in
+      e ∙ ap (λ (b : Bool). cond b (Some read) None) l ∙ ap Some all

@@ -2,7 +2,6 @@
 // refused by on standard error.
 #![tactic(auto)]
 
-use arguments::Arguments;
 use program::Status;
 use std::process::ExitCode;
 
@@ -26,14 +25,9 @@ fn answer(rt: &HostRuntime, octets: &[u8]) -> ExitCode {
     if octets.len() == ENOUGH {
         return program::fault(rt, b"generate: more than 393,216 octets of arguments\n");
     }
-    let arguments = arguments::read(octets);
-    match arguments {
-        Arguments::Misused => ExitCode::from(Status::Misused),
-        Arguments::Given {
-            seed,
-            states,
-            transitions,
-        } => print(rt, seed, states, transitions),
+    match arguments::read(octets) {
+        None => ExitCode::from(Status::Misused),
+        Some(given) => print(rt, given.seed, given.states, given.transitions),
     }
 }
 
