@@ -28,11 +28,8 @@ fn ask(asked: Asked, p: Plan, places: usize) -> Result<(), Refusal>
 pub fn quote(asked: Asked, p: Plan, walk: &mut [u16]) -> Result<Quote, Refusal>
     ensures { Quotes asked (view p) walk.old walk.new result }
 {
-    let grounds = ask(asked, p, walk.len());
-    match grounds {
-        Ok(()) => Ok(shown::show(asked, p, walk)),
-        Err(r) => Err(r),
-    }
+    ask(asked, p, walk.len())?;
+    Ok(shown::show(asked, p, walk))
 }
 
 // The least delay, with a route that attains it.
@@ -82,10 +79,7 @@ pub fn all(p: Plan, walks: &mut [u16]) -> Result<FourQuotes, Refusal>
     ensures { QuotesAll (view p) walks.old walks.new result }
 {
     let limited = plan::within(p);
-    let asked = quotation_grounds::ask_all(limited, walks.len());
-    if let Err(r) = asked {
-        return Err(r);
-    }
+    quotation_grounds::ask_all(limited, walks.len())?;
     Ok(shown::show_all(&p, walks))
 }
 

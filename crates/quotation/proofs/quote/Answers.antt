@@ -9,5 +9,5 @@ use Rattle.quotation.proofs.quote.Goals as goal
 
 pub show-requires : goal.show-requires
 show-requires c = let p = c.args.p in
-    let e = sym (c.ask-grounds.ensures _ refl) ∙ ap said c.in-Ok.is in
+    let e = sym (c.ask.ensures _ refl) ∙ ap said c.in_ok-ask.was in
     (accepted-within c.args.asked (view p) c.args.walk.now e, omega (arith, states-view p, room c.args.asked (view p) c.args.walk.now e))
