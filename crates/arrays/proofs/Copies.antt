@@ -1,28 +1,17 @@
--- Copies into and out of the middle of a list: a turn of the loop that copies, the whole copy, a copy behind another one,
--- four of them, and a part.
+-- Copies into and out of the middle of a list: one number more, a copy behind another one, four of them, and a part.
 -- Assumes nothing.
-use mathlib.Core.List.{List, [], ◌++◌, append-nil}
+use mathlib.Core.List.{List, [], ◌++◌}
 use mathlib.Core.Path.{◌≡◌, refl, sym, ap, ap₂, ◌∙◌}
 use Prim.Native.Nat.{ℕ, ◌+◌, ◌<◌}
-use native.Mathlib.Nat.{zero-add}
 use native.Mathlib.Numerals.{add-one}
 use native.Mathlib.Omega.{arith}
-use lib.ListN.{length, get_or, take, drop, set, length-append, drop_of_length-le}
+use lib.ListN.{length, get_or, take, drop, set, length-append}
 use lib.Seq.{paste, paste-suc, drop-append-add, drop-drop, take_all, drop_at, take_at}
 use Rattle.arrays.specs.Tables.{over}
 
--- a turn of the loop that copies to the places from at on
+-- one number more of a copy to the places from at on
 pub paste_more : (d s : List ℕ) (at i : ℕ) → at + i < length d → i < length s → set (paste d at s i) (at + i) (get_or s i 0) ≡ paste d at s (i + 1)
 paste_more d s at i hd hs = paste-suc d at s i 0 hd hs ∙ ap (λ (n : ℕ). paste d at s n) (sym (add-one i))
-
--- a turn of the loop that copies to the front, and the whole copy
-pub copy_more : (d s : List ℕ) (i : ℕ) → i < length d → i < length s → set (paste d 0 s i) i (get_or s i 0) ≡ paste d 0 s (i + 1)
-copy_more d s i hd hs =
-    ap (λ (n : ℕ). set (paste d 0 s i) n (get_or s i 0)) (sym (zero-add i)) ∙ paste_more d s 0 i (omega (arith, zero-add i)) hs
-
-pub copy_all : (d s : List ℕ) (n : ℕ) → length d ≡ n → paste d 0 s n ≡ take n s
-copy_all d s n e =
-    ap {B = List ℕ} (λ (l : List ℕ). take n s ++ l) (drop_of_length-le d {i = 0 + n} (omega (arith, zero-add n))) ∙ append-nil (take n s)
 
 -- a copy right behind what stands at the front already: both stand at the front
 pub paste_over : (d xs s : List ℕ) (at n : ℕ) → length xs ≡ at → length s ≡ n → paste (over xs d) at s n ≡ over (xs ++ s) d

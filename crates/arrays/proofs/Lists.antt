@@ -5,7 +5,7 @@ use mathlib.Core.Path.{◌≡◌, refl, sym, ap, ap₂, ◌∙◌}
 use Prim.Native.Nat.{ℕ, zero, suc, ◌+◌, ◌-◌, ◌≤◌, ◌<◌}
 use native.Mathlib.Omega.{arith}
 use lib.ListN.{length, get_or, take, drop, set, length-append, length-drop, length-set, take-append-drop, get_or-append}
-use lib.Seq.{get_or-set_same, get_or-set_other, get_or-take, get_or-drop, get_or-append-add, length-take-le, drop-set-lt, paste, paste-suc, length_paste_head}
+use lib.Seq.{get_or-set_same, get_or-set_other, get_or-take, get_or-drop, get_or-append-add, length-take-le, drop-set-lt}
 use native.Mathlib.Decide.{dec_lt, ℕ_discrete}
 use native.Mathlib.Numerals.{add-one}
 use Rattle.graph.specs.Graph.{states, count}
@@ -117,30 +117,6 @@ module _ {A : Type 0} where
 
       each : (i : ℕ) → i < n - 1 → get_or (F ++ B) i d ≡ g i
       each i hi = go i hi (below_or_not i k)
-
--- a turn of the loop that moves places down: the store of the next place
-pub moved_more : (l : List ℕ) (k j : ℕ) → k + j + 1 < length l
-    → set (paste l k (drop (suc k) l) j) (k + j) (get_or (paste l k (drop (suc k) l) j) (k + j + 1) 0) ≡ paste l k (drop (suc k) l) (suc j)
-moved_more l k j h =
-    let s : List ℕ = drop (suc k) l in
-    let ls : length s ≡ length l - suc k = length-drop (suc k) l in
-    let lp : length (take k l ++ take j s) ≡ k + j = length_paste_head l k s j (omega arith) (omega arith) in
-    let e : length (take k l ++ take j s) + 1 ≡ k + j + 1 = ap (λ (n : ℕ). n + 1) lp in
-    let q : suc k + j ≡ k + j + 1 = omega arith in
-    let v : get_or (paste l k s j) (k + j + 1) 0 ≡ get_or s j 0 =
-    ap (λ (n : ℕ). get_or (paste l k s j) n 0) (sym e) ∙ get_or-append-add (take k l ++ take j s) (drop (k + j) l) 1 0
-    ∙ get_or-drop (k + j) l 1 0 ∙ sym (get_or-drop (suc k) l j 0 ∙ ap (λ (n : ℕ). get_or l n 0) q) in
-    ap (λ (x : ℕ). set (paste l k s j) (k + j) x) v ∙ paste-suc l k s j 0 (omega arith) (omega arith)
-
-pub moved-turn : (l next : List ℕ) (k i : ℕ) → k ≤ i → i + 1 < length l → next ≡ paste l k (drop (suc k) l) (i - k)
-    → set next i (get_or next (i + 1) 0) ≡ paste l k (drop (suc k) l) (i + 1 - k)
-moved-turn l next k i hk hi e =
-    let j : ℕ = i - k in
-    let s : List ℕ = drop (suc k) l in
-    let p : i ≡ k + j = omega arith in
-    let n : suc j ≡ i + 1 - k = omega arith in
-    ap (λ (x : List ℕ). set x i (get_or x (i + 1) 0)) e ∙ ap (λ (n : ℕ). set (paste l k s j) n (get_or (paste l k s j) (n + 1) 0)) p
-    ∙ moved_more l k j (omega arith) ∙ ap (λ (n : ℕ). paste l k s n) n
 
 pub same-transition : {a b c d a' b' c' d' : ℕ} → a ≡ a' → b ≡ b' → c ≡ c' → d ≡ d' → transition a b c d ≡ transition a' b' c' d'
 same-transition ea eb ec ed = λ i. record { from = ea i; to = eb i; low = ec i; high = ed i }

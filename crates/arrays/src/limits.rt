@@ -1,4 +1,4 @@
-// The limit of a plan's count of states, and stored numbers as machine words.
+// The limit of a plan's count of states.
 ghost use Rattle.std.specs.Prelude.{◌≡◌};
 ghost use Rattle.rules.specs.Limits.{state_count_ok};
 
@@ -7,11 +7,4 @@ pub fn state_count_ok(n: usize) -> bool
     ensures { result ≡ state_count_ok n }
 {
     (1 <= n) & (n <= 512)
-}
-
-// A stored number as a machine word.
-pub fn wide(x: u16) -> usize
-    ensures { result ≡ x }
-{
-    x as usize
 }

@@ -49,10 +49,8 @@ fn transitions(
         (fields from.new to.new low.new high.new) }
 {
     let mut ring = generator::seeded(seed);
-    let mut i = 0;
-    while i < m {
+    for i in 0..m {
         add(&mut ring, n, i, from, to, low, high);
-        i += 1;
     }
 }
 
