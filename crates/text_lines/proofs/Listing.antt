@@ -9,7 +9,7 @@
 use Prim.Native.Nat.{ℕ, zero, suc, ◌+◌, ◌-◌, ◌≤◌, ◌<◌}
 use mathlib.Core.Bool.{Bool, true, false, ◌&&◌}
 use mathlib.Core.List.{List, [], ◌∷◌, ◌++◌, append-nil, append_assoc}
-use mathlib.Core.Path.{◌≡◌, refl, sym, ap, ap₂, ◌∙◌, subst}
+use mathlib.Core.Path.{◌≡◌, refl, sym, ap, ap₂, ◌∙◌}
 use native.Mathlib.Omega.{arith}
 use borrow.Author.Tests.{leb-true}
 use lib.Dec.{leb}
@@ -33,7 +33,6 @@ use Rattle.arrays.proofs.Lists.{tabulate-more, transition-other, transition-here
 use Rattle.text_reading.specs.declared.Line.{Line}
 use Rattle.text_reading.specs.Forms.{form_then, TellsForm, line_numbers}
 use Rattle.text_reading.proofs.Reading.{number_cut}
-use Rattle.text_lines.specs.declared.Listed.{Listed}
 use Rattle.text_lines.specs.Lines.{meant, Room, onward, Added, Lists}
 
 -- ---- 1

@@ -19,8 +19,8 @@ loop-i-preserved c =
           c.in_ok-line.ensures c.requires.1 (omega arith) c.add-answer.result _ c.add-answer.ensures,
     )
 
-pub returns-after-loop-i : goal.returns-after-loop-i
-returns-after-loop-i c =
+pub returns : goal.returns
+returns c =
     let a = c.args in
     let l = c.loop-i in
     let k = l.invariant.1 in
