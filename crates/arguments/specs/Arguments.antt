@@ -4,8 +4,7 @@
 use Rattle.std.specs.Prelude.{cond, List, [], ◌∷◌, ℕ, leb, length, drop, Option, Some, None}
 use Rattle.text.specs.Text.{value}
 use Rattle.aldebaran.specs.Form.{Reading, off, on, and_then, read_word, front}
-use Rattle.scan.specs.declared.Place.{Place}
-use Rattle.scan.specs.Places.{standing, cut}
+use Rattle.scan.specs.Places.{cut}
 use Rattle.arguments.specs.declared.Arguments.{Arguments}
 
 -- a number: the digits at the front, at least one
@@ -41,8 +40,8 @@ arguments_in octets = as_given (three_in octets)
 
 -- ---- read from a place of the octets
 
-abbrev pub decimal_then : List ℕ → Place → Reading ℕ
-decimal_then octets p = and_then (standing octets p) (λ u xs. read_decimal xs)
+abbrev pub decimal_then : List ℕ → ℕ → Reading ℕ
+decimal_then octets at = read_decimal (drop at octets)
 
-abbrev pub argument_then : List ℕ → Place → Reading ℕ
-argument_then octets p = and_then (standing octets p) (λ u xs. read_argument xs)
+abbrev pub argument_then : List ℕ → ℕ → Reading ℕ
+argument_then octets at = read_argument (drop at octets)

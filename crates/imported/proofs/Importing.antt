@@ -7,7 +7,7 @@
 --    (`found_refused`, `found_plan`).
 -- Assumes nothing.
 use Prim.Native.Nat.{ℕ, zero, suc, ◌≤◌, ◌<◌, ◌^◌}
-use mathlib.Core.Bool.{Bool, true, false, not, true≢false}
+use mathlib.Core.Bool.{Bool, true, false, not}
 use mathlib.Core.List.{List, [], ◌∷◌, ◌++◌}
 use mathlib.Core.Path.{◌≡◌, refl, sym, ap, ap₂, ◌∙◌}
 use native.Mathlib.Omega.{arith}
@@ -22,23 +22,21 @@ use Rattle.aldebaran.proofs.Numbers.{off_not_on}
 use Rattle.aldebaran.proofs.RoundTrips.{both, form_written, lines-written}
 use Rattle.scan.specs.Places.{many, cut}
 use Rattle.scan.proofs.Scanning.{drop-none, drop-next}
-use Rattle.rules.specs.Answer.{Accepted, Answer}
 use Rattle.rules.specs.declared.Refusal.{Refusal}
 use Rattle.rules.specs.declared.Refusal.TheVariants.{StateCount, TransitionCount, StateNumber, TextForm}
 use Rattle.rules.specs.Aldebaran.{plan_of, first_rows, holding_rows, text_rows, graph_in_text, import_text}
 use Rattle.rules.specs.Image.{transition_rows}
 use Rattle.rules.specs.Limits.{state_count_ok, transition_count_ok}
-use Rattle.rules.specs.Refusal.{Result, accepted, refused, said}
+use Rattle.rules.specs.Refusal.{Result, accepted, refused}
 use Rattle.rules.specs.Table.{Row, by_table, first, each, NoneHolds}
 use Rattle.rules.proofs.ImportExport.{Head, head}
 use Rattle.rules.proofs.Results.{not-false, and_true, and_false, refused_as}
 use Rattle.rules.proofs.Tables.{tail-decides, answer-first, accepted_where, accepted_only}
-use Rattle.arrays.specs.Tables.{states_of, transitions_of, graph_of, Fields}
-use Rattle.text_lines.specs.declared.Listed.{Listed}
-use Rattle.text_lines.specs.Lines.{onward, Lists}
+use Rattle.arrays.specs.Tables.{states_of, transitions_of, graph_of}
+use Rattle.text_lines.specs.Lines.{onward}
 use Rattle.text_reading.specs.declared.First.{First}
-use Rattle.text_reading.specs.Forms.{first_numbers}
-use Rattle.text_reading.proofs.Reading.{Told}
+use Rattle.text_reading.specs.Forms.{form_then, TellsForm, first_numbers}
+use Rattle.text_reading.proofs.Reading.{number_cut}
 use Rattle.imported.specs.Import.{Marked}
 use Rattle.scan.proofs.Cuts.{cut_below, cut_above, leb_cut, leb_not_cut, cut-is}
 
@@ -199,42 +197,26 @@ module _ (text ns xs : List ℕ) (ts : List Transition) (e : read_form first_for
   found_plan q =
       decides ∙ accepted_where (holding_rows (holding ns ts)) (plan_of (holding ns ts)) (accepted_only (holding_rows (holding ns ts)) tt tt (sym same_rows ∙ q)).0
 
--- lines that were read, on form or off it
-pub record Read (text : List ℕ) (r : Reading (List Transition)) (n m : ℕ) (a : Answer) (f : Fields) (l : Listed) : Type 0 where
-  pub transitions : List Transition
-  pub all : r ≡ on transitions (drop l.next.at text)
-  pub answered : said l.answer ≡ onward (said a) (each (transition_rows n) transitions)
-  pub held : l.answer ≡ Accepted → transitions_of m f.from f.to f.low f.high ≡ transitions
-
-module _ (text : List ℕ) (n m : ℕ) (a : Answer) (f : Fields) (l : Listed) where
-  pub lists-on : (r : Reading (List Transition)) → Lists text r n m a f l → l.next.on ≡ true → Read text r n m a f l
-  lists-on off k o = absurd (true≢false (sym o ∙ k))
-  lists-on (on ts rest) (k, d, s, h) o = record { transitions = ts; all = ap (on ts) (sym d); answered = s; held = h }
-
-  pub lists-off : (r : Reading (List Transition)) → Lists text r n m a f l → l.next.on ≡ false → r ≡ off
-  lists-off off k o = refl
-  lists-off (on ts rest) (k, d, s, h) o = absurd (true≢false (sym k ∙ o))
-
 -- the whole text, by the numbers that the code read from its first line
-module _ (text : List ℕ) (short : length text < 2 ^ 63) (f : First) (t : Told text 0 first_form (first_numbers f) f.next) where
+module _ (text : List ℕ) (short : length text < 2 ^ 63) (f : First) (t : TellsForm text (form_then text 0 first_form) (first_numbers f) f.next) where
   xs : List ℕ
-  xs = drop f.next.at text
+  xs = drop f.next text
 
   ns : List ℕ
   ns = t.numbers
 
   same_lines : read_lines f.transitions xs ≡ read_lines (get_or ns 1 0) xs
   unfolding xs ns
-  same_lines = ap (λ (k : ℕ). read_lines k xs) (t.cuts 1) ∙ lines_cut (get_or ns 1 0) xs (omega (arith, short, length-drop f.next.at text))
+  same_lines = ap (λ (k : ℕ). read_lines k xs) (number_cut t 1) ∙ lines_cut (get_or ns 1 0) xs (omega (arith, short, length-drop f.next text))
 
-  pub by_lines : read_lines f.transitions (drop f.next.at text) ≡ off → import_text text ≡ refused TextForm
+  pub by_lines : read_lines f.transitions (drop f.next text) ≡ off → import_text text ≡ refused TextForm
   unfolding xs ns
-  by_lines e = lines-off text ns xs t.read (sym same_lines ∙ e)
+  by_lines e = lines-off text ns xs t.told (sym same_lines ∙ e)
 
-  module _ (ts : List Transition) (k : ℕ) (e : read_lines f.transitions (drop f.next.at text) ≡ on ts (drop k text)) where
+  module _ (ts : List Transition) (k : ℕ) (e : read_lines f.transitions (drop f.next text) ≡ on ts (drop k text)) where
     pub by_end : k < length text → import_text text ≡ refused TextForm
     unfolding xs ns
-    by_end h = end-off text ns xs t.read ts (get_or text k 0) (drop (suc k) text) (sym same_lines ∙ e ∙ ap (on ts) (drop-next text k h))
+    by_end h = end-off text ns xs t.told ts (get_or text k 0) (drop (suc k) text) (sym same_lines ∙ e ∙ ap (on ts) (drop-next text k h))
 
     module _ (h : length text ≤ k) (answer : Result (Unit {0})) (q : answer ≡ onward (first (first_rows f.initial f.transitions f.states)) (each (transition_rows f.states) ts)) where
       whole_lines : read_lines (get_or ns 1 0) xs ≡ on ts []
@@ -243,18 +225,18 @@ module _ (text : List ℕ) (short : length text < 2 ^ 63) (f : First) (t : Told 
 
       by_cuts : answer ≡ onward (first (first_rows (cut (get_or ns 0 0)) (cut (get_or ns 1 0)) (cut (get_or ns 2 0)))) (each (transition_rows (cut (get_or ns 2 0))) ts)
       unfolding ns
-      by_cuts = rw (← t.cuts 0, ← t.cuts 1, ← t.cuts 2) q
+      by_cuts = rw (← number_cut t 0, ← number_cut t 1, ← number_cut t 2) q
 
       pub by_rows : (r : Refusal) → answer ≡ refused r → import_text text ≡ refused r
       unfolding xs ns
-      by_rows r a = found_refused text ns xs ts t.read whole_lines r (sym by_cuts ∙ a)
+      by_rows r a = found_refused text ns xs ts t.told whole_lines r (sym by_cuts ∙ a)
 
       pub by_plan : answer ≡ accepted tt → Head f.initial f.transitions f.states → (marks teams from to low high : List ℕ) → Marked f.states f.initial marks teams
           → transitions_of f.transitions from to low high ≡ ts → accepted (graph_of f.states f.transitions marks teams from to low high) ≡ import_text text
       unfolding xs ns plan_of
       by_plan a d marks teams from to low high s l =
-          let n : f.states ≡ get_or ns 2 0 = t.cuts 2 ∙ cut-is (get_or ns 2 0) (omega (arith, d.most, t.cuts 2)) in
-          let i : f.initial ≡ get_or ns 0 0 = t.cuts 0 ∙ cut-is (get_or ns 0 0) (omega (arith, d.most, d.inside, t.cuts 0)) in
+          let n : f.states ≡ get_or ns 2 0 = number_cut t 2 ∙ cut-is (get_or ns 2 0) (omega (arith, d.most, number_cut t 2)) in
+          let i : f.initial ≡ get_or ns 0 0 = number_cut t 0 ∙ cut-is (get_or ns 0 0) (omega (arith, d.most, d.inside, number_cut t 0)) in
           let states : states_of f.states marks teams ≡ set (replicate (get_or ns 2 0) (marked 0)) (get_or ns 0 0) (marked 4) =
           s.states ∙ ap₂ (λ (x y : ℕ). set (replicate x (marked 0)) y (marked 4)) n i in
-          (λ j. accepted (record { state_list = states j; transitions = l j })) ∙ sym (found_plan text ns xs ts t.read whole_lines (sym by_cuts ∙ a))
+          (λ j. accepted (record { state_list = states j; transitions = l j })) ∙ sym (found_plan text ns xs ts t.told whole_lines (sym by_cuts ∙ a))

@@ -53,21 +53,15 @@ pub fn fill(
     ensures { Imports text.now marks.new teams.new
         (fields from.new to.new low.new high.new) result }
 {
-    let heading = text_reading::read_first(text);
-    let start = heading.next;
-    if !start.on {
-        return Err(Refusal::TextForm);
-    }
+    let heading = text_reading::read_first(text).ok_or(Refusal::TextForm)?;
     let initial = heading.initial;
     let m = heading.transitions;
     let n = heading.states;
     let grounds = first_grounds(initial, m, n);
-    let listed = text_lines::lines(text, start.at, grounds, n, m, from, to, low, high);
+    let lines = text_lines::lines(text, heading.next, grounds, n, m, from, to, low, high);
+    let listed = lines.ok_or(Refusal::TextForm)?;
     let end = listed.next;
-    if !end.on {
-        return Err(Refusal::TextForm);
-    }
-    if end.at < text.len() {
+    if end < text.len() {
         return Err(Refusal::TextForm);
     }
     listed.answer?;

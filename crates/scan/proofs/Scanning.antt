@@ -4,7 +4,7 @@
 -- 2. Digits are taken while there are some: those taken so far, and those at the front of what is left, are all the digits at the place (`Scanned`). A number that is cut off has the
 --    same next value, cut off, as the number itself (`cut-more`).
 -- 3. Whether the digits are a numeral is seen from how many they are, and from the first of them (`numeral-none`, `numeral-one`, `numeral-more`).
--- 4. So what is found at a place is what the definitions read there, and after what was off the form nothing is read.
+-- 4. So what is found at a place is what the definitions read there.
 -- Assumes nothing.
 use Prim.Native.Nat.{ℕ, zero, suc, ◌+◌, ◌-◌, ◌*◌, ◌≤◌, ◌<◌}
 use mathlib.Core.Bool.{Bool, true, false, not, cond, true≢false, ◌&&◌}
@@ -19,12 +19,11 @@ use lib.ListN.{length, take, drop, get_or, length-append}
 use lib.Seq.{drop-drop}
 use Rattle.text.specs.Text.{value_after, value}
 use Rattle.text.proofs.Numerals.{value_snoc}
-use Rattle.aldebaran.specs.Form.{off, on, and_then, read_word, is_digit, front, is_numeral, read_number}
+use Rattle.aldebaran.specs.Form.{off, on, read_word, is_digit, front, is_numeral, read_number}
 use Rattle.aldebaran.proofs.Numbers.{is_digit-true}
-use Rattle.scan.specs.declared.Place.{Place}
 use Rattle.scan.specs.declared.Taken.{Taken}
 use Rattle.scan.proofs.Cuts.{cut_below, cut_above}
-use Rattle.scan.specs.Places.{Sound, standing, word_then, number_then, many, cut, more, DigitsAt, Tells}
+use Rattle.scan.specs.Places.{word_then, number_then, many, cut, more, DigitsAt, Passed, Tells}
 
 -- what is left at a place of a list, from its first number on
 pub drop-next : (xs : List ℕ) (k : ℕ) → k < length xs → drop k xs ≡ get_or xs k 0 ∷ drop (suc k) xs
@@ -183,33 +182,23 @@ first-at xs k h = ap (λ (l : List ℕ). get_or l 0 0) (drop-next xs k h)
 
 -- ---- 4
 
-module _ (text : List ℕ) (p : Place) where
-  -- nothing is read after what was off the form
-  pub word-after-off : (w : List ℕ) (r : Place) → p.on ≡ false → r.on ≡ false → Sound text r × (standing text r ≡ word_then text p w)
-  unfolding and_then
-  word-after-off w r e f = (λ q. absurd (true≢false (sym q ∙ f)), rw (e, f) refl)
+module _ (text : List ℕ) (at : ℕ) where
+  pub word-there : (w : List ℕ) → at + length w ≤ length text → read_word w (drop at text) ≡ on [] (drop (length w) (drop at text))
+      → Passed text (word_then text at w) (at + length w)
+  word-there w b n = record { inside = b; rest = n ∙ ap (on []) (drop-drop (length w) at text) }
 
-  pub number-after-off : (r : Taken) → p.on ≡ false → r.next.on ≡ false → Sound text r.next × Tells text (number_then text p) r
-  unfolding and_then
-  number-after-off r e f = (λ q. absurd (true≢false (sym q ∙ f)), rw e f)
+  pub number_not_there : is_numeral (front (drop at text)) ≡ false → number_then text at ≡ off
+  unfolding read_number
+  number_not_there n = rw n refl
 
-  module _ (e : p.on ≡ true) where
-    pub word_not_there : (w : List ℕ) (r : Place) → read_word w (drop p.at text) ≡ off → r.on ≡ false → Sound text r × (standing text r ≡ word_then text p w)
-    unfolding and_then
-    word_not_there w r n f = (λ q. absurd (true≢false (sym q ∙ f)), rw (e, f, n) refl)
-
-    pub word-there : (w : List ℕ) → p.at + length w ≤ length text → read_word w (drop p.at text) ≡ on [] (drop (length w) (drop p.at text))
-        → Sound text (record { on = true; at = p.at + length w }) × (standing text (record { on = true; at = p.at + length w }) ≡ word_then text p w)
-    unfolding and_then
-    word-there w b n = (λ q. b, rw (e, n, drop-drop (length w) p.at text) refl)
-
-    pub number_not_there : (r : Taken) → is_numeral (front (drop p.at text)) ≡ false → r.next.on ≡ false → Sound text r.next × Tells text (number_then text p) r
-    unfolding and_then read_number
-    number_not_there r n f = (λ q. absurd (true≢false (sym q ∙ f)), rw (e, n) f)
-
-    pub number-there : (r : Taken) → is_numeral (front (drop p.at text)) ≡ true → DigitsAt text p.at r → Sound text r.next × Tells text (number_then text p) r
-    unfolding and_then read_number
-    number-there r n d = (λ q. d.inside, rw (e, n) (d.on_form, d.number, rest))
-      where
-        rest : drop r.next.at text ≡ drop (length (front (drop p.at text))) (drop p.at text)
-        rest = ap (λ (k : ℕ). drop k text) d.end ∙ sym (drop-drop (length (front (drop p.at text))) p.at text)
+  pub number-there : (r : Taken) → is_numeral (front (drop at text)) ≡ true → DigitsAt text at r → Tells text (number_then text at) r
+  unfolding read_number
+  number-there r n d = record {
+    inside = d.inside;
+    number = value (front (drop at text));
+    told = rw n (ap (on (value (front (drop at text)))) rest);
+    value_is = d.number;
+  }
+    where
+      rest : drop (length (front (drop at text))) (drop at text) ≡ drop r.next text
+      rest = drop-drop (length (front (drop at text))) at text ∙ ap (λ (k : ℕ). drop k text) (sym d.end)

@@ -1,24 +1,20 @@
 -- Places in a text, and what is read from them. Assumes nothing.
-use Rattle.std.specs.Prelude.{ℕ, ◌+◌, ◌-◌, ◌*◌, ◌≤◌, true, false, cond, List, [], ◌≡◌, ltb, length, drop}
+use Rattle.std.specs.Prelude.{ℕ, ◌+◌, ◌-◌, ◌*◌, ◌≤◌, cond, List, [], ◌≡◌, ltb, length, drop}
 use Rattle.text.specs.Text.{value}
-use Rattle.aldebaran.specs.Form.{Reading, off, on, and_then, read_word, read_number, front}
+use Rattle.aldebaran.specs.Form.{Reading, on, read_word, read_number, front}
 use Rattle.scan.specs.declared.Taken.{Taken}
-use Rattle.scan.specs.declared.Place.{Place}
 
--- a place on form lies in the text
-abbrev pub Sound : List ℕ → Place → Type 0
-Sound text p = p.on ≡ true → p.at ≤ length text
+-- a word read at a place, and a number
+abbrev pub word_then : List ℕ → ℕ → List ℕ → Reading (List ℕ)
+word_then text at w = read_word w (drop at text)
 
--- what is left of a text at a place; off the form where the place is
-abbrev pub standing : List ℕ → Place → Reading (List ℕ)
-standing text p = cond p.on (on [] (drop p.at text)) off
+abbrev pub number_then : List ℕ → ℕ → Reading ℕ
+number_then text at = read_number (drop at text)
 
--- a word read there, and a number
-abbrev pub word_then : List ℕ → Place → List ℕ → Reading (List ℕ)
-word_then text p w = and_then (standing text p) (λ u xs. read_word w xs)
-
-abbrev pub number_then : List ℕ → Place → Reading ℕ
-number_then text p = and_then (standing text p) (λ u xs. read_number xs)
+-- what was read ended at this place, which lies in the text, and what is left stands there
+pub record Passed (text : List ℕ) (read : Reading (List ℕ)) (next : ℕ) : Type 0 where
+  pub inside : next ≤ length text
+  pub rest : read ≡ on [] (drop next text)
 
 -- ---- numbers, cut off: every limit of a plan, and the number of lines of every text, is below `many`
 abbrev pub many : ℕ
@@ -33,12 +29,13 @@ more v d = cond (ltb v 1_000_000_000_000_000_000) (10 * v + (d - 48)) many
 
 -- the digits from the place on: where they end, and their value
 pub record DigitsAt (text : List ℕ) (at : ℕ) (r : Taken) : Type 0 where
-  pub on_form : r.next.on ≡ true
-  pub end : r.next.at ≡ at + length (front (drop at text))
-  pub inside : r.next.at ≤ length text
+  pub end : r.next ≡ at + length (front (drop at text))
+  pub inside : r.next ≤ length text
   pub number : r.value ≡ cut (value (front (drop at text)))
 
--- what was read, as a number that is cut off with the place after it
-abbrev pub Tells : List ℕ → Reading ℕ → Taken → Type 0
-Tells text off r = r.next.on ≡ false
-Tells text (on v rest) r = (r.next.on ≡ true) × (r.value ≡ cut v) × (drop r.next.at text ≡ rest)
+-- what was read, as a number that is cut off with the place after it, which lies in the text
+pub record Tells (text : List ℕ) (read : Reading ℕ) (r : Taken) : Type 0 where
+  pub inside : r.next ≤ length text
+  pub number : ℕ
+  pub told : read ≡ on number (drop r.next text)
+  pub value_is : r.value ≡ cut number

@@ -1,53 +1,31 @@
-// Fixed words and decimal numbers, read from lent octets from a place on. A place says whether all was on form so far, so that one thing is read after another
-// without a test between them. A number may have any length: it is cut off where no test looks any more.
+// Fixed words and decimal numbers, read from lent octets from a place on. What was read ends at a place of the octets, where what follows is read; what is off the form is None.
+// A number may have any length: it is cut off where no test looks any more.
 #![tactic(auto)]
 
-ghost use Rattle.std.specs.Prelude.{true, false, ◌≡◌, ◌+◌, ◌≤◌, length, drop};
-ghost use Rattle.aldebaran.specs.Form.{is_digit, is_numeral, front};
-ghost use Rattle.scan.specs.Places.{Sound, standing, word_then, number_then, more as moreOf, DigitsAt, Tells};
+ghost use Rattle.std.specs.Prelude.{true, ◌≡◌, ◌+◌, ◌≤◌, length, drop, MatchOption};
+ghost use Rattle.aldebaran.specs.Form.{is_digit, is_numeral, front, off};
+ghost use Rattle.scan.specs.Places.{word_then, number_then, more as moreOf, DigitsAt, Passed, Tells};
 
 // Every number from here on is cut off to this one.
 pub const MANY: usize = 10_000_000_000_000_000_000;
-
-// A place in a text: whether all before it was on form, and how many octets that was.
-#[derive(Clone, Copy)]
-pub struct Place {
-    pub on: bool,
-    pub at: usize,
-}
 
 // A number, and the place after it.
 #[derive(Drop)]
 pub struct Taken {
     pub value: usize,
-    pub next: Place,
+    pub next: usize,
 }
 
-// What was off the form.
-pub fn off() -> Taken
-    ensures { result.next.on ≡ false }
+// Reads a fixed word, and returns the place after it.
+pub fn word(text: &[u8], at: usize, word: &[u8]) -> Option<usize>
+    requires { at ≤ length text.now }
+    ensures { MatchOption result (word_then text.now at word.now ≡ off)
+        (Passed text.now (word_then text.now at word.now)) }
 {
-    Taken {
-        value: 0,
-        next: Place { on: false, at: 0 },
+    if !text[at..].starts_with(word) {
+        return None;
     }
-}
-
-// Reads a fixed word.
-pub fn word(text: &[u8], from: Place, word: &[u8]) -> Place
-    requires { Sound text.now from }
-    ensures { Sound text.now result × (standing text.now result ≡ word_then text.now from word.now) }
-{
-    if !from.on {
-        return off().next;
-    }
-    if !text[from.at..].starts_with(word) {
-        return off().next;
-    }
-    Place {
-        on: true,
-        at: from.at + word.len(),
-    }
+    Some(at + word.len())
 }
 
 // A number with one digit more.
@@ -73,10 +51,7 @@ pub fn digits(text: &[u8], at: usize) -> Taken
         value = more(value, text[i]);
         i += 1;
     }
-    Taken {
-        value,
-        next: Place { on: true, at: i },
-    }
+    Taken { value, next: i }
 }
 
 // Whether the digits from a place up to another are a numeral: some digits, and no leading zero.
@@ -88,16 +63,13 @@ fn is_numeral(text: &[u8], at: usize, end: usize) -> bool
 }
 
 // Reads a number.
-pub fn number(text: &[u8], from: Place) -> Taken
-    requires { Sound text.now from }
-    ensures { Sound text.now result.next × Tells text.now (number_then text.now from) result }
+pub fn number(text: &[u8], at: usize) -> Option<Taken>
+    requires { at ≤ length text.now }
+    ensures { MatchOption result (number_then text.now at ≡ off) (Tells text.now (number_then text.now at)) }
 {
-    if !from.on {
-        return off();
+    let read = digits(text, at);
+    if !is_numeral(text, at, read.next) {
+        return None;
     }
-    let read = digits(text, from.at);
-    if !is_numeral(text, from.at, read.next.at) {
-        return off();
-    }
-    read
+    Some(read)
 }

@@ -9,7 +9,7 @@
 use Prim.Native.Nat.{ℕ, zero, suc, ◌+◌, ◌-◌, ◌≤◌, ◌<◌}
 use mathlib.Core.Bool.{Bool, true, false, ◌&&◌}
 use mathlib.Core.List.{List, [], ◌∷◌, ◌++◌, append-nil, append_assoc}
-use mathlib.Core.Path.{◌≡◌, refl, sym, ap, ap₂, ◌∙◌, subst}
+use mathlib.Core.Path.{◌≡◌, refl, sym, ap, ap₂, ◌∙◌}
 use native.Mathlib.Omega.{arith}
 use borrow.Author.Tests.{leb-true}
 use lib.Dec.{leb}
@@ -17,8 +17,7 @@ use lib.ListN.{length, drop, length-append}
 use Rattle.graph.specs.Graph.{Transition}
 use Rattle.aldebaran.specs.Form.{Reading, off, on, and_then, read_form}
 use Rattle.aldebaran.specs.Text.{line_form, transition_of, read_lines}
-use Rattle.scan.specs.declared.Place.{Place}
-use Rattle.scan.specs.Places.{Sound, cut}
+use Rattle.scan.specs.Places.{cut}
 use Rattle.rules.specs.Answer.{Accepted, Answer}
 use Rattle.std.proofs.Common.{Ok, Err}
 use Rattle.rules.specs.Image.{tabulate, transition_rows}
@@ -32,9 +31,8 @@ use Rattle.rules.proofs.Tables.{accepted_only}
 use Rattle.arrays.specs.Tables.{transition, transitions_of, transition_of as transition_at, Fields}
 use Rattle.arrays.proofs.Lists.{tabulate-more, transition-other, transition-here, same-transition}
 use Rattle.text_reading.specs.declared.Line.{Line}
-use Rattle.text_reading.specs.Forms.{line_numbers}
-use Rattle.text_reading.proofs.Reading.{Told}
-use Rattle.text_lines.specs.declared.Listed.{Listed}
+use Rattle.text_reading.specs.Forms.{form_then, TellsForm, line_numbers}
+use Rattle.text_reading.proofs.Reading.{number_cut}
 use Rattle.text_lines.specs.Lines.{meant, Room, onward, Added, Lists}
 
 -- ---- 1
@@ -95,8 +93,8 @@ not_cut n t h e =
 -- ---- 3
 
 -- the transition of a line that was read
-told_means : (text : List ℕ) (at : ℕ) (l : Line) (t : Told text at line_form (line_numbers l) l.next) → meant l ≡ cut_all (transition_of t.numbers)
-told_means text at l t = same-transition (t.cuts 0) (t.cuts 3) (t.cuts 1) (t.cuts 2)
+told_means : (text : List ℕ) (at : ℕ) (l : Line) (t : TellsForm text (form_then text at line_form) (line_numbers l) l.next) → meant l ≡ cut_all (transition_of t.numbers)
+told_means text at l t = same-transition (number_cut t 0) (number_cut t 3) (number_cut t 1) (number_cut t 2)
 
 -- lines that were read, and those that follow
 abbrev after : List Transition → Reading (List Transition) → Reading (List Transition)
@@ -127,22 +125,20 @@ unfolding read_lines
 no_line xs = refl
 
 module _ (text : List ℕ) (at n m : ℕ) (a₀ : Answer) where
-  pub record Kept (answer : Answer) (next : Place) (i : ℕ) (f : Fields) : Type 0 where
+  pub record Kept (answer : Answer) (next i : ℕ) (f : Fields) : Type 0 where
     pub transitions : List Transition
     pub number_of : length transitions ≡ i
-    pub on_form : next.on ≡ true
-    pub inside : next.at ≤ length text
-    pub front : read_lines m (drop at text) ≡ after transitions (read_lines (m - i) (drop next.at text))
+    pub inside : next ≤ length text
+    pub front : read_lines m (drop at text) ≡ after transitions (read_lines (m - i) (drop next text))
     pub answered : said answer ≡ onward (said a₀) (each (transition_rows n) transitions)
     pub held : answer ≡ Accepted → transitions_of i f.from f.to f.low f.high ≡ transitions
     pub room : Room f
 
-  pub kept-none : (f : Fields) → at ≤ length text → Room f → Kept a₀ (record { on = true; at = at }) 0 f
+  pub kept-none : (f : Fields) → at ≤ length text → Room f → Kept a₀ at 0 f
   unfolding each tabulate
   kept-none f h r = let whole : m - 0 ≡ m = omega arith in record {
     transitions = [];
     number_of = refl;
-    on_form = refl;
     inside = h;
     front = sym (ap (λ (x : ℕ). after [] (read_lines x (drop at text))) whole ∙ after_none (read_lines m (drop at text)));
     answered = sym (onward-none (said a₀));
@@ -150,26 +146,26 @@ module _ (text : List ℕ) (at n m : ℕ) (a₀ : Answer) where
     room = r;
   }
 
-  module _ (answer : Answer) (next : Place) (i : ℕ) (f : Fields) (k : Kept answer next i f) where
+  module _ (answer : Answer) (next i : ℕ) (f : Fields) (k : Kept answer next i f) where
     left : i < m → m - i ≡ suc (m - (i + 1))
     left h = omega arith
 
-    pub kept_off : i < m → read_form line_form (drop next.at text) ≡ off → read_lines m (drop at text) ≡ off
+    pub kept_off : i < m → read_form line_form (drop next text) ≡ off → read_lines m (drop at text) ≡ off
     kept_off h e =
-        k.front ∙ ap (λ (x : ℕ). after k.transitions (read_lines x (drop next.at text))) (left h)
-        ∙ line-off k.transitions (m - (i + 1)) (drop next.at text) e
+        k.front ∙ ap (λ (x : ℕ). after k.transitions (read_lines x (drop next text))) (left h)
+        ∙ line-off k.transitions (m - (i + 1)) (drop next text) e
 
     -- an answer that is accepted so far is after an accepted first line
     pub so_far : answer ≡ Accepted → a₀ ≡ Accepted
     so_far e = accepted-answer a₀ (onward-accepted (said a₀) (each (transition_rows n) k.transitions) (sym k.answered ∙ ap said e)).0
 
-    module _ (l : Line) (t : Told text next.at line_form (line_numbers l) l.next) (on_form : l.next.on ≡ true) (sound : Sound text l.next) (small : a₀ ≡ Accepted → (n ≤ 512) × (m ≤ 2048)) (h : i < m) (r : Answer) (f' : Fields)
+    module _ (l : Line) (t : TellsForm text (form_then text next line_form) (line_numbers l) l.next) (small : a₀ ≡ Accepted → (n ≤ 512) × (m ≤ 2048)) (h : i < m) (r : Answer) (f' : Fields)
         (a : Added n i (meant l) answer f f' r) where
       this : Transition
       this = transition_of t.numbers
 
       means : meant l ≡ cut_all (transition_of t.numbers)
-      means = told_means text next.at l t
+      means = told_means text next l t
 
       all : List Transition
       all = k.transitions ++ (this ∷ [])
@@ -202,12 +198,11 @@ module _ (text : List ℕ) (at n m : ℕ) (a₀ : Answer) where
       kept_more = record {
         transitions = all;
         number_of = length-append k.transitions (this ∷ []) ∙ ap (λ (x : ℕ). x + 1) k.number_of;
-        on_form = on_form;
-        inside = sound on_form;
+        inside = t.inside;
         front =
-            k.front ∙ ap (λ (x : ℕ). after k.transitions (read_lines x (drop next.at text))) (left h)
-            ∙ ap (after k.transitions) (line_on (m - (i + 1)) (drop next.at text) t.numbers (drop l.next.at text) t.read)
-            ∙ after_more k.transitions this (read_lines (m - (i + 1)) (drop l.next.at text));
+            k.front ∙ ap (λ (x : ℕ). after k.transitions (read_lines x (drop next text))) (left h)
+            ∙ ap (after k.transitions) (line_on (m - (i + 1)) (drop next text) t.numbers (drop l.next text) t.told)
+            ∙ after_more k.transitions this (read_lines (m - (i + 1)) (drop l.next text));
         answered =
             a.rows ∙ rows ∙ ap (λ (o : Result (Unit {0})). onward o (transition_rows n this)) k.answered
             ∙ onward-more (said a₀) (transition_rows n) k.transitions this;
@@ -216,18 +211,17 @@ module _ (text : List ℕ) (at n m : ℕ) (a₀ : Answer) where
       }
 
     -- all of them
-    pub kept-all : (r : Listed) → r.next ≡ next → r.answer ≡ answer → i ≡ m → Lists text (read_lines m (drop at text)) n m a₀ f r
+    pub kept-all : i ≡ m → Lists text (read_lines m (drop at text)) n m a₀ f (record { answer = answer; next = next })
     unfolding and_then
-    kept-all r p a e =
-        let all : read_lines m (drop at text) ≡ on k.transitions (drop next.at text) =
-        k.front ∙ ap (λ (x : ℕ). after k.transitions (read_lines x (drop next.at text))) none ∙ ap (after k.transitions) (no_line (drop next.at text))
-        ∙ ap (λ (ts : List Transition). on ts (drop next.at text)) (append-nil k.transitions) in
-        subst (λ (x : Reading (List Transition)). Lists text x n m a₀ f r) (sym all) (
-          ap (λ (q : Place). q.on) p ∙ k.on_form,
-          ap (λ (q : Place). drop q.at text) p,
-          ap said a ∙ k.answered,
-          λ ok. ap (λ (x : ℕ). transitions_of x f.from f.to f.low f.high) (sym e) ∙ k.held (sym a ∙ ok),
-        )
+    kept-all e = record {
+      inside = k.inside;
+      transitions = k.transitions;
+      all =
+          k.front ∙ ap (λ (x : ℕ). after k.transitions (read_lines x (drop next text))) none ∙ ap (after k.transitions) (no_line (drop next text))
+          ∙ ap (λ (ts : List Transition). on ts (drop next text)) (append-nil k.transitions);
+      answered = k.answered;
+      held = λ ok. ap (λ (x : ℕ). transitions_of x f.from f.to f.low f.high) (sym e) ∙ k.held ok;
+    }
       where
         none : m - i ≡ 0
         none = omega (arith, e)

@@ -1,7 +1,7 @@
 -- What reading lines promises. Document 02, E1: the grounds "line by line", which E3 numbers 16, 17, 8. Assumes nothing.
-use Rattle.std.specs.Prelude.{ℕ, ◌≤◌, true, false, List, ◌≡◌, length, drop, set}
+use Rattle.std.specs.Prelude.{ℕ, ◌≤◌, List, ◌≡◌, length, drop, set}
 use Rattle.graph.specs.Graph.{Transition}
-use Rattle.aldebaran.specs.Form.{Reading, off, on}
+use Rattle.aldebaran.specs.Form.{Reading, on}
 use Rattle.rules.specs.Answer.{Accepted, Answer}
 use Rattle.rules.specs.Image.{transition_rows}
 use Rattle.rules.specs.Refusal.{Result, accepted, refused, said}
@@ -33,9 +33,10 @@ pub record Added (n i : ℕ) (t : Transition) (answer : Answer) (before after : 
   pub put : r ≡ Accepted → after ≡ stored i t before
   pub room : Room after
 
--- lines, after a first line that is answered so: off the form where the definition is; otherwise the place after them, the answer of all, and the transitions where none was refused
-abbrev pub Lists : List ℕ → Reading (List Transition) → ℕ → ℕ → Answer → Fields → Listed → Type 0
-Lists text off n m answer f r = r.next.on ≡ false
-Lists text (on ts rest) n m answer f r =
-    (r.next.on ≡ true) × (drop r.next.at text ≡ rest) × (said r.answer ≡ onward (said answer) (each (transition_rows n) ts))
-    × (r.answer ≡ Accepted → transitions_of m f.from f.to f.low f.high ≡ ts)
+-- lines that were read, after a first line that is answered so: the place after them, which lies in the text, the answer of all, and the transitions where none was refused
+pub record Lists (text : List ℕ) (read : Reading (List Transition)) (n m : ℕ) (answer : Answer) (f : Fields) (r : Listed) : Type 0 where
+  pub inside : r.next ≤ length text
+  pub transitions : List Transition
+  pub all : read ≡ on transitions (drop r.next text)
+  pub answered : said r.answer ≡ onward (said answer) (each (transition_rows n) transitions)
+  pub held : r.answer ≡ Accepted → transitions_of m f.from f.to f.low f.high ≡ transitions

@@ -2,22 +2,21 @@
 // kept, and after it nothing more is stored.
 #![tactic(auto)]
 
-ghost use Rattle.std.specs.Prelude.{◌≡◌, ◌≤◌, ◌<◌, length, drop};
+ghost use Rattle.std.specs.Prelude.{◌≡◌, ◌≤◌, ◌<◌, length, drop, MatchOption};
 ghost use Rattle.rules.specs.Answer.{Accepted};
+ghost use Rattle.aldebaran.specs.Form.{off};
 ghost use Rattle.aldebaran.specs.Text.{read_lines};
 ghost use Rattle.arrays.specs.Tables.{fields};
-ghost use Rattle.scan.specs.Places.{Sound};
 ghost use Rattle.text_lines.specs.Lines.{Room, meant, Added, Lists};
 
 use rules::Refusal;
-use scan::Place;
 use text_reading::Line;
 
 // What came of lines: the answer so far, and the place after them.
 #[derive(Drop)]
 pub struct Listed {
     pub answer: Result<(), Refusal>,
-    pub next: Place,
+    pub next: usize,
 }
 
 // One line more, after those that are answered so far: its grounds are looked at, and it is stored at place i, where no line before it was refused.
@@ -45,7 +44,7 @@ fn add(
     Ok(())
 }
 
-// Reads m lines of a plan with n states from a place on, after a first line that was answered so.
+// Reads m lines of a plan with n states from a place on, after a first line that was answered so. It is none where a line is off the form.
 pub fn lines(
     text: &[u8],
     at: usize,
@@ -56,23 +55,20 @@ pub fn lines(
     to: &mut [u16; 2048],
     low: &mut [u16; 2048],
     high: &mut [u16; 2048],
-) -> Listed
+) -> Option<Listed>
     requires { (at ≤ length text.now) × (first ≡ Accepted → (n ≤ 512) × (m ≤ 2048))
         × Room (fields from.old to.old low.old high.old) }
-    ensures { Sound text.now result.next
-        × Lists text.now (read_lines m (drop at text.now)) n m first
-        (fields from.new to.new low.new high.new) result
+    ensures { MatchOption result (read_lines m (drop at text.now) ≡ off)
+        (Lists text.now (read_lines m (drop at text.now)) n m first
+        (fields from.new to.new low.new high.new))
         × Room (fields from.new to.new low.new high.new) }
 {
-    let mut next = Place { on: true, at };
+    let mut next = at;
     let mut answer = first;
     for i in 0..m {
-        let line = text_reading::read_line(text, next);
+        let line = text_reading::read_line(text, next)?;
         next = line.next;
-        if !next.on {
-            break;
-        }
         answer = add(answer, n, i, line, from, to, low, high);
     }
-    Listed { answer, next }
+    Some(Listed { answer, next })
 }

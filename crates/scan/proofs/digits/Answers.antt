@@ -19,10 +19,10 @@ loop-i-preserved c =
 pub returns-after-loop-i : goal.returns-after-loop-i
 returns-after-loop-i c =
     let (end, number) = scanned_all (at-end c.args.text.now c.loop-i.i c.loop-i-test.false) c.loop-i.invariant in
-    record { on_form = refl; end = end; inside = c.loop-i.invariant.inside; number = number }
+    record { end = end; inside = c.loop-i.invariant.inside; number = number }
 
 pub returns-else-is_ascii_digit : goal.returns-else-is_ascii_digit
 returns-else-is_ascii_digit c =
     let stop = no_more c.args.text.now c.loop-i.i c.loop-i-test.true (sym (ascii-digit _) ∙ sym c.is_ascii_digit.ensures.value ∙ c.if-is_ascii_digit.false) in
     let (end, number) = scanned_all stop c.loop-i.invariant in
-    record { on_form = refl; end = end; inside = c.loop-i.invariant.inside; number = number }
+    record { end = end; inside = c.loop-i.invariant.inside; number = number }
