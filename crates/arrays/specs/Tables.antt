@@ -3,6 +3,7 @@ use Rattle.std.specs.Prelude.{false, List, ◌++◌, ℕ, ◌≤◌, ◌≡◌, 
 use Rattle.graph.specs.Graph.{Graph, State, Transition, state_with}
 use Rattle.graph.specs.Route.{Cost}
 use Rattle.rules.specs.Image.{tabulate}
+use Rattle.arrays.specs.declared.Plan.{Plan}
 
 -- the state at place i of two arrays, of marks values and of teams
 abbrev pub state_of : List ℕ → List ℕ → ℕ → State
@@ -23,6 +24,10 @@ transitions_of m from to low high = tabulate m (transition_of from to low high)
 -- the graph that the arrays of a plan hold: the first n states and the first m transitions
 abbrev pub graph_of : ℕ → ℕ → List ℕ → List ℕ → List ℕ → List ℕ → List ℕ → List ℕ → Graph
 graph_of n m marks teams from to low high = record { state_list = states_of n marks teams; transitions = transitions_of m from to low high }
+
+-- the same of a plan value, whatever the value is
+abbrev pub graph_in_arrays : Plan → Graph
+graph_in_arrays p = graph_of p.states p.transitions p.marks p.teams p.from p.to p.low p.high
 
 -- a transition by its four numbers
 abbrev pub transition : ℕ → ℕ → ℕ → ℕ → Transition

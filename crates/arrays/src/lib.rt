@@ -14,3 +14,16 @@ pub struct Counts {
     pub states: usize,
     pub transitions: usize,
 }
+
+// A plan: the two counts, a marks value and a team for each state, and four fields for each transition. Places past the counts hold no part of it.
+#[derive(Clone, Copy)]
+pub struct Plan {
+    pub states: usize,
+    pub transitions: usize,
+    pub marks: [u8; 512],
+    pub teams: [u8; 512],
+    pub from: [u16; 2048],
+    pub to: [u16; 2048],
+    pub low: [u16; 2048],
+    pub high: [u16; 2048],
+}

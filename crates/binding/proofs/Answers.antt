@@ -11,7 +11,7 @@ use Rattle.graph.specs.Graph.{Graph}
 use Rattle.rules.specs.Quotations.{lent_quote_rule, lent_held_rule}
 use Rattle.rules.specs.Refusal.{Result, accepted, refused, code}
 use Rattle.rules.proofs.Basic.{numbered, not_13}
-use Rattle.plan.specs.declared.Plan.{Plan}
+use Rattle.arrays.specs.declared.Plan.{Plan}
 use Rattle.plan.specs.View.{view}
 use Rattle.slices.specs.Lent.{Slices, has_room, plan_in}
 use Rattle.edits.specs.Lent.{LentEdit}

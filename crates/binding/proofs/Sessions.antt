@@ -26,7 +26,7 @@ use Rattle.rules.proofs.Figures.{least-one}
 use Rattle.rules.proofs.Kept.{fresh-within, step-within}
 use Rattle.rules.proofs.ReadWrite.{limited}
 use Rattle.rules.proofs.Results.{never}
-use Rattle.plan.specs.declared.Plan.{Plan}
+use Rattle.arrays.specs.declared.Plan.{Plan}
 use Rattle.plan.specs.Laws.{Sized, view-laid}
 use Rattle.plan.specs.Promise.{next_value}
 use Rattle.plan.specs.View.{view, laid, no_plan}

@@ -24,7 +24,7 @@ use Rattle.rules.proofs.ReadWrite.{read-within}
 use Rattle.rules.proofs.Tables.{accepted_only, accepted_where, answer-first, after_none, after-refused}
 use Rattle.taken.specs.Taken.{bits_taken}
 use Rattle.plan.specs.declared.Edited.{Edited}
-use Rattle.plan.specs.declared.Plan.{Plan}
+use Rattle.arrays.specs.declared.Plan.{Plan}
 use Rattle.plan.specs.Promise.{Edit, Turn, Held}
 use Rattle.plan.specs.View.{view, no_plan}
 use Rattle.generated.specs.Generated.{generated_graph, generate_rows, generate_rule}

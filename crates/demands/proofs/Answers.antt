@@ -43,7 +43,7 @@ use Rattle.rules.proofs.ReadWrite.{read-within}
 use Rattle.rules.proofs.Results.{never, not-false}
 use Rattle.rules.proofs.Tables.{accepted_only, accepted_where, none-append}
 use Rattle.plan.specs.declared.Edited.{Edited}
-use Rattle.plan.specs.declared.Plan.{Plan}
+use Rattle.arrays.specs.declared.Plan.{Plan}
 use Rattle.taken.specs.Taken.{bits_taken, bits_of, QuotesImage}
 use Rattle.plan.specs.Promise.{Edit, Turn, Held}
 use Rattle.plan.specs.View.{view, laid, no_plan}

@@ -32,7 +32,7 @@ use Rattle.rules.specs.declared.Quote.{Quote}
 use Rattle.rules.specs.Quotations.{meant, says_over, says_asked, Stated, GreatestQuoted, LeastQuoted}
 use Rattle.rules.proofs.Sizes.{figure-said}
 use Rattle.rules.proofs.Small.{shows_of}
-use Rattle.plan.specs.declared.Plan.{Plan}
+use Rattle.arrays.specs.declared.Plan.{Plan}
 use Rattle.plan.specs.View.{view}
 use Rattle.demands.specs.BegunAnswered.{Going, AnsweredRoute, GoesOn, Strands, TakesOpen, AnsweredShown, BegunAnswered}
 use Rattle.demands.specs.Calculator.{Calculator, Promises}

@@ -38,7 +38,7 @@ use Rattle.rules.proofs.ReadWrite.{length-image, image-read, read-version}
 use Rattle.rules.proofs.Results.{never, not-false, refused_as}
 use Rattle.rules.proofs.Sizes.{figure-said}
 use Rattle.rules.proofs.Tables.{only_grounds, accepted_where, accepted_only, answer-first, after_none, none-append}
-use Rattle.plan.specs.declared.Plan.{Plan}
+use Rattle.arrays.specs.declared.Plan.{Plan}
 use Rattle.plan.specs.Promise.{Obeyed, none, more}
 use Rattle.plan.specs.View.{view, no_plan}
 use Rattle.plan.specs.declared.Edited.{Edited}

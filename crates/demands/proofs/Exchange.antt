@@ -18,7 +18,7 @@ use Rattle.rules.specs.Refusal.{accepted}
 use Rattle.rules.specs.Rules.{written}
 use Rattle.rules.proofs.ImportExport.{Imported, imported, import_unique}
 use Rattle.plan.specs.declared.Edited.{Edited}
-use Rattle.plan.specs.declared.Plan.{Plan}
+use Rattle.arrays.specs.declared.Plan.{Plan}
 use Rattle.plan.specs.View.{view}
 use Rattle.plan.proofs.Promises.{accepted-export, accepted-import, export-then-import, import-then-export}
 use Rattle.demands.specs.Calculator.{Calculator, Promises}

@@ -33,7 +33,7 @@ use Rattle.rules.proofs.Results.{never}
 use Rattle.rules.proofs.Sizes.{figure-said, quoted-fits, figure-fits}
 use Rattle.rules.proofs.Small.{small_quote}
 use Rattle.rules.proofs.Tables.{accepted_only, after_none}
-use Rattle.plan.specs.declared.Plan.{Plan}
+use Rattle.arrays.specs.declared.Plan.{Plan}
 use Rattle.plan.specs.View.{view}
 use Rattle.plan.proofs.Promises.{length-answer}
 use Rattle.demands.specs.Calculator.{Calculator, Promises}

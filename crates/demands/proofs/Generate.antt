@@ -30,7 +30,7 @@ use Rattle.rules.proofs.Results.{never, accepted_as, accepted-answer}
 use Rattle.rules.proofs.Tables.{accepted_only}
 use Rattle.rules.proofs.Tabulated.{length-tabulate}
 use Rattle.plan.specs.declared.Edited.{Edited}
-use Rattle.plan.specs.declared.Plan.{Plan}
+use Rattle.arrays.specs.declared.Plan.{Plan}
 use Rattle.plan.specs.Promise.{next_value}
 use Rattle.plan.specs.View.{view, no_plan}
 use Rattle.plan.proofs.Promises.{obeyed-run, puts, write-then-read}

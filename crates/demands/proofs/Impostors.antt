@@ -47,7 +47,7 @@ use Rattle.rules.proofs.Results.{never}
 use Rattle.rules.proofs.Sizes.{figure-said}
 use Rattle.rules.proofs.Tables.{after-refused}
 use Rattle.plan.specs.declared.Edited.{Edited}
-use Rattle.plan.specs.declared.Plan.{Plan}
+use Rattle.arrays.specs.declared.Plan.{Plan}
 use Rattle.plan.specs.View.{view}
 use Rattle.demands.specs.Arguments.{AllPassable}
 use Rattle.demands.specs.Calculator.{Calculator}

@@ -31,7 +31,7 @@ use Rattle.rules.proofs.ReadWrite.{Limited, limited, bounded}
 use Rattle.rules.proofs.Results.{and_true}
 use Rattle.rules.proofs.Sizes.{figure-said}
 use Rattle.arrays.specs.Tables.{over}
-use Rattle.plan.specs.declared.Plan.{Plan}
+use Rattle.arrays.specs.declared.Plan.{Plan}
 use Rattle.plan.specs.Promise.{next_value}
 use Rattle.plan.specs.View.{view, laid, no_plan}
 use Rattle.plan.specs.Laws.{view-laid}

@@ -25,7 +25,7 @@ use Rattle.rules.proofs.Results.{not-false, accepted-answer}
 use Rattle.rules.proofs.Tables.{accepted_only, accepted_where, none-append}
 use Rattle.taken.proofs.Taken.{refuses-none, transition_taken, last_taken, accepted_taken, never-more, ends, read-bits, read-most, limits-bits}
 use Rattle.plan.specs.declared.Edited.{Edited}
-use Rattle.plan.specs.declared.Plan.{Plan}
+use Rattle.arrays.specs.declared.Plan.{Plan}
 use Rattle.plan.specs.Promise.{next_value}
 use Rattle.plan.specs.View.{view}
 use Rattle.plan.proofs.Promises.{accepted-read, accepted-held}

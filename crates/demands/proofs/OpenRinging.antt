@@ -31,7 +31,7 @@ use Rattle.rules.specs.Limits.{within}
 use Rattle.rules.specs.Quotations.{meant, Stated, GreatestQuoted}
 use Rattle.rules.proofs.Figures.{within-closed, greatest_exists}
 use Rattle.rules.proofs.Sizes.{figure-said}
-use Rattle.plan.specs.declared.Plan.{Plan}
+use Rattle.arrays.specs.declared.Plan.{Plan}
 use Rattle.plan.specs.View.{view}
 use Rattle.demands.specs.Calculator.{Calculator, Promises}
 use Rattle.demands.specs.OpenRinging.{Rings, RingShown, OpenRinging}

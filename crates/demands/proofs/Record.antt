@@ -17,7 +17,7 @@ use Rattle.rules.specs.Refusal.{accepted}
 use Rattle.rules.specs.Rules.{written}
 use Rattle.rules.proofs.Figures.{figure_exists}
 use Rattle.rules.proofs.Record.{length_record, accepted_record, record_read}
-use Rattle.plan.specs.declared.Plan.{Plan}
+use Rattle.arrays.specs.declared.Plan.{Plan}
 use Rattle.plan.specs.View.{view}
 use Rattle.demands.specs.Calculator.{Calculator, Promises}
 use Rattle.demands.specs.Record.{FigureAt, Recorded}

@@ -23,7 +23,7 @@ use Rattle.rules.specs.Table.{first, NoneHolds}
 use Rattle.rules.proofs.Results.{never, accepted-answer}
 use Rattle.rules.proofs.Tables.{accepted_only, accepted_where, answer-first}
 use Rattle.plan.specs.declared.Edited.{Edited}
-use Rattle.plan.specs.declared.Plan.{Plan}
+use Rattle.arrays.specs.declared.Plan.{Plan}
 use Rattle.plan.specs.View.{view}
 use Rattle.demands.specs.Calculator.{Calculator, Promises}
 

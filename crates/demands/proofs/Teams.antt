@@ -43,7 +43,7 @@ use Rattle.rules.proofs.Tabulated.{length-tabulate, get_d_tabulate}
 use Rattle.taken.specs.Taken.{refuses}
 use Rattle.taken.proofs.Taken.{refuses-none}
 use Rattle.plan.specs.declared.Edited.{Edited}
-use Rattle.plan.specs.declared.Plan.{Plan}
+use Rattle.arrays.specs.declared.Plan.{Plan}
 use Rattle.plan.specs.View.{view, no_plan}
 use Rattle.plan.proofs.Promises.{accepted-write}
 use Rattle.demands.specs.Calculator.{Calculator, Promises}

@@ -31,7 +31,7 @@ use Rattle.rules.proofs.Tables.{only_grounds, after_none, after-refused, none-ap
 use Rattle.taken.specs.Taken.{refuses}
 use Rattle.taken.proofs.Taken.{refuses-none, transition_taken}
 use Rattle.plan.specs.declared.Edited.{Edited}
-use Rattle.plan.specs.declared.Plan.{Plan}
+use Rattle.arrays.specs.declared.Plan.{Plan}
 use Rattle.plan.specs.View.{view}
 use Rattle.demands.specs.Calculator.{Calculator, Promises}
 use Rattle.demands.specs.WhichEnd.{Wrong, bad_from, bad-to, bad-durations, transition_in, RightTo, RightToLine, WhichEnd}

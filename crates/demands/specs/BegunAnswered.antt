@@ -16,7 +16,7 @@ use Rattle.graph.specs.Which.{is_least}
 use Rattle.std.specs.Prelude.{Ok}
 use Rattle.rules.specs.declared.Quote.{Quote}
 use Rattle.rules.specs.Quotations.{meant}
-use Rattle.plan.specs.declared.Plan.{Plan}
+use Rattle.arrays.specs.declared.Plan.{Plan}
 use Rattle.plan.specs.View.{view}
 use Rattle.demands.specs.Calculator.{Calculator}
 

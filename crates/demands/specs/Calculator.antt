@@ -16,7 +16,7 @@ use Rattle.rules.specs.Quotations.{Quotes, QuotesAll, Write, record_octets, reco
 use Rattle.rules.specs.Rules.{fresh_rule, write_rule}
 use Rattle.taken.specs.Taken.{QuotesImage}
 use Rattle.plan.specs.declared.Edited.{Edited}
-use Rattle.plan.specs.declared.Plan.{Plan}
+use Rattle.arrays.specs.declared.Plan.{Plan}
 use Rattle.plan.specs.Promise.{Edit, Turn, Held}
 use Rattle.plan.specs.View.{view, no_plan}
 use Rattle.demands.specs.Arguments.{Number, Slice, Value, Passable, Nameable}

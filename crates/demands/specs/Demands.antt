@@ -34,7 +34,7 @@ use Rattle.rules.specs.Refusal.{Result, accepted, refused, answer_of, said, wrot
 use Rattle.rules.specs.Rules.{fresh_rows, write_rows}
 use Rattle.rules.specs.Table.{Row, first, Holds, NoneHolds}
 use Rattle.plan.specs.declared.Edited.{Edited}
-use Rattle.plan.specs.declared.Plan.{Plan}
+use Rattle.arrays.specs.declared.Plan.{Plan}
 use Rattle.plan.specs.View.{view, no_plan}
 use Rattle.demands.specs.Calculator.{Calculator, Answers, Listed}
 use Rattle.demands.specs.Report.{Premises, Gives, GivesNumber}

@@ -9,7 +9,7 @@ use Rattle.rules.specs.Aldebaran.{plan_of, starts, export_text, stripped}
 use Rattle.rules.specs.Calls.{import}
 use Rattle.rules.specs.Limits.{within}
 use Rattle.plan.specs.declared.Edited.{Edited}
-use Rattle.plan.specs.declared.Plan.{Plan}
+use Rattle.arrays.specs.declared.Plan.{Plan}
 use Rattle.plan.specs.View.{view}
 use Rattle.demands.specs.Calculator.{Calculator}
 

@@ -19,7 +19,7 @@ use Rattle.rules.specs.Limits.{within}
 use Rattle.rules.specs.Quotations.{meant, quote_of}
 use Rattle.rules.specs.Refusal.{Result, refused, wrote, code}
 use Rattle.rules.specs.Table.{Row}
-use Rattle.plan.specs.declared.Plan.{Plan}
+use Rattle.arrays.specs.declared.Plan.{Plan}
 use Rattle.plan.specs.View.{view}
 use Rattle.demands.specs.Calculator.{Calculator}
 use Rattle.demands.specs.Demands.{Called, Told}

@@ -15,7 +15,7 @@ use Rattle.rules.specs.Limits.{within, state_count_ok, transition_count_ok}
 use Rattle.rules.specs.Quotations.{says_asked, Stated}
 use Rattle.rules.specs.Refusal.{said}
 use Rattle.plan.specs.declared.Edited.{Edited}
-use Rattle.plan.specs.declared.Plan.{Plan}
+use Rattle.arrays.specs.declared.Plan.{Plan}
 use Rattle.plan.specs.View.{view, laid, no_plan}
 use Rattle.demands.specs.Calculator.{Calculator, Listed}
 

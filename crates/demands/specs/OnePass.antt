@@ -13,7 +13,7 @@ use Rattle.rules.specs.Quotations.{said_quotations}
 use Rattle.rules.specs.Refusal.{Result, accepted, refused, answer_of, said}
 use Rattle.taken.specs.Taken.{RefusedAtTransition, Ends}
 use Rattle.plan.specs.declared.Edited.{Edited}
-use Rattle.plan.specs.declared.Plan.{Plan}
+use Rattle.arrays.specs.declared.Plan.{Plan}
 use Rattle.plan.specs.View.{view}
 use Rattle.demands.specs.Calculator.{Calculator}
 

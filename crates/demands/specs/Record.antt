@@ -7,7 +7,7 @@ use Rattle.graph.specs.Compute.{figure_for}
 use Rattle.graph.specs.Figure.{Figure, kind, value, IsFigure}
 use Rattle.graph.specs.Graph.{Graph}
 use Rattle.rules.specs.Quotations.{record_octets}
-use Rattle.plan.specs.declared.Plan.{Plan}
+use Rattle.arrays.specs.declared.Plan.{Plan}
 use Rattle.plan.specs.View.{view}
 use Rattle.demands.specs.Calculator.{Calculator}
 use Rattle.demands.specs.Demands.{Told}

@@ -20,7 +20,7 @@ use Rattle.rules.specs.Quotations.{meant, says_asked, Stated}
 use Rattle.rules.specs.Rules.{with_team}
 use Rattle.rules.specs.Table.{NoneHolds}
 use Rattle.plan.specs.declared.Edited.{Edited}
-use Rattle.plan.specs.declared.Plan.{Plan}
+use Rattle.arrays.specs.declared.Plan.{Plan}
 use Rattle.plan.specs.View.{view}
 use Rattle.demands.specs.Calculator.{Calculator}
 

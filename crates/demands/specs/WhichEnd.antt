@@ -13,7 +13,7 @@ use Rattle.rules.specs.Image.{header_rows, state_rows, transition_rows, state_co
 use Rattle.rules.specs.Limits.{within, state_count_ok, transition_count_ok, durations_ok}
 use Rattle.rules.specs.Table.{NoneHolds, by_number, each}
 use Rattle.plan.specs.declared.Edited.{Edited}
-use Rattle.plan.specs.declared.Plan.{Plan}
+use Rattle.arrays.specs.declared.Plan.{Plan}
 use Rattle.plan.specs.View.{view}
 use Rattle.demands.specs.Calculator.{Calculator}
 

@@ -18,7 +18,7 @@ use Rattle.rules.proofs.Kept.{step-within}
 use Rattle.rules.proofs.ReadWrite.{limited}
 use Rattle.rules.proofs.Results.{accepted_as, refused_as}
 use Rattle.arrays.specs.Tables.{over}
-use Rattle.plan.specs.declared.Plan.{Plan}
+use Rattle.arrays.specs.declared.Plan.{Plan}
 use Rattle.plan.specs.declared.Edited.{Edited}
 use Rattle.plan.specs.View.{view, laid}
 use Rattle.plan.specs.Promise.{Edit, Turn, next_value}

@@ -8,7 +8,7 @@ use lib.ListN.{length, drop, length-append, length-drop}
 use Rattle.graph.specs.Graph.{Graph}
 use Rattle.rules.specs.Refusal.{Result, accepted, refused}
 use Rattle.arrays.specs.Tables.{over}
-use Rattle.plan.specs.declared.Plan.{Plan}
+use Rattle.arrays.specs.declared.Plan.{Plan}
 use Rattle.plan.specs.View.{laid}
 use Rattle.slices.specs.Lent.{Slices, has_room, storing}
 use Rattle.slices.proofs.Stores.{has_room_lem, room_of}

@@ -6,7 +6,7 @@ use Rattle.rules.specs.Refusal.{Result, accepted, refused, code}
 use Rattle.rules.specs.Image.{read_image}
 use Rattle.rules.specs.Calls.{Call, step}
 use Rattle.rules.specs.Rules.{next, fresh_rule}
-use Rattle.plan.specs.declared.Plan.{Plan}
+use Rattle.arrays.specs.declared.Plan.{Plan}
 use Rattle.plan.specs.declared.Edited.{Edited}
 use Rattle.plan.specs.Promise.{next_value, Edit, Turn}
 use Rattle.plan.specs.View.{view, laid, no_plan}

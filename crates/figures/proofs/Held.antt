@@ -7,7 +7,7 @@ use native.Mathlib.Omega.{arith}
 use lib.ListN.{get_or}
 use Rattle.arrays.specs.Tables.{state_of, transition_of}
 use Rattle.graph.specs.Graph.{State, Transition, marked, states, marks_of, team_of, transition, from, to, low, high}
-use Rattle.plan.specs.declared.Plan.{Plan}
+use Rattle.arrays.specs.declared.Plan.{Plan}
 use Rattle.plan.specs.View.{view}
 use Rattle.plan.specs.Laws.{states-view, count-view}
 use Rattle.rules.specs.Limits.{within, transition_ok}

@@ -32,7 +32,7 @@ use Rattle.graph.proofs.Bound.{seconds-le}
 use Rattle.graph.proofs.Cost.{one-le}
 use Rattle.graph.proofs.Open.{none_open}
 use Rattle.keys.specs.Keys.{Weighed}
-use Rattle.plan.specs.declared.Plan.{Plan}
+use Rattle.arrays.specs.declared.Plan.{Plan}
 use Rattle.plan.specs.View.{view}
 use Rattle.plan.specs.Laws.{states-view, count-view}
 use Rattle.open_search.specs.Open.{Answered}

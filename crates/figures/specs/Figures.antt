@@ -8,7 +8,7 @@ use Rattle.graph.specs.Figure.{cost_over}
 use Rattle.graph.specs.Graph.{Graph}
 use Rattle.graph.specs.Route.{Cost, HasEndlessWalk, HasOpenWalk}
 use Rattle.costs.specs.Scaled.{Scaled, scale}
-use Rattle.plan.specs.declared.Plan.{Plan}
+use Rattle.arrays.specs.declared.Plan.{Plan}
 use Rattle.plan.specs.View.{view}
 use Rattle.search.specs.declared.chain.Chain.{Chain}
 use Rattle.search.specs.Arrays.{Arrays, arrays, at}

@@ -19,7 +19,7 @@ use Rattle.rules.proofs.ReadWrite.{limited}
 use Rattle.rules.proofs.Results.{not-false}
 use Rattle.rules.proofs.Tables.{accepted_only}
 use Rattle.exported.proofs.Short.{text-short}
-use Rattle.plan.specs.declared.Plan.{Plan}
+use Rattle.arrays.specs.declared.Plan.{Plan}
 use Rattle.plan.specs.View.{view}
 use Rattle.slices.specs.Lent.{Slices, has_room, plan_in}
 use Rattle.lent.specs.declared.Content.{Content}

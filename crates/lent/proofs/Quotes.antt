@@ -19,7 +19,7 @@ use Rattle.rules.specs.Rules.{limit_row}
 use Rattle.rules.proofs.ReadWrite.{limited}
 use Rattle.rules.proofs.Results.{never, not-false}
 use Rattle.rules.proofs.Tables.{accepted_only}
-use Rattle.plan.specs.declared.Plan.{Plan}
+use Rattle.arrays.specs.declared.Plan.{Plan}
 use Rattle.plan.specs.View.{view}
 use Rattle.rules.proofs.Small.{small_quote}
 use Rattle.slices.specs.Lent.{Slices, has_room, plan_in}

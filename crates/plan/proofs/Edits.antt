@@ -14,7 +14,7 @@ use Rattle.std.proofs.Common.{Err}
 use Rattle.rules.specs.declared.Refusal.{Refusal}
 use Rattle.rules.specs.Refusal.{Result, accepted, refused, said}
 use Rattle.rules.specs.Rules.{fresh_graph, with_mark, with_team, with_transition, without}
-use Rattle.plan.specs.declared.Plan.{Plan}
+use Rattle.arrays.specs.declared.Plan.{Plan}
 use Rattle.rules.specs.Image.{tabulate}
 use Rattle.arrays.specs.Tables.{state_of, states_of, transition_of, transition, Later}
 use Rattle.plan.specs.View.{plan_of, view, laid, blank_plan, no_plan}

@@ -33,7 +33,7 @@ use Rattle.rules.proofs.Results.{never, not-false, accepted_as, accepted-answer}
 use Rattle.rules.proofs.Tables.{accepted_only}
 use Rattle.rules.proofs.ReadWrite.{length-image_by, length-image, read-image, image-read, read-within}
 use Rattle.plan.specs.declared.Edited.{Edited}
-use Rattle.plan.specs.declared.Plan.{Plan}
+use Rattle.arrays.specs.declared.Plan.{Plan}
 use Rattle.plan.specs.Promise.{Edit, Turn, Held, HeldIn, next_value, Obeyed, none, more}
 use Rattle.plan.specs.View.{view, no_plan}
 use Rattle.plan_limits.proofs.Limits.{states-out}

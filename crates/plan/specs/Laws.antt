@@ -12,8 +12,8 @@ use Rattle.rules.specs.Limits.{within}
 use Rattle.rules.specs.Refusal.{Result, accepted, refused, said}
 use Rattle.rules.specs.Rules.{next}
 use Rattle.plan.specs.declared.Edited.{Edited}
-use Rattle.plan.specs.declared.Plan.{Plan}
-use Rattle.arrays.specs.Tables.{graph_of, state_of, transition_of, over}
+use Rattle.arrays.specs.declared.Plan.{Plan}
+use Rattle.arrays.specs.Tables.{graph_in_arrays, state_of, transition_of, over}
 use Rattle.plan.specs.Promise.{next_value, Held}
 use Rattle.plan.specs.View.{view, laid, no_plan}
 use Rattle.rules.proofs.ReadWrite.{read-within}
@@ -39,7 +39,7 @@ unfolding view
 count-view p = count_of p.states p.transitions p.marks p.teams p.from p.to p.low p.high
 
 -- the limits of the plan that the arrays hold
-pub limits-view : (p : Plan) {r : Bool} → r ≡ within (graph_of p.states p.transitions p.marks p.teams p.from p.to p.low p.high) → r ≡ within (view p)
+pub limits-view : (p : Plan) {r : Bool} → r ≡ within (graph_in_arrays p) → r ≡ within (view p)
 unfolding view
 limits-view p e = e
 

@@ -11,7 +11,7 @@ use Rattle.rules.specs.Image.{read_image}
 use Rattle.rules.specs.Refusal.{Result, accepted, refused, answer_of, said}
 use Rattle.rules.specs.Rules.{next}
 use Rattle.taken.specs.Taken.{bits_taken, bits_in, bits_of}
-use Rattle.plan.specs.declared.Plan.{Plan}
+use Rattle.arrays.specs.declared.Plan.{Plan}
 use Rattle.plan.specs.declared.Edited.{Edited}
 use Rattle.plan.specs.View.{view, laid, no_plan}
 

@@ -2,8 +2,8 @@
 -- Document 01, "The plan and its edits" and "Choosing the form by place". Assumes nothing.
 use Rattle.std.specs.Prelude.{List, map, ℕ, replicate}
 use Rattle.graph.specs.Graph.{Graph, State, Transition, states, count}
-use Rattle.arrays.specs.Tables.{graph_of, over}
-use Rattle.plan.specs.declared.Plan.{Plan}
+use Rattle.arrays.specs.Tables.{graph_in_arrays, over}
+use Rattle.arrays.specs.declared.Plan.{Plan}
 
 -- a plan value by its parts
 abbrev pub plan_of : ℕ → ℕ → List ℕ → List ℕ → List ℕ → List ℕ → List ℕ → List ℕ → Plan
@@ -12,7 +12,7 @@ plan_of n m marks teams from to low high =
 
 -- the plan that a plan value stands for, whatever the value is
 unfoldable pub view : Plan → Graph
-view p = graph_of p.states p.transitions p.marks p.teams p.from p.to p.low p.high
+view p = graph_in_arrays p
 
 -- the plan value for g with the arrays of p: the marks, teams and fields of g from the front on, and every later place as in p
 unfoldable pub laid : Plan → Graph → Plan

@@ -13,22 +13,10 @@ ghost use Rattle.arrays.specs.Tables.{transition};
 ghost use Rattle.plan.specs.View.{view, blank_plan, no_plan};
 ghost use Rattle.plan.specs.Promise.{Edit, Turn, Held, refusing, accepting};
 
+pub use arrays::Plan;
 use arrays::limits;
 use image::reading;
 use rules::{Format, Refusal};
-
-// A plan: the two counts, a marks value and a team for each state, and four fields for each transition. Places past the counts hold no part of it.
-#[derive(Clone, Copy)]
-pub struct Plan {
-    pub states: usize,
-    pub transitions: usize,
-    pub marks: [u8; 512],
-    pub teams: [u8; 512],
-    pub from: [u16; 2048],
-    pub to: [u16; 2048],
-    pub low: [u16; 2048],
-    pub high: [u16; 2048],
-}
 
 // The answer of a call that makes or changes a plan, the plan afterwards, and the bits of an image that the call took. The plan comes first: it then lies there as it
 // lies by itself, and one copy is enough to hand it on.
@@ -39,20 +27,11 @@ pub struct Edited {
     pub taken: usize,
 }
 
-// Whether a lent plan value is within the limits of a plan.
-fn in_limits(p: &Plan) -> bool
-    ensures { result ≡ withinLimits (view p.now) }
-{
-    let n = p.states;
-    let m = p.transitions;
-    plan_limits::in_limits(n, m, &p.marks, &p.teams, &p.from, &p.to, &p.low, &p.high)
-}
-
 // Whether a plan value is within the limits of a plan.
 pub fn within(p: Plan) -> bool
     ensures { result ≡ withinLimits (view p) }
 {
-    in_limits(&p)
+    plan_limits::in_limits(&p)
 }
 
 // A refusal, with the plan as it was.
@@ -108,7 +87,7 @@ pub fn mark(mut p: Plan, state: usize, value: usize) -> Edited
     ensures { Turn p (mark state value) result }
 {
     let n = p.states;
-    let limited = in_limits(&p);
+    let limited = plan_limits::in_limits(&p);
     let answer = grounds::mark_grounds(limited, n, state, value);
     match answer {
         Ok(()) => {
@@ -128,7 +107,7 @@ pub fn team(mut p: Plan, state: usize, number: usize) -> Edited
     ensures { Turn p (team state number) result }
 {
     let n = p.states;
-    let limited = in_limits(&p);
+    let limited = plan_limits::in_limits(&p);
     let answer = grounds::team_grounds(limited, n, state, number);
     match answer {
         Ok(()) => {
@@ -149,7 +128,7 @@ pub fn join(mut p: Plan, from: usize, to: usize, low: usize, high: usize) -> Edi
 {
     let n = p.states;
     let m = p.transitions;
-    let limited = in_limits(&p);
+    let limited = plan_limits::in_limits(&p);
     let answer = grounds::join_grounds(limited, n, m, from, to, low, high);
     match answer {
         Ok(()) => {
@@ -173,7 +152,7 @@ pub fn unjoin(mut p: Plan, number: usize) -> Edited
     ensures { Turn p (unjoin number) result }
 {
     let m = p.transitions;
-    let limited = in_limits(&p);
+    let limited = plan_limits::in_limits(&p);
     let answer = grounds::unjoin_grounds(limited, m, number);
     match answer {
         Ok(()) => {
@@ -197,7 +176,7 @@ pub fn unjoin(mut p: Plan, number: usize) -> Edited
 pub fn replace(mut p: Plan, format: Format, octets: &[u8]) -> Edited
     ensures { Turn p (replacing format octets.now) result }
 {
-    let limited = in_limits(&p);
+    let limited = plan_limits::in_limits(&p);
     let mut marks = [0u8; 512];
     let mut teams = [0u8; 512];
     let mut from = [0u16; 2048];
@@ -277,11 +256,7 @@ pub fn write(p: Plan, buffer: &mut [u8]) -> Result<usize, Refusal>
     ensures { Write (image (view p)) (write_rule (view p) buffer.old)
         buffer.old buffer.new result }
 {
-    let n = p.states;
-    let m = p.transitions;
-    written::write(
-        n, m, &p.marks, &p.teams, &p.from, &p.to, &p.low, &p.high, buffer,
-    )
+    written::write(&p, buffer)
 }
 
 // Puts the plan's text at the front of the buffer, and returns its length.
@@ -289,9 +264,5 @@ pub fn export(p: Plan, buffer: &mut [u8]) -> Result<usize, Refusal>
     ensures { Write (export_text (view p)) (export_rule (view p) buffer.old)
         buffer.old buffer.new result }
 {
-    let n = p.states;
-    let m = p.transitions;
-    exported::export(
-        n, m, &p.marks, &p.teams, &p.from, &p.to, &p.low, &p.high, buffer,
-    )
+    exported::export(&p, buffer)
 }

@@ -3,32 +3,22 @@
 
 ghost use Rattle.std.specs.Prelude.{◌≡◌};
 ghost use Rattle.rules.specs.Limits.{within};
-ghost use Rattle.arrays.specs.Tables.{graph_of};
+ghost use Rattle.arrays.specs.Tables.{graph_in_arrays};
 
-use arrays::limits;
+use arrays::{Plan, limits};
 
-// Whether the counts and arrays of a plan value are within the limits of a plan.
-pub fn in_limits<'a>(
-    n: usize,
-    m: usize,
-    marks: &'a [u8; 512],
-    teams: &'a [u8; 512],
-    from: &'a [u16; 2048],
-    to: &'a [u16; 2048],
-    low: &'a [u16; 2048],
-    high: &'a [u16; 2048],
-) -> bool
-    ensures { result ≡ within (graph_of n m marks.now teams.now
-        from.now to.now low.now high.now) }
+// Whether a plan value is within the limits of a plan.
+pub fn in_limits(p: &Plan) -> bool
+    ensures { result ≡ within (graph_in_arrays p.now) }
 {
-    if !limits::state_count_ok(n) {
+    if !limits::state_count_ok(p.states) {
         return false;
     }
-    if 2048 < m {
+    if 2048 < p.transitions {
         return false;
     }
-    if !array_limits::states_within(marks, teams, n) {
+    if !array_limits::states_within(p) {
         return false;
     }
-    array_limits::transitions_within(from, to, low, high, n, m)
+    array_limits::transitions_within(p)
 }

@@ -28,7 +28,7 @@ use Rattle.rules.proofs.Results.{and_true, never, not-false}
 use Rattle.rules.proofs.Tables.{accepted_only}
 use Rattle.rules.proofs.Tabulated.{all-at}
 use Rattle.plan.specs.declared.Edited.{Edited}
-use Rattle.plan.specs.declared.Plan.{Plan}
+use Rattle.arrays.specs.declared.Plan.{Plan}
 use Rattle.plan.specs.Promise.{Edit, next_value}
 use Rattle.plan.specs.View.{view, no_plan}
 use Rattle.quotation.proofs.Kept.{all_done, all_not_refused}

@@ -8,7 +8,7 @@ use Rattle.rules.specs.Calls.{Call, run_fresh}
 use Rattle.rules.specs.Quotations.{AllStated}
 use Rattle.rules.specs.Refusal.{Result, accepted, refused, code}
 use Rattle.rules.specs.Rules.{fresh_graph}
-use Rattle.plan.specs.declared.Plan.{Plan}
+use Rattle.arrays.specs.declared.Plan.{Plan}
 use Rattle.plan.specs.View.{view, laid, no_plan}
 use Rattle.answers.specs.Answered.{four_numbers}
 use Rattle.calls.specs.Rows.{replay_rule}

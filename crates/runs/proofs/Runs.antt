@@ -14,7 +14,7 @@ use Rattle.rules.proofs.Tabulated.{length-tabulate}
 use Rattle.rules.specs.Calls.{Call, step, run}
 use Rattle.rules.specs.Refusal.{Result, answer_of, code}
 use Rattle.rules.specs.Rules.{next}
-use Rattle.plan.specs.declared.Plan.{Plan}
+use Rattle.arrays.specs.declared.Plan.{Plan}
 use Rattle.plan.specs.Promise.{next_value}
 use Rattle.plan.specs.View.{view}
 use Rattle.plan.specs.Laws.{view-next}

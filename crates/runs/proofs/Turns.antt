@@ -13,7 +13,7 @@ use Rattle.rules.specs.Calls.{Call, step}
 use Rattle.rules.specs.Refusal.{Result, accepted, refused}
 use Rattle.rules.proofs.Results.{code_answer}
 use Rattle.arrays.specs.Tables.{over}
-use Rattle.plan.specs.declared.Plan.{Plan}
+use Rattle.arrays.specs.declared.Plan.{Plan}
 use Rattle.plan.specs.Promise.{next_value}
 use Rattle.plan.specs.View.{view}
 use Rattle.plan.specs.Laws.{Sized}

@@ -4,7 +4,7 @@ use Rattle.std.specs.Prelude.{true, List, [], ◌∷◌, map, ◌≡◌, ℕ, �
 use Rattle.arrays.specs.Tables.{over}
 use Rattle.rules.specs.Calls.{Call, step, run, run_fresh}
 use Rattle.rules.specs.Refusal.{code}
-use Rattle.plan.specs.declared.Plan.{Plan}
+use Rattle.arrays.specs.declared.Plan.{Plan}
 use Rattle.plan.specs.Promise.{next_value}
 use Rattle.plan.specs.View.{view}
 use Rattle.calls.specs.Slices.{item_at, is_call}

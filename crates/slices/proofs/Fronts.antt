@@ -6,7 +6,7 @@ use Prim.Native.Nat.{ℕ, ◌+◌, ◌-◌, ◌≤◌}
 use native.Mathlib.Omega.{arith}
 use lib.ListN.{length, take, drop, set, length-drop, take-append-drop}
 use lib.Seq.{paste, drop-paste, drop-drop, drop-append-le, take_all, length-take-le, length-paste}
-use Rattle.plan.specs.declared.Plan.{Plan}
+use Rattle.arrays.specs.declared.Plan.{Plan}
 use Rattle.plan.specs.Laws.{Sized}
 use Rattle.slices.specs.Lent.{Roomy, slices, plan_in, storing, SameLater}
 use Rattle.slices.proofs.Stores.{stored}

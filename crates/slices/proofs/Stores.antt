@@ -12,7 +12,7 @@ use lib.Seq.{paste, take_at, length-take-le}
 use Rattle.rules.proofs.Results.{and_true, both_true}
 use Rattle.arrays.specs.Tables.{over}
 use Rattle.arrays.proofs.Copies.{paste_over, part, two, three, four_copied}
-use Rattle.plan.specs.declared.Plan.{Plan}
+use Rattle.arrays.specs.declared.Plan.{Plan}
 use Rattle.plan.specs.Laws.{Sized}
 use Rattle.slices.specs.Lent.{Roomy, roomy, Slices, slices, has_room, plan_in, storing}
 

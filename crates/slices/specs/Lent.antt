@@ -5,7 +5,7 @@ use Rattle.rules.specs.Answer.{Accepted, Answer}
 use Rattle.std.specs.Prelude.{Ok, Err}
 use Rattle.rules.specs.Refusal.{number}
 use Rattle.arrays.specs.Tables.{over}
-use Rattle.plan.specs.declared.Plan.{Plan}
+use Rattle.arrays.specs.declared.Plan.{Plan}
 
 -- the three slices have the places of a plan
 abbrev pub roomy : ℕ → ℕ → ℕ → Bool

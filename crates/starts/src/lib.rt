@@ -4,6 +4,7 @@
 ghost use Rattle.std.specs.Prelude.{◌≤◌};
 ghost use Rattle.starts.specs.Found.{starts_in, Found};
 
+use arrays::Plan;
 use search::is_start;
 
 // How many states are marked start, and the last of them.
@@ -13,15 +14,15 @@ pub struct Starts {
     pub last: usize,
 }
 
-// Counts the states marked start among the first n.
-pub fn count(marks: &[u8; 512], n: usize) -> Starts
-    requires { n ≤ 512 }
-    ensures { Found (starts_in marks.now n) n result.count result.last }
+// Counts a plan's states that are marked start.
+pub fn count(p: &Plan) -> Starts
+    requires { p.now.states ≤ 512 }
+    ensures { Found (starts_in p.now.marks p.now.states) p.now.states result.count result.last }
 {
     let mut count = 0;
     let mut last = 0;
-    for i in 0..n {
-        if is_start(marks[i]) {
+    for i in 0..p.states {
+        if is_start(p.marks[i]) {
             count += 1;
             last = i;
         }

@@ -7,6 +7,8 @@ ghost use Rattle.arrays.specs.Tables.{transition, transitions_of};
 ghost use Rattle.text.specs.Text.{digits};
 ghost use Rattle.text_length.specs.Parts.{first_text, holding};
 
+use arrays::Plan;
+
 // The number of digits of x.
 fn width(x: u16) -> usize
     ensures { (result ≡ length (digits x)) × (result ≤ 5) }
@@ -28,38 +30,25 @@ fn first_length(initial: u16, m: u16, n: u16) -> usize
     11 + width(initial) + width(m) + width(n)
 }
 
-// The length of the first m lines.
-fn lines_length<'a>(
-    m: usize,
-    from: &'a [u16; 2048],
-    to: &'a [u16; 2048],
-    low: &'a [u16; 2048],
-    high: &'a [u16; 2048],
-) -> usize
-    requires { m ≤ 2048 }
-    ensures { (result ≡ length (lines_text (transitions_of m from.now to.now low.now high.now))) × (result ≤ 31 * m) }
+// The length of the lines of a plan's transitions.
+fn lines_length(p: &Plan) -> usize
+    requires { p.now.transitions ≤ 2048 }
+    ensures { (result ≡ length (lines_text (transitions_of p.now.transitions p.now.from p.now.to p.now.low p.now.high)))
+        × (result ≤ 31 * p.now.transitions) }
 {
     let mut length = 0;
-    for i in 0..m {
-        length += line_length(from[i], to[i], low[i], high[i]);
+    for i in 0..p.transitions {
+        length += line_length(p.from[i], p.to[i], p.low[i], p.high[i]);
     }
     length
 }
 
-// The length of a plan's text: that of its initial state, its n states and the first m transitions of the arrays.
-pub fn length<'a>(
-    initial: usize,
-    n: usize,
-    m: usize,
-    from: &'a [u16; 2048],
-    to: &'a [u16; 2048],
-    low: &'a [u16; 2048],
-    high: &'a [u16; 2048],
-) -> usize
-    requires { (initial ≤ 512) × (n ≤ 512) × (m ≤ 2048) }
-    ensures { result ≡ length (text_of (holding initial n
-        (transitions_of m from.now to.now low.now high.now))) }
+// The length of a plan's text, by its initial state.
+pub fn length(initial: usize, p: &Plan) -> usize
+    requires { (initial ≤ 512) × (p.now.states ≤ 512) × (p.now.transitions ≤ 2048) }
+    ensures { result ≡ length (text_of (holding initial p.now.states
+        (transitions_of p.now.transitions p.now.from p.now.to p.now.low p.now.high))) }
 {
-    let first = first_length(initial as u16, m as u16, n as u16);
-    first + lines_length(m, from, to, low, high)
+    let first = first_length(initial as u16, p.transitions as u16, p.states as u16);
+    first + lines_length(p)
 }

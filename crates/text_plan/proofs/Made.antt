@@ -17,7 +17,7 @@ use Rattle.rules.proofs.Basic.{fresh_done, fresh-refused, import_given}
 use Rattle.rules.proofs.Kept.{fresh-within}
 use Rattle.rules.proofs.Results.{accepted_as, refused_as}
 use Rattle.plan.specs.declared.Edited.{Edited}
-use Rattle.plan.specs.declared.Plan.{Plan}
+use Rattle.arrays.specs.declared.Plan.{Plan}
 use Rattle.plan.specs.Laws.{view-laid}
 use Rattle.plan.specs.Promise.{Edit, Turn, HeldIn, next_value}
 use Rattle.plan.specs.View.{view, laid, blank_plan, no_plan}

@@ -8,6 +8,8 @@ ghost use Rattle.text.specs.Put.{Put};
 ghost use Rattle.text.specs.Text.{digits};
 ghost use Rattle.text_length.specs.Parts.{first_text, holding};
 
+use arrays::Plan;
+
 // Puts a word and a number after it.
 fn numbered(buffer: &mut [u8], at: usize, word: &[u8], x: u16) -> usize
     requires { at + length (word.now ++ digits x) ≤ length buffer.old }
@@ -40,44 +42,34 @@ fn line(buffer: &mut [u8], at: usize, from: u16, to: u16, low: u16, high: u16) -
     put_text::word(buffer, entered, b")\n")
 }
 
-// Puts the lines of the first m transitions.
-fn lines<'a>(
-    buffer: &mut [u8],
-    at: usize,
-    m: usize,
-    from: &'a [u16; 2048],
-    to: &'a [u16; 2048],
-    low: &'a [u16; 2048],
-    high: &'a [u16; 2048],
-) -> usize
-    requires m_bound { m ≤ 2048 }
-    requires high_in_bounds { at + length (lines_text (transitions_of m from.now to.now low.now high.now)) ≤ length buffer.old }
+// Puts the lines of a plan's transitions.
+fn lines(buffer: &mut [u8], at: usize, p: &Plan) -> usize
+    requires bound { p.now.transitions ≤ 2048 }
+    requires room { at + length (lines_text (transitions_of p.now.transitions p.now.from p.now.to p.now.low p.now.high)) ≤ length buffer.old }
     ensures { Put buffer.old at
-        (lines_text (transitions_of m from.now to.now low.now high.now)) buffer.new result }
+        (lines_text (transitions_of p.now.transitions p.now.from p.now.to p.now.low p.now.high)) buffer.new result }
 {
     let mut place = at;
-    for i in 0..m {
-        place = line(buffer, place, from[i], to[i], low[i], high[i]);
+    for i in 0..p.transitions {
+        place = line(buffer, place, p.from[i], p.to[i], p.low[i], p.high[i]);
     }
     place
 }
 
-// Puts a plan's text at the front of the buffer.
-pub fn text<'a>(
-    buffer: &mut [u8],
-    initial: usize,
-    n: usize,
-    m: usize,
-    from: &'a [u16; 2048],
-    to: &'a [u16; 2048],
-    low: &'a [u16; 2048],
-    high: &'a [u16; 2048],
-) -> usize
-    requires initial_bound { (initial ≤ 512) × (n ≤ 512) × (m ≤ 2048) }
-    requires high_in_bounds { length (text_of (holding initial n (transitions_of m from.now to.now low.now high.now))) ≤ length buffer.old }
-    ensures { Put buffer.old 0 (text_of (holding initial n
-        (transitions_of m from.now to.now low.now high.now))) buffer.new result }
+// Puts a plan's text at the front of the buffer, by its initial state.
+pub fn text(buffer: &mut [u8], initial: usize, p: &Plan) -> usize
+    requires bounds { (initial ≤ 512) × (p.now.states ≤ 512) × (p.now.transitions ≤ 2048) }
+    requires room { length (text_of (holding initial p.now.states
+        (transitions_of p.now.transitions p.now.from p.now.to p.now.low p.now.high))) ≤ length buffer.old }
+    ensures { Put buffer.old 0 (text_of (holding initial p.now.states
+        (transitions_of p.now.transitions p.now.from p.now.to p.now.low p.now.high))) buffer.new result }
 {
-    let place = first(buffer, 0, initial as u16, m as u16, n as u16);
-    lines(buffer, place, m, from, to, low, high)
+    let place = first(
+        buffer,
+        0,
+        initial as u16,
+        p.transitions as u16,
+        p.states as u16,
+    );
+    lines(buffer, place, p)
 }

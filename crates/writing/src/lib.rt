@@ -8,7 +8,7 @@ ghost use Rattle.rules.specs.Image.{header_fields, state_fields, transition_fiel
 ghost use Rattle.rules.specs.Limits.{all, state_ok, transition_ok};
 ghost use Rattle.arrays.specs.Tables.{states_of, transition_of, transitions_of};
 
-use arrays::{FINAL, START};
+use arrays::{FINAL, Plan, START};
 use field::Four;
 
 // Puts the fields of the header at the front.
@@ -39,57 +39,45 @@ fn state(buffer: &mut [u8], at: usize, value: u8, team: u8)
     store::put_four(buffer, at, 1, 1, 1, 5, fields);
 }
 
-// Puts the fields of the transition at place i of the arrays at a bit position.
-fn transition<'a>(
-    buffer: &mut [u8],
-    at: usize,
-    from: &'a [u16; 2048],
-    to: &'a [u16; 2048],
-    low: &'a [u16; 2048],
-    high: &'a [u16; 2048],
-    i: usize,
-)
+// Puts the fields of a plan's transition at place i at a bit position.
+fn transition(buffer: &mut [u8], at: usize, p: &Plan, i: usize)
     requires spans { Spans buffer.old at 40 × (at % 8 ≡ 0) × (i < 2048) }
-    requires all_fit { AllFit (transition_fields (transition_of from.now to.now low.now high.now i)) }
+    requires all_fit { AllFit (transition_fields (transition_of p.now.from p.now.to p.now.low p.now.high i)) }
     ensures { buffer.new ≡ put_all buffer.old at
-        (transition_fields (transition_of from.now to.now low.now high.now i)) }
+        (transition_fields (transition_of p.now.from p.now.to p.now.low p.now.high i)) }
 {
     let fields = Four {
-        first: usize::from(from[i]),
-        second: usize::from(to[i]),
-        third: usize::from(low[i]),
-        fourth: usize::from(high[i]),
+        first: usize::from(p.from[i]),
+        second: usize::from(p.to[i]),
+        third: usize::from(p.low[i]),
+        fourth: usize::from(p.high[i]),
     };
     store::put_four(buffer, at, 9, 9, 11, 11, fields);
 }
 
-// Puts the fields of the first n states, by number.
-pub fn states<'a>(buffer: &mut [u8], marks: &'a [u8; 512], teams: &'a [u8; 512], n: usize)
-    requires n_bound { (n ≤ 512) × (4 + n ≤ length buffer.old) }
-    requires teams_value { all state_ok (states_of n marks.now teams.now) ≡ true }
-    ensures { buffer.new ≡ put_all buffer.old 32 (fields_of_each state_fields (states_of n marks.now teams.now)) }
+// Puts the fields of a plan's states, by number.
+pub fn states(buffer: &mut [u8], p: &Plan)
+    requires room { (p.now.states ≤ 512) × (4 + p.now.states ≤ length buffer.old) }
+    requires each_state { all state_ok (states_of p.now.states p.now.marks p.now.teams) ≡ true }
+    ensures { buffer.new ≡ put_all buffer.old 32
+        (fields_of_each state_fields (states_of p.now.states p.now.marks p.now.teams)) }
 {
-    for i in 0..n {
-        state(buffer, 32 + 8 * i, marks[i], teams[i]);
+    for i in 0..p.states {
+        state(buffer, 32 + 8 * i, p.marks[i], p.teams[i]);
     }
 }
 
-// Puts the fields of the first m transitions of a plan with n states, by number.
-pub fn transitions<'a>(
-    buffer: &mut [u8],
-    n: usize,
-    m: usize,
-    from: &'a [u16; 2048],
-    to: &'a [u16; 2048],
-    low: &'a [u16; 2048],
-    high: &'a [u16; 2048],
-)
-    requires n_bound { (n ≤ 512) × (m ≤ 2048) × (4 + n + 5 * m ≤ length buffer.old) }
-    requires high_value { all (transition_ok n) (transitions_of m from.now to.now low.now high.now) ≡ true }
-    ensures { buffer.new ≡ put_all buffer.old (32 + 8 * n)
-        (fields_of_each transition_fields (transitions_of m from.now to.now low.now high.now)) }
+// Puts the fields of a plan's transitions, by number.
+pub fn transitions(buffer: &mut [u8], p: &Plan)
+    requires room { (p.now.states ≤ 512) × (p.now.transitions ≤ 2048)
+        × (4 + p.now.states + 5 * p.now.transitions ≤ length buffer.old) }
+    requires each_transition { all (transition_ok p.now.states)
+        (transitions_of p.now.transitions p.now.from p.now.to p.now.low p.now.high) ≡ true }
+    ensures { buffer.new ≡ put_all buffer.old (32 + 8 * p.now.states)
+        (fields_of_each transition_fields
+        (transitions_of p.now.transitions p.now.from p.now.to p.now.low p.now.high)) }
 {
-    for i in 0..m {
-        transition(buffer, 32 + 8 * n + 40 * i, from, to, low, high, i);
+    for i in 0..p.transitions {
+        transition(buffer, 32 + 8 * p.states + 40 * i, p, i);
     }
 }

@@ -9,12 +9,12 @@ use Rattle.array_limits.proofs.states_within.Goals as goal
 
 pub returns-then-not-state_within : goal.returns-then-not-state_within
 returns-then-not-state_within c =
-    let a = c.args in
-    sym (not_all-tabulate state_ok a.n (state_of a.marks.now a.teams.now) c.loop-i.i (omega arith)
+    let p = c.args.p.now in
+    sym (not_all-tabulate state_ok p.states (state_of p.marks p.teams) c.loop-i.i (omega arith)
     (sym c.state_within.ensures ∙ c.if-not-state_within.true))
 
 pub returns : goal.returns
 returns c =
-    let a = c.args in
+    let p = c.args.p.now in
     let l = c.loop-i in
-    sym (all-tabulate state_ok a.n (state_of a.marks.now a.teams.now) (λ k h. l.invariant.1 k (omega arith)))
+    sym (all-tabulate state_ok p.states (state_of p.marks p.teams) (λ k h. l.invariant.1 k (omega arith)))

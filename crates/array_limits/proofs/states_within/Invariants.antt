@@ -8,4 +8,4 @@ use Rattle.arrays.specs.Tables.{state_of}
 use Rattle.array_limits.proofs.states_within.Given as goal
 
 abbrev pub invariant-loop-i : goal.invariant-loop-i
-invariant-loop-i l = (l.i ≤ l.n) × ((k : ℕ) → k < l.i → state_ok (state_of l.marks l.teams k) ≡ true)
+invariant-loop-i l = (l.i ≤ l.p.states) × ((k : ℕ) → k < l.i → state_ok (state_of l.p.marks l.p.teams k) ≡ true)

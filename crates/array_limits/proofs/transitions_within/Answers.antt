@@ -15,9 +15,9 @@ loop-i-init c = (omega arith, refl)
 
 pub loop-i-preserved : goal.loop-i-preserved
 loop-i-preserved c =
-    let a = c.args in
+    let p = c.args.p.now in
     let l = c.loop-i in (
       omega arith,
       ap₂ (λ (x y : Bool). x && y) l.invariant.1 c.transition_within-sound.ensures
-          ∙ all_more (transition_ok a.n) l.i (transition_of a.from.now a.to.now a.low.now a.high.now),
+          ∙ all_more (transition_ok p.states) l.i (transition_of p.from p.to p.low p.high),
     )

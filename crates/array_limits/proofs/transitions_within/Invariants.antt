@@ -7,4 +7,4 @@ use Rattle.arrays.specs.Tables.{transitions_of}
 use Rattle.array_limits.proofs.transitions_within.Given as goal
 
 abbrev pub invariant-loop-i : goal.invariant-loop-i
-invariant-loop-i l = (l.i ≤ l.m) × (l.sound ≡ all (transition_ok l.n) (transitions_of l.i l.from l.to l.low l.high))
+invariant-loop-i l = (l.i ≤ l.p.transitions) × (l.sound ≡ all (transition_ok l.p.states) (transitions_of l.i l.p.from l.p.to l.p.low l.p.high))

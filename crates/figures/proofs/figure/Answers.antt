@@ -5,7 +5,7 @@ use Prim.Native.Nat.{ℕ}
 use Rattle.graph.specs.Class.{figure_of, counting}
 use Rattle.graph.specs.Route.{highs}
 use Rattle.greatest_search.proofs.GreatestFigure.{climbable}
-use Rattle.plan.specs.declared.Plan.{Plan}
+use Rattle.arrays.specs.declared.Plan.{Plan}
 use Rattle.plan.specs.View.{view}
 use Rattle.open_search.proofs.Opening.{ended_ranked}
 use Rattle.turns.specs.declared.Table.{Table}

@@ -5,7 +5,7 @@ use mathlib.Core.Path.{◌≡◌, sym, ap, ◌∙◌}
 use Prim.Native.Nat.{ℕ}
 use Rattle.graph.specs.Class.{figure_of, counting}
 use Rattle.graph.specs.Which.{is_least}
-use Rattle.plan.specs.declared.Plan.{Plan}
+use Rattle.arrays.specs.declared.Plan.{Plan}
 use Rattle.plan.specs.View.{view}
 use Rattle.search.specs.Chain.{Linked}
 use Rattle.search.specs.Weights.{Weights, weights_of}

@@ -4,7 +4,7 @@ use native.Mathlib.Nat.{le_refl}
 use native.Mathlib.Omega.{arith}
 use Rattle.costs.specs.Scaled.{scale}
 use Rattle.graph.specs.Class.{counting}
-use Rattle.plan.specs.declared.Plan.{Plan}
+use Rattle.arrays.specs.declared.Plan.{Plan}
 use Rattle.plan.specs.View.{view}
 use Rattle.search.specs.Weights.{weights_of}
 use Rattle.figures.proofs.Held.{bounded_in, lows-most, from_small}

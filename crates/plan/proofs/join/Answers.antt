@@ -17,16 +17,16 @@ use Rattle.rules.specs.Table.{first}
 use Rattle.rules.proofs.ReadWrite.{limited, Bounded, bounded, rows_ok}
 use Rattle.rules.proofs.Tables.{none-append}
 use Rattle.arrays.specs.Tables.{transition}
-use Rattle.plan.specs.declared.Plan.{Plan}
+use Rattle.arrays.specs.declared.Plan.{Plan}
 use Rattle.plan.specs.View.{view}
 use Rattle.plan.proofs.Edits.{stays, becomes, none-holds, joined, view-joined, past-joined}
-use Rattle.plan.specs.Laws.{Sized, states-view, count-view}
+use Rattle.plan.specs.Laws.{Sized, states-view, count-view, limits-view}
 use Rattle.plan.proofs.join.Goals as goal
 use Rattle.plan.proofs.join.Goals.{After-join_grounds-answer, In-Ok, Start}
 
 -- the answer is the first row's
 answered : (c : After-join_grounds-answer) → said c.join_grounds-answer.result ≡ first (join_rows (view c.args.p) (transition c.args.from c.args.to c.args.low c.args.high))
-answered c = let p = c.args.p in rw (states-view p, count-view p, sym c.in_limits-limited.ensures) c.join_grounds-answer.ensures
+answered c = let p = c.args.p in rw (states-view p, count-view p, sym (limits-view p c.in_limits-limited.ensures)) c.join_grounds-answer.ensures
 
 -- what is known of a join that is accepted
 record Known (p : Plan) (from to low high : ℕ) : Type 0 where

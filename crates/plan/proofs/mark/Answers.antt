@@ -11,16 +11,16 @@ use Rattle.rules.specs.Refusal.{said}
 use Rattle.rules.specs.Rules.{mark_rows, with_mark}
 use Rattle.rules.specs.Table.{first}
 use Rattle.rules.proofs.ReadWrite.{limited}
-use Rattle.plan.specs.declared.Plan.{Plan}
+use Rattle.arrays.specs.declared.Plan.{Plan}
 use Rattle.plan.specs.View.{view}
 use Rattle.plan.proofs.Edits.{stays, becomes, none-holds, marked, view-marked, past-marked}
-use Rattle.plan.specs.Laws.{Sized, states-view, count-view}
+use Rattle.plan.specs.Laws.{Sized, states-view, count-view, limits-view}
 use Rattle.plan.proofs.mark.Goals as goal
 use Rattle.plan.proofs.mark.Goals.{After-mark_grounds-answer, In-Ok, Start}
 
 -- the answer is the first row's
 answered : (c : After-mark_grounds-answer) → said c.mark_grounds-answer.result ≡ first (mark_rows (view c.args.p) c.args.state c.args.value)
-answered c = let p = c.args.p in rw (states-view p, sym c.in_limits-limited.ensures) c.mark_grounds-answer.ensures
+answered c = let p = c.args.p in rw (states-view p, sym (limits-view p c.in_limits-limited.ensures)) c.mark_grounds-answer.ensures
 
 -- what is known of a mark that is accepted
 record Known (p : Plan) (state value : ℕ) : Type 0 where

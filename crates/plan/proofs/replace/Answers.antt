@@ -12,10 +12,10 @@ use Prim.Native.Nat.{◌≤◌}
 use Rattle.rules.specs.Calls.{Call, step, replacing}
 use Rattle.rules.specs.Refusal.{Result, accepted, refused, made}
 use Rattle.taken.specs.Taken.{bits_of}
-use Rattle.plan.specs.declared.Plan.{Plan}
+use Rattle.arrays.specs.declared.Plan.{Plan}
 use Rattle.plan.specs.View.{view, plan_of}
 use Rattle.plan.proofs.Edits.{Past, refusal, acceptance, InArrays, same-arrays, overlaid, view-overlaid, past-overlaid}
-use Rattle.plan.specs.Laws.{Sized}
+use Rattle.plan.specs.Laws.{Sized, limits-view}
 use borrow.Author.Rules.{rules}
 use Rattle.plan.proofs.replace.Goals as goal
 use Rattle.plan.proofs.replace.Goals.{After-take-taken, In-Ok, Start}
@@ -36,14 +36,14 @@ unfolding view taken
 ruled c =
     let p = c.args.p in
     let l = c.take-taken.new in
-    sym (c.take-taken.ensures.rule (view p) (sym c.in_limits-limited.ensures))
+    sym (c.take-taken.ensures.rule (view p) (sym (limits-view p c.in_limits-limited.ensures)))
     ∙ ap (λ (r : Returned Counts Refusal). made r (λ k. graph_of k.states k.transitions l.marks l.teams l.from l.to l.low l.high)) c.in-Ok.is
 
 -- and the count is of the bits that the call takes
 counted : (c : After-take-taken) → c.take-taken.new.taken ≡ bits_of (view c.args.p) (replacing c.args.format c.args.octets.now)
 counted c =
     let p = c.args.p in
-    omega (arith, c.take-taken.ensures.bits (view p) (sym c.in_limits-limited.ensures))
+    omega (arith, c.take-taken.ensures.bits (view p) (sym (limits-view p c.in_limits-limited.ensures)))
 
 -- its counts are a plan's
 few : (c : In-Ok) → (c.in-Ok.counts.states ≤ 512) × (c.in-Ok.counts.transitions ≤ 2048)
@@ -85,6 +85,6 @@ returns-in-Err c =
     let call : Call = replacing c.args.format c.args.octets.now in
     let o : Result Graph = step (view p) call in
     let e : o ≡ refused c.in-Err.refusal =
-    sym (c.take-taken.ensures.rule (view p) (sym c.in_limits-limited.ensures))
+    sym (c.take-taken.ensures.rule (view p) (sym (limits-view p c.in_limits-limited.ensures)))
     ∙ ap (λ (r : Returned Counts Refusal). made r (λ k. graph_of k.states k.transitions l.marks l.teams l.from l.to l.low l.high)) c.in-Err.is in
     refusal p o _ (bits_of (view p) call) _ e (counted (goal.at.returns-in-Err c).After-take-taken)

@@ -12,16 +12,16 @@ use Rattle.rules.specs.Refusal.{said}
 use Rattle.rules.specs.Rules.{team_rows, with_team}
 use Rattle.rules.specs.Table.{first}
 use Rattle.rules.proofs.ReadWrite.{limited}
-use Rattle.plan.specs.declared.Plan.{Plan}
+use Rattle.arrays.specs.declared.Plan.{Plan}
 use Rattle.plan.specs.View.{view}
 use Rattle.plan.proofs.Edits.{stays, becomes, none-holds, teamed, view-teamed, past-teamed}
-use Rattle.plan.specs.Laws.{Sized, states-view, count-view}
+use Rattle.plan.specs.Laws.{Sized, states-view, count-view, limits-view}
 use Rattle.plan.proofs.team.Goals as goal
 use Rattle.plan.proofs.team.Goals.{After-team_grounds-answer, In-Ok, Start}
 
 -- the answer is the first row's
 answered : (c : After-team_grounds-answer) → said c.team_grounds-answer.result ≡ first (team_rows (view c.args.p) c.args.state c.args.number)
-answered c = let p = c.args.p in rw (states-view p, sym c.in_limits-limited.ensures) c.team_grounds-answer.ensures
+answered c = let p = c.args.p in rw (states-view p, sym (limits-view p c.in_limits-limited.ensures)) c.team_grounds-answer.ensures
 
 -- what is known of a team that is accepted
 record Known (p : Plan) (state number : ℕ) : Type 0 where

@@ -12,16 +12,16 @@ use Rattle.rules.specs.Refusal.{said}
 use Rattle.rules.specs.Rules.{unjoin_rows, without}
 use Rattle.rules.specs.Table.{first}
 use Rattle.rules.proofs.ReadWrite.{limited}
-use Rattle.plan.specs.declared.Plan.{Plan}
+use Rattle.arrays.specs.declared.Plan.{Plan}
 use Rattle.plan.specs.View.{view}
 use Rattle.plan.proofs.Edits.{Past, stays, becomes, none-holds, same-arrays, unjoined, view-unjoined, past-unjoined}
-use Rattle.plan.specs.Laws.{Sized, states-view, count-view}
+use Rattle.plan.specs.Laws.{Sized, states-view, count-view, limits-view}
 use Rattle.plan.proofs.unjoin.Goals as goal
 use Rattle.plan.proofs.unjoin.Goals.{After-unjoin_grounds-answer, In-Ok, Start}
 
 -- the answer is the first row's
 answered : (c : After-unjoin_grounds-answer) → said c.unjoin_grounds-answer.result ≡ first (unjoin_rows (view c.args.p) c.args.number)
-answered c = let p = c.args.p in rw (count-view p, sym c.in_limits-limited.ensures) c.unjoin_grounds-answer.ensures
+answered c = let p = c.args.p in rw (count-view p, sym (limits-view p c.in_limits-limited.ensures)) c.unjoin_grounds-answer.ensures
 
 -- what is known of an unjoin that is accepted
 record Known (p : Plan) (number : ℕ) : Type 0 where

@@ -10,7 +10,7 @@ use Rattle.arrays.specs.Tables.{over}
 use Rattle.rules.specs.Calls.{Call, run}
 use Rattle.rules.specs.Image.{tabulate}
 use Rattle.rules.specs.Refusal.{code}
-use Rattle.plan.specs.declared.Plan.{Plan}
+use Rattle.arrays.specs.declared.Plan.{Plan}
 use Rattle.plan.specs.View.{view}
 use Rattle.calls.specs.Slices.{call_in, item_at, calls_in}
 use Rattle.runs.specs.Turns.{run_value}

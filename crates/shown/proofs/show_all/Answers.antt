@@ -6,7 +6,7 @@ use native.Mathlib.Omega.{arith}
 use Rattle.search.specs.Chain.{Linked}
 use Rattle.figures.specs.Figures.{arrays_of}
 use Rattle.figures.proofs.Held.{bounded_in, from_small, linked_in}
-use Rattle.plan.specs.declared.Plan.{Plan}
+use Rattle.arrays.specs.declared.Plan.{Plan}
 use Rattle.shown.proofs.Parts.{cut-length, there, showing_part, all_shown, in_order}
 use Rattle.shown.proofs.show_all.Goals as goal
 

@@ -3,4 +3,4 @@ use Rattle.starts.specs.Found.{starts_in, Found}
 use Rattle.starts.proofs.count.Given as goal
 
 abbrev pub invariant-loop-i : goal.invariant-loop-i
-invariant-loop-i l = Found (starts_in l.marks l.i) l.i l.count l.last
+invariant-loop-i l = Found (starts_in l.p.marks l.i) l.i l.count l.last

@@ -8,11 +8,11 @@ use Rattle.text_length.proofs.Sums.{lines_none, lines-length-more}
 use Rattle.text_length.proofs.lines_length.Goals as goal
 
 pub loop-i-init : goal.loop-i-init
-loop-i-init c = (omega arith, sym (ap list.length (lines_none (transition_of c.args.from.now c.args.to.now c.args.low.now c.args.high.now))), omega arith)
+loop-i-init c = (omega arith, sym (ap list.length (lines_none (transition_of c.args.p.now.from c.args.p.now.to c.args.p.now.low c.args.p.now.high))), omega arith)
 
 pub loop-i-preserved : goal.loop-i-preserved
 loop-i-preserved c = (
   omega arith,
-  rw (add-one) (omega (arith, lines-length-more (transition_of c.args.from.now c.args.to.now c.args.low.now c.args.high.now) c.loop-i.i, c.line_length-length.ensures, c.loop-i.invariant)),
+  rw (add-one) (omega (arith, lines-length-more (transition_of c.args.p.now.from c.args.p.now.to c.args.p.now.low c.args.p.now.high) c.loop-i.i, c.line_length-length.ensures, c.loop-i.invariant)),
   omega (arith, c.line_length-length.ensures, c.loop-i.invariant),
 )

@@ -7,4 +7,4 @@ use Rattle.arrays.specs.Tables.{transitions_of}
 use Rattle.text_length.proofs.lines_length.Given as goal
 
 abbrev pub invariant-loop-i : goal.invariant-loop-i
-invariant-loop-i l = (l.i ≤ l.m) × (l.length ≡ list.length (lines_text (transitions_of l.i l.from l.to l.low l.high))) × (l.length ≤ 31 * l.i)
+invariant-loop-i l = (l.i ≤ l.p.transitions) × (l.length ≡ list.length (lines_text (transitions_of l.i l.p.from l.p.to l.p.low l.p.high))) × (l.length ≤ 31 * l.i)

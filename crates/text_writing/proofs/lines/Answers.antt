@@ -18,7 +18,7 @@ use Rattle.text_writing.proofs.lines.Goals.{Start}
 
 -- the transition at each place of the arrays
 abbrev passing : Start → ℕ → Transition
-passing c = transition_of c.args.from.now c.args.to.now c.args.low.now c.args.high.now
+passing c = transition_of c.args.p.now.from c.args.p.now.to c.args.p.now.low c.args.p.now.high
 
 pub loop-i-init : goal.loop-i-init
 loop-i-init c = (omega arith, refl, rw (lines_none (passing (goal.at.loop-i-init c).Start)) (put-none c.args.buffer.now c.args.at))
@@ -28,11 +28,11 @@ line-place-requires c =
     let l = c.loop-i in
     let f = passing (goal.at.line-place-requires c).Start in
     let more : lines_text (tabulate (suc l.i) f) ≡ lines_text (tabulate l.i f) ++ line_text (f l.i) = lines_more f l.i in
-    put_room l.invariant.2 (line_text (f l.i)) (omega (arith, ap length more, lines-front f (suc l.i) c.args.m (omega arith), c.requires.high_in_bounds))
+    put_room l.invariant.2 (line_text (f l.i)) (omega (arith, ap length more, lines-front f (suc l.i) c.args.p.now.transitions (omega arith), c.requires.room))
 
 pub loop-i-preserved : goal.loop-i-preserved
 loop-i-preserved c =
     let l = c.loop-i in
     let f = passing (goal.at.loop-i-preserved c).Start in
-    let room = lines-front f l.i c.args.m (omega arith) in
-    (omega arith, search rules, rw (add-one, lines_more f l.i) (put_then l.invariant.2 (omega (arith, c.requires.high_in_bounds)) c.line-place.ensures))
+    let room = lines-front f l.i c.args.p.now.transitions (omega arith) in
+    (omega arith, search rules, rw (add-one, lines_more f l.i) (put_then l.invariant.2 (omega (arith, c.requires.room)) c.line-place.ensures))

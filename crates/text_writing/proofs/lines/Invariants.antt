@@ -8,4 +8,4 @@ use Rattle.text.specs.Put.{Put}
 use Rattle.text_writing.proofs.lines.Given as goal
 
 abbrev pub invariant-loop-i : goal.invariant-loop-i
-invariant-loop-i l = (l.i ≤ l.m) × (length l.buffer ≡ length l.initial.buffer) × Put l.initial.buffer l.at (lines_text (transitions_of l.i l.from l.to l.low l.high)) l.buffer l.place
+invariant-loop-i l = (l.i ≤ l.p.transitions) × (length l.buffer ≡ length l.initial.buffer) × Put l.initial.buffer l.at (lines_text (transitions_of l.i l.p.from l.p.to l.p.low l.p.high)) l.buffer l.place

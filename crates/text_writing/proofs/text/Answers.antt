@@ -15,17 +15,17 @@ use Rattle.text_writing.proofs.text.Goals.{Start}
 
 -- the transition at each place of the arrays, and the length of the text
 abbrev passing : Start → ℕ → Transition
-passing c = transition_of c.args.from.now c.args.to.now c.args.low.now c.args.high.now
+passing c = transition_of c.args.p.now.from c.args.p.now.to c.args.p.now.low c.args.p.now.high
 
-sum : (c : Start) → length (text_of (holding c.args.initial c.args.n (tabulate c.args.m (passing c))))
-    ≡ length (first_text c.args.initial c.args.m c.args.n) + length (lines_text (tabulate c.args.m (passing c)))
-sum c = text-sum (passing c) c.args.initial c.args.n c.args.m
+sum : (c : Start) → length (text_of (holding c.args.initial c.args.p.now.states (tabulate c.args.p.now.transitions (passing c))))
+    ≡ length (first_text c.args.initial c.args.p.now.transitions c.args.p.now.states) + length (lines_text (tabulate c.args.p.now.transitions (passing c)))
+sum c = text-sum (passing c) c.args.initial c.args.p.now.states c.args.p.now.transitions
 
 pub first-place-requires : goal.first-place-requires
-first-place-requires c = omega (arith, sum (goal.at.first-place-requires c).Start, c.requires.high_in_bounds)
+first-place-requires c = omega (arith, sum (goal.at.first-place-requires c).Start, c.requires.room)
 
-pub lines-requires-clause-high_in_bounds : goal.lines-requires-clause-high_in_bounds
-lines-requires-clause-high_in_bounds c = omega (arith, sum (goal.at.lines-requires-clause-high_in_bounds c).Start, c.requires.high_in_bounds, c.first-place.ensures, put-length c.first-place.ensures (omega (arith, sum (goal.at.lines-requires-clause-high_in_bounds c).Start, c.requires.high_in_bounds)))
+pub lines-requires-clause-room : goal.lines-requires-clause-room
+lines-requires-clause-room c = omega (arith, sum (goal.at.lines-requires-clause-room c).Start, c.requires.room, c.first-place.ensures, put-length c.first-place.ensures (omega (arith, sum (goal.at.lines-requires-clause-room c).Start, c.requires.room)))
 
 pub returns : goal.returns
-returns c = rw (text-is (passing (goal.at.returns c).Start) c.args.initial c.args.n c.args.m) (put_then c.first-place.ensures (omega arith) c.lines.ensures)
+returns c = rw (text-is (passing (goal.at.returns c).Start) c.args.initial c.args.p.now.states c.args.p.now.transitions) (put_then c.first-place.ensures (omega arith) c.lines.ensures)

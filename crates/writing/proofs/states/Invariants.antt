@@ -9,4 +9,4 @@ use Rattle.arrays.specs.Tables.{states_of}
 use Rattle.writing.proofs.states.Given as goal
 
 abbrev pub invariant-loop-i : goal.invariant-loop-i
-invariant-loop-i l = (l.i ≤ l.n) × (length l.buffer ≡ length l.initial.buffer) × (l.buffer ≡ put_all l.initial.buffer 32 (fields_of_each state_fields (states_of l.i l.marks l.teams)))
+invariant-loop-i l = (l.i ≤ l.p.states) × (length l.buffer ≡ length l.initial.buffer) × (l.buffer ≡ put_all l.initial.buffer 32 (fields_of_each state_fields (states_of l.i l.p.marks l.p.teams)))

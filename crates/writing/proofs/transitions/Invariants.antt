@@ -9,4 +9,4 @@ use Rattle.arrays.specs.Tables.{transitions_of}
 use Rattle.writing.proofs.transitions.Given as goal
 
 abbrev pub invariant-loop-i : goal.invariant-loop-i
-invariant-loop-i l = (l.i ≤ l.m) × (length l.buffer ≡ length l.initial.buffer) × (l.buffer ≡ put_all l.initial.buffer (32 + 8 * l.n) (fields_of_each transition_fields (transitions_of l.i l.from l.to l.low l.high)))
+invariant-loop-i l = (l.i ≤ l.p.transitions) × (length l.buffer ≡ length l.initial.buffer) × (l.buffer ≡ put_all l.initial.buffer (32 + 8 * l.p.states) (fields_of_each transition_fields (transitions_of l.i l.p.from l.p.to l.p.low l.p.high)))

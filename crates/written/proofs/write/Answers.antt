@@ -16,7 +16,7 @@ use Rattle.rules.specs.Image.{header_fields, state_fields, transition_fields, fi
 use Rattle.rules.specs.Refusal.{accepted}
 use Rattle.rules.specs.Rules.{write_rule}
 use Rattle.rules.proofs.ReadWrite.{limited}
-use Rattle.arrays.specs.Tables.{graph_of, states_of, transitions_of}
+use Rattle.arrays.specs.Tables.{graph_in_arrays, states_of, transitions_of}
 use Rattle.arrays.proofs.Lists.{states_of_lem, count_of}
 use Rattle.written.proofs.Packed.{put-arrays}
 use Rattle.written.proofs.write.Goals as goal
@@ -24,18 +24,18 @@ use Rattle.written.proofs.write.Goals.{Else-buffer-length, Start}
 
 -- the plan that the counts and arrays hold, and its counts
 graph : Start → Graph
-graph c = graph_of c.args.n c.args.m c.args.marks.now c.args.teams.now c.args.from.now c.args.to.now c.args.low.now c.args.high.now
+graph c = graph_in_arrays c.args.p.now
 
-states-here : (c : Start) → states (graph c) ≡ c.args.n
+states-here : (c : Start) → states (graph c) ≡ c.args.p.now.states
 unfolding graph
-states-here c = states_of_lem c.args.n c.args.m c.args.marks.now c.args.teams.now c.args.from.now c.args.to.now c.args.low.now c.args.high.now
+states-here c = states_of_lem c.args.p.now.states c.args.p.now.transitions c.args.p.now.marks c.args.p.now.teams c.args.p.now.from c.args.p.now.to c.args.p.now.low c.args.p.now.high
 
-count-here : (c : Start) → count (graph c) ≡ c.args.m
+count-here : (c : Start) → count (graph c) ≡ c.args.p.now.transitions
 unfolding graph
-count-here c = count_of c.args.n c.args.m c.args.marks.now c.args.teams.now c.args.from.now c.args.to.now c.args.low.now c.args.high.now
+count-here c = count_of c.args.p.now.states c.args.p.now.transitions c.args.p.now.marks c.args.p.now.teams c.args.p.now.from c.args.p.now.to c.args.p.now.low c.args.p.now.high
 
 -- past the second the buffer has the image's length
-room : (c : Else-buffer-length) → image_length c.args.n c.args.m ≤ length c.args.buffer.now
+room : (c : Else-buffer-length) → image_length c.args.p.now.states c.args.p.now.transitions ≤ length c.args.buffer.now
 room c = omega (arith, c.if-buffer-length.false, c.size-length.ensures)
 
 pub returns-then-not-limited : goal.returns-then-not-limited
@@ -56,7 +56,7 @@ returns-then-buffer-length c =
     let within-here : within (graph (goal.at.returns-then-buffer-length c).Start) ≡ true = sym c.in_limits-limited.ensures ∙ c.if-not-limited.false in
     let s = (goal.at.returns-then-buffer-length c).Start in
     let b = c.args.buffer.now in
-    let N = image_length c.args.n c.args.m in
+    let N = image_length c.args.p.now.states c.args.p.now.transitions in
     let l : ltb (length b) N ≡ true = lt-ltb (length b) N (omega (arith, c.if-buffer-length.true, c.size-length.ensures)) in
     record { answer = rw (within-here, states-here s, count-here s, l); buffer = rw (within-here, states-here s, count-here s, l) }
 
@@ -66,34 +66,34 @@ header-requires c =
     let within-here : within (graph (goal.at.header-requires c).Start) ≡ true = sym c.in_limits-limited.ensures ∙ c.if-not-limited.false in
     omega (arith, limited (graph (goal.at.header-requires c).Start) within-here, states-here (goal.at.header-requires c).Start, count-here (goal.at.header-requires c).Start, room (goal.at.header-requires c).Else-buffer-length)
 
-pub states-requires-clause-n_bound : goal.states-requires-clause-n_bound
+pub states-requires-clause-room : goal.states-requires-clause-room
 unfolding graph
-states-requires-clause-n_bound c =
-    let within-here : within (graph (goal.at.states-requires-clause-n_bound c).Start) ≡ true = sym c.in_limits-limited.ensures ∙ c.if-not-limited.false in
-    omega (arith, limited (graph (goal.at.states-requires-clause-n_bound c).Start) within-here, states-here (goal.at.states-requires-clause-n_bound c).Start, count-here (goal.at.states-requires-clause-n_bound c).Start, room (goal.at.states-requires-clause-n_bound c).Else-buffer-length, c.header.auto.buffer)
+states-requires-clause-room c =
+    let within-here : within (graph (goal.at.states-requires-clause-room c).Start) ≡ true = sym c.in_limits-limited.ensures ∙ c.if-not-limited.false in
+    omega (arith, limited (graph (goal.at.states-requires-clause-room c).Start) within-here, states-here (goal.at.states-requires-clause-room c).Start, count-here (goal.at.states-requires-clause-room c).Start, room (goal.at.states-requires-clause-room c).Else-buffer-length, c.header.auto.buffer)
 
-pub states-requires-clause-teams_value : goal.states-requires-clause-teams_value
+pub states-requires-clause-each_state : goal.states-requires-clause-each_state
 unfolding graph
-states-requires-clause-teams_value c =
-    let within-here : within (graph (goal.at.states-requires-clause-teams_value c).Start) ≡ true = sym c.in_limits-limited.ensures ∙ c.if-not-limited.false in
-    (limited (graph (goal.at.states-requires-clause-teams_value c).Start) within-here).each-state
+states-requires-clause-each_state c =
+    let within-here : within (graph (goal.at.states-requires-clause-each_state c).Start) ≡ true = sym c.in_limits-limited.ensures ∙ c.if-not-limited.false in
+    (limited (graph (goal.at.states-requires-clause-each_state c).Start) within-here).each-state
 
-pub transitions-requires-clause-n_bound : goal.transitions-requires-clause-n_bound
+pub transitions-requires-clause-room : goal.transitions-requires-clause-room
 unfolding graph
-transitions-requires-clause-n_bound c =
-    let within-here : within (graph (goal.at.transitions-requires-clause-n_bound c).Start) ≡ true = sym c.in_limits-limited.ensures ∙ c.if-not-limited.false in
-    let s = (goal.at.transitions-requires-clause-n_bound c).Start in
-    let l = limited (graph (goal.at.transitions-requires-clause-n_bound c).Start) within-here in
-    (omega (arith, l, states-here s), omega (arith, l, count-here s), omega (arith, room (goal.at.transitions-requires-clause-n_bound c).Else-buffer-length, c.header.auto.buffer, c.states.auto.buffer))
+transitions-requires-clause-room c =
+    let within-here : within (graph (goal.at.transitions-requires-clause-room c).Start) ≡ true = sym c.in_limits-limited.ensures ∙ c.if-not-limited.false in
+    let s = (goal.at.transitions-requires-clause-room c).Start in
+    let l = limited (graph (goal.at.transitions-requires-clause-room c).Start) within-here in
+    (omega (arith, l, states-here s), omega (arith, l, count-here s), omega (arith, room (goal.at.transitions-requires-clause-room c).Else-buffer-length, c.header.auto.buffer, c.states.auto.buffer))
 
-pub transitions-requires-clause-high_value : goal.transitions-requires-clause-high_value
+pub transitions-requires-clause-each_transition : goal.transitions-requires-clause-each_transition
 unfolding graph
-transitions-requires-clause-high_value c =
-    let within-here : within (graph (goal.at.transitions-requires-clause-high_value c).Start) ≡ true = sym c.in_limits-limited.ensures ∙ c.if-not-limited.false in
-    let s = (goal.at.transitions-requires-clause-high_value c).Start in
+transitions-requires-clause-each_transition c =
+    let within-here : within (graph (goal.at.transitions-requires-clause-each_transition c).Start) ≡ true = sym c.in_limits-limited.ensures ∙ c.if-not-limited.false in
+    let s = (goal.at.transitions-requires-clause-each_transition c).Start in
     let a = c.args in
-    let l = limited (graph (goal.at.transitions-requires-clause-high_value c).Start) within-here in
-    ap (λ (k : ℕ). all (transition_ok k) (transitions_of a.m a.from.now a.to.now a.low.now a.high.now)) (sym (states-here s)) ∙ l.each-transition
+    let l = limited (graph (goal.at.transitions-requires-clause-each_transition c).Start) within-here in
+    ap (λ (k : ℕ). all (transition_ok k) (transitions_of a.p.now.transitions a.p.now.from a.p.now.to a.p.now.low a.p.now.high)) (sym (states-here s)) ∙ l.each-transition
 
 pub returns : goal.returns
 unfolding write_rule graph
@@ -102,14 +102,14 @@ returns c =
     let s = (goal.at.returns c).Start in
     let a = c.args in
     let b = a.buffer.now in
-    let n = a.n in
-    let m = a.m in
+    let n = a.p.now.states in
+    let m = a.p.now.transitions in
     let w = within-here in
     let k : ltb (length b) (image_length n m) ≡ false = le-ltb (length b) (image_length n m) (room (goal.at.returns c).Else-buffer-length) in
-    let S = fields_of_each state_fields (states_of n a.marks.now a.teams.now) in
-    let T = fields_of_each transition_fields (transitions_of m a.from.now a.to.now a.low.now a.high.now) in
+    let S = fields_of_each state_fields (states_of n a.p.now.marks a.p.now.teams) in
+    let T = fields_of_each transition_fields (transitions_of m a.p.now.from a.p.now.to a.p.now.low a.p.now.high) in
     let e : c.transitions.new.buffer ≡ put_all (put_all (put_all b 0 (header_fields 2 n m)) 32 S) (32 + 8 * n) T =
     c.transitions.ensures
     ∙ ap (λ (x : List ℕ). put_all x (32 + 8 * n) T) (c.states.ensures ∙ ap (λ (x : List ℕ). put_all x 32 S) c.header.ensures) in
-    let f = put-arrays n m a.marks.now a.teams.now a.from.now a.to.now a.low.now a.high.now b (search rules) (room (goal.at.returns c).Else-buffer-length) in
+    let f = put-arrays n m a.p.now.marks a.p.now.teams a.p.now.from a.p.now.to a.p.now.low a.p.now.high b (search rules) (room (goal.at.returns c).Else-buffer-length) in
     record { answer = rw (w, states-here s, count-here s, k) (ap accepted c.size-length.ensures); buffer = rw (w, states-here s, count-here s, k) (e ∙ f) }
