@@ -73,7 +73,7 @@ returns-then-end-text c =
     let at = (goal.at.returns-then-end-text c).In_ok-heading in
     let d = read (goal.at.returns-then-end-text c).In_ok-listed in
     record {
-      rule = sym (by_end c.args.text.now (short at) c.in_ok-heading.heading (told at) d.transitions c.in_ok-listed.listed.next d.all c.if-end-text.true);
+      rule = sym (by_end c.args.text.now (short at) c.in_ok-heading.heading (told at) d.transitions c.in_ok-listed.listed.next d.all (omega (arith, c.if-end-text.true)));
       counts = tt;
       room = (c.requires.0, c.requires.1, c.lines-lines.ensures.1);
     }
@@ -86,7 +86,7 @@ returns-in_err-listed-2 c =
     let l = c.in_ok-listed.listed in
     let p = err_from_is_err_and c.from_residual-in_err-listed-2.result c.from_residual-in_err-listed-2.ensures.1 in
     rw (p.1, p.2) (record {
-      rule = sym (by_rows c.args.text.now (short at) c.in_ok-heading.heading (told at) d.transitions l.next d.all c.if-end-text.false (said l.answer) (answered lines) _ (ap said c.in_err-listed-2.was));
+      rule = sym (by_rows c.args.text.now (short at) c.in_ok-heading.heading (told at) d.transitions l.next d.all (omega (arith, c.if-end-text.false)) (said l.answer) (answered lines) _ (ap said c.in_err-listed-2.was));
       counts = tt;
       room = (c.requires.0, c.requires.1, c.lines-lines.ensures.1);
     })
@@ -102,7 +102,7 @@ returns c =
     let h = (not_refused r.initial r.transitions r.states (onward-accepted _ _ (sym (answered lines) ∙ ap said ok)).0) in
     let n = c.lines-lines.new in
     record {
-      rule = by_plan c.args.text.now (short at) r (told at) d.transitions l.next d.all c.if-end-text.false (said l.answer) (answered lines)
+      rule = by_plan c.args.text.now (short at) r (told at) d.transitions l.next d.all (omega (arith, c.if-end-text.false)) (said l.answer) (answered lines)
           (ap said ok) h _ _ n.from n.to n.low n.high c.mark_initial.ensures (d.held ok);
       counts = (h.most, h.lines);
       room = (c.mark_initial.ensures.room, c.mark_initial.ensures.teams_room, c.lines-lines.ensures.1);
