@@ -188,7 +188,7 @@ pub fn replace(mut p: Plan, format: Format, octets: &[u8]) -> Edited
         format, limited, octets, &mut bits, &mut marks, // not the plan's: a refusal leaves those
         &mut teams, &mut from, &mut to, &mut low, &mut high,
     );
-    match taken {
+    let answer = match taken {
         Ok(counts) => {
             let states = counts.states;
             let transitions = counts.transitions;
@@ -200,17 +200,14 @@ pub fn replace(mut p: Plan, format: Format, octets: &[u8]) -> Edited
             places::lay(&mut p.high, &high, transitions);
             p.states = states;
             p.transitions = transitions;
-            Edited {
-                plan: p,
-                answer: Ok(()),
-                taken: bits,
-            }
+            Ok(())
         }
-        Err(refusal) => Edited {
-            plan: p, // the old plan
-            answer: Err(refusal),
-            taken: bits,
-        },
+        Err(refusal) => Err(refusal), // the old plan
+    };
+    Edited {
+        plan: p,
+        answer,
+        taken: bits,
     }
 }
 
@@ -228,26 +225,31 @@ pub fn held(octets: &[u8]) -> Edited
     let filled = reading::fill(
         octets, &mut bits, &mut marks, &mut teams, &mut from, &mut to, &mut low, &mut high,
     );
-    match filled {
-        Ok(counts) => Edited {
-            plan: Plan {
-                states: counts.states,
-                transitions: counts.transitions,
-                marks,
-                teams,
-                from,
-                to,
-                low,
-                high,
-            },
-            answer: Ok(()),
-            taken: bits,
-        },
-        Err(refusal) => Edited {
-            plan: blank(0), // no plan
-            answer: Err(refusal),
-            taken: bits,
-        },
+    let mut plan = Plan {
+        states: 0,
+        transitions: 0,
+        marks,
+        teams,
+        from,
+        to,
+        low,
+        high,
+    };
+    let answer = match filled {
+        Ok(counts) => {
+            plan.states = counts.states;
+            plan.transitions = counts.transitions;
+            Ok(())
+        }
+        Err(refusal) => {
+            plan = blank(0); // no plan
+            Err(refusal)
+        }
+    };
+    Edited {
+        plan,
+        answer,
+        taken: bits,
     }
 }
 
