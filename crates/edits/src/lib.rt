@@ -28,7 +28,8 @@ fn made<F: FnOnce() -> Edited>(
     if !slices::has_room(counts.len(), states.len(), fields.len()) {
         return 255;
     }
-    slices::finish(make(), counts, states, fields)
+    let edited = make();
+    slices::finish(&edited, counts, states, fields)
 }
 
 // The plan that the slices hold, changed and stored.
@@ -48,7 +49,7 @@ fn changed<F: FnOnce(Plan) -> Edited>(
         return 255;
     }
     let edited = change(slices::load(counts, states, fields));
-    slices::update(edited, counts, states, fields)
+    slices::update(&edited, counts, states, fields)
 }
 
 // A fresh plan with n states.

@@ -3,7 +3,8 @@
 use Rattle.std.specs.Prelude.{List, [], ◌∷◌, ◌≡◌, ℕ}
 use Rattle.graph.specs.Graph.{Graph}
 use Rattle.rules.specs.Answer.{Accepted, Answer}
-use Rattle.std.specs.Prelude.{Err}
+use Rattle.std.specs.Prelude.{Ok, Err, Result as Returned}
+use Rattle.arrays.specs.declared.Counts.{Counts}
 use Rattle.rules.specs.declared.Format.{Format}
 use Rattle.rules.specs.declared.Refusal.{Refusal}
 use Rattle.rules.specs.Calls.{Call, step, held_in}
@@ -21,6 +22,11 @@ refusing p r = record { answer = Err r; plan = p; taken = 0 }
 
 abbrev pub accepting : Plan → Edited
 accepting p = record { answer = Accepted; plan = p; taken = 0 }
+
+-- what a call is answered that takes octets
+abbrev pub answered : Returned Counts Refusal → Answer
+answered (Ok k) = Accepted
+answered (Err r) = Err r
 
 -- the plan value after a call: the new plan, with every place past its counts as it was; "Any refused event: the plan stays", to the last place
 abbrev pub next_value : Plan → Result Graph → Plan

@@ -11,10 +11,10 @@ ghost use Rattle.rules.specs.Quotations.{Write};
 ghost use Rattle.rules.specs.Rules.{fresh_rule, write_rule};
 ghost use Rattle.arrays.specs.Tables.{transition};
 ghost use Rattle.plan.specs.View.{view, blank_plan, no_plan};
-ghost use Rattle.plan.specs.Promise.{Edit, Turn, Held, refusing, accepting};
+ghost use Rattle.plan.specs.Promise.{Edit, Turn, Held, refusing, accepting, answered};
 
 pub use arrays::Plan;
-use arrays::limits;
+use arrays::{Counts, limits};
 use image::reading;
 use rules::{Format, Refusal};
 
@@ -171,6 +171,16 @@ pub fn unjoin(mut p: Plan, number: usize) -> Edited
     }
 }
 
+// What a call is answered that takes octets.
+fn answered(taken: Result<Counts, Refusal>) -> Result<(), Refusal>
+    ensures { result ≡ answered taken }
+{
+    match taken {
+        Ok(_) => Ok(()),
+        Err(refusal) => Err(refusal),
+    }
+}
+
 // Replaces the whole plan by the one that octets hold: reads an image, or imports a text. It is taken into arrays of its own, and laid over the plan's;
 // the bits that were taken are counted.
 pub fn replace(mut p: Plan, format: Format, octets: &[u8]) -> Edited
@@ -188,7 +198,8 @@ pub fn replace(mut p: Plan, format: Format, octets: &[u8]) -> Edited
         format, limited, octets, &mut bits, &mut marks, // not the plan's: a refusal leaves those
         &mut teams, &mut from, &mut to, &mut low, &mut high,
     );
-    let answer = match taken {
+    let answer = answered(taken);
+    match taken {
         Ok(counts) => {
             let states = counts.states;
             let transitions = counts.transitions;
@@ -200,10 +211,9 @@ pub fn replace(mut p: Plan, format: Format, octets: &[u8]) -> Edited
             places::lay(&mut p.high, &high, transitions);
             p.states = states;
             p.transitions = transitions;
-            Ok(())
         }
-        Err(refusal) => Err(refusal), // the old plan
-    };
+        Err(_) => {} // the old plan
+    }
     Edited {
         plan: p,
         answer,
@@ -235,17 +245,16 @@ pub fn held(octets: &[u8]) -> Edited
         low,
         high,
     };
-    let answer = match filled {
+    let answer = answered(filled);
+    match filled {
         Ok(counts) => {
             plan.states = counts.states;
             plan.transitions = counts.transitions;
-            Ok(())
         }
-        Err(refusal) => {
+        Err(_) => {
             plan = blank(0); // no plan
-            Err(refusal)
         }
-    };
+    }
     Edited {
         plan,
         answer,

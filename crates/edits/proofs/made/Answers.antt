@@ -8,5 +8,5 @@ use Rattle.edits.proofs.made.Goals as goal
 pub returns : goal.returns
 returns g c =
     let a = c.args in
-    λ o is. finished no_plan (slices a.counts.now a.states.now a.fields.now) _ o c.make.result c.finish.result (sym c.has_room.ensures ∙ c.if-not-has_room.false)
-    (is c.make.result c.make.ensures).1 c.finish.ensures
+    λ o is. finished no_plan (slices a.counts.now a.states.now a.fields.now) _ o c.make-edited.result c.finish.result (sym c.has_room.ensures ∙ c.if-not-has_room.false)
+    (is c.make-edited.result c.make-edited.ensures).1 c.finish.ensures

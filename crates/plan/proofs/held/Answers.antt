@@ -12,6 +12,7 @@ use Rattle.rules.specs.Image.{read_image}
 use Rattle.rules.specs.Refusal.{accepted, made}
 use Rattle.taken.specs.Taken.{bits_taken}
 use Rattle.arrays.specs.Tables.{graph_of}
+use Rattle.plan.specs.Promise.{answered}
 use Rattle.plan.specs.View.{view, no_plan}
 use Rattle.plan.proofs.Edits.{acceptance}
 use Rattle.plan.proofs.held.Goals as goal
@@ -33,7 +34,8 @@ returns-in-Ok c =
     let n = IfOk-at_ok (λ (k : Counts). (k.states ≡ states_in os) × (k.transitions ≡ transitions_in os)) c.in-Ok.is e.read.counts in
     let ruled : read_image os ≡ accepted g =
     sym e.read.rule ∙ ap (λ (r : Returned Counts Refusal). made r (λ k. graph_of k.states k.transitions l.marks l.teams l.from l.to l.low l.high)) c.in-Ok.is in
-    acceptance no_plan _ (read_image os) g (bits_taken os) _ ruled refl
+    rw (c.answered-answer.ensures ∙ ap answered c.in-Ok.is)
+    (acceptance no_plan _ (read_image os) g (bits_taken os) _ ruled refl
     (record {
       marks = rw (n.0) e.marks;
       teams = rw (n.0) e.later_teams;
@@ -41,4 +43,4 @@ returns-in-Ok c =
       to = rw (n.1) e.later.to;
       low = rw (n.1) e.later.low;
       high = rw (n.1) e.later.high;
-    }) (omega (arith, e.read.bits))
+    }) (omega (arith, e.read.bits)))

@@ -13,6 +13,7 @@ use Rattle.rules.specs.Calls.{Call, step, replacing}
 use Rattle.rules.specs.Refusal.{Result, accepted, refused, made}
 use Rattle.taken.specs.Taken.{bits_of}
 use Rattle.arrays.specs.declared.Plan.{Plan}
+use Rattle.plan.specs.Promise.{answered}
 use Rattle.plan.specs.View.{view, plan_of}
 use Rattle.plan.proofs.Edits.{Past, refusal, acceptance, InArrays, same-arrays, overlaid, view-overlaid, past-overlaid}
 use Rattle.plan.specs.Laws.{Sized, limits-view}
@@ -75,8 +76,9 @@ returns-in-Ok c =
     let call : Call = replacing c.args.format c.args.octets.now in
     let o : Result Graph = step (view p) call in
     let e : _ ≡ overlaid p q = same-arrays c.lay.ensures c.lay-in-Ok.ensures c.lay-in-Ok-2.ensures c.lay-in-Ok-3.ensures c.lay-in-Ok-4.ensures c.lay-in-Ok-5.ensures in
-    acceptance p _ o (view q) (bits_of (view p) call) _ (ruled in_ok) (ap view e ∙ view-overlaid p q r)
-    (subst (Past p) (sym e) (past-overlaid p (sized (goal.at.returns-in-Ok c).Start) q r n.0 n.1)) (counted (goal.at.returns-in-Ok c).After-take-taken)
+    rw (c.answered-answer.ensures ∙ ap answered c.in-Ok.is)
+    (acceptance p _ o (view q) (bits_of (view p) call) _ (ruled in_ok) (ap view e ∙ view-overlaid p q r)
+    (subst (Past p) (sym e) (past-overlaid p (sized (goal.at.returns-in-Ok c).Start) q r n.0 n.1)) (counted (goal.at.returns-in-Ok c).After-take-taken))
 
 pub returns-in-Err : goal.returns-in-Err
 returns-in-Err c =
@@ -84,7 +86,7 @@ returns-in-Err c =
     let l = c.take-taken.new in
     let call : Call = replacing c.args.format c.args.octets.now in
     let o : Result Graph = step (view p) call in
-    let e : o ≡ refused c.in-Err.refusal =
+    let e : o ≡ refused c.in-Err.field-0 =
     sym (c.take-taken.ensures.rule (view p) (sym (limits-view p c.in_limits-limited.ensures)))
     ∙ ap (λ (r : Returned Counts Refusal). made r (λ k. graph_of k.states k.transitions l.marks l.teams l.from l.to l.low l.high)) c.in-Err.is in
-    refusal p o _ (bits_of (view p) call) _ e (counted (goal.at.returns-in-Err c).After-take-taken)
+    rw (c.answered-answer.ensures ∙ ap answered c.in-Err.is) (refusal p o _ (bits_of (view p) call) _ e (counted (goal.at.returns-in-Err c).After-take-taken))
