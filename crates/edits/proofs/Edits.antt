@@ -1,14 +1,14 @@
 -- What an edit on lent slices promises. An answer that is accepted goes with the plan stored, and a refusal with every place as it was; so the promise
 -- of the plan's own call, on the plan value that was loaded, is the promise on the slices (`finished`), and the slices then hold the very plan value that
 -- the rules' next value is (`turned`). Assumes nothing.
-use mathlib.Core.Bool.{true}
+use mathlib.Core.Bool.{true, false}
 use mathlib.Core.List.{List, map}
-use mathlib.Core.Path.{◌≡◌, sym, ap, subst, ◌∙◌}
+use mathlib.Core.Path.{◌≡◌, refl, sym, ap, subst, ◌∙◌}
 use Prim.Native.Nat.{ℕ}
 use lib.ListN.{length, drop, length-map}
 use lib.Seq.{drop_at}
 use Rattle.graph.specs.Graph.{Graph, State, Transition, states, count}
-use Rattle.rules.specs.Answer.{Answer}
+use Rattle.rules.specs.Answer.{Accepted, Answer}
 use Rattle.std.proofs.Common.{Ok, Err}
 use Rattle.rules.specs.Calls.{Call, step}
 use Rattle.rules.specs.Refusal.{Result, accepted, refused, answer_of, said, code}
@@ -25,6 +25,15 @@ use Rattle.plan.specs.Promise.{Edit, Turn, next_value}
 use Rattle.slices.specs.Lent.{Slices, has_room, plan_in, storing, Finished, SameLater, Updates}
 use Rattle.slices.proofs.Stores.{true-false}
 use Rattle.edits.specs.Lent.{next_slices, LentEdit, LentTurn}
+
+pub too_short : (p : Plan) (s : Slices) (o : Result Graph) → has_room s ≡ false → LentEdit p s s o 255
+too_short p s o e =
+    record {
+      short = λ h. (refl, refl);
+      answer = λ h. true-false (has_room s) h e;
+      plan = λ h. true-false (has_room s) h e;
+      whole = λ h. true-false (has_room s) h e;
+    }
 
 code_of : (o : Result Graph) (r : Result (Unit {0})) → r ≡ answer_of o → code r ≡ code o
 code_of (accepted g) r e = ap code e
@@ -56,6 +65,9 @@ finished p s s' o e r room x f =
     by_answer e.answer p e.plan s s' o r room x.answer (λ g h. (x.plan ∙ ap (next (view p)) h, x.whole ∙ ap (next_value p) h)) f
 
 -- ---- a call on the plan that the slices hold
+
+pub turn-short : (s : Slices) (call : Call) → has_room s ≡ false → LentTurn s s call 255
+turn-short s call e = record { edit = too_short (plan_in s) s (step (view (plan_in s)) call) e; value = λ h. true-false (has_room s) h e }
 
 value_of : (a : Answer) (q : Plan) (s t : Slices) (o : Result Graph) (r : ℕ) → said a ≡ answer_of o → q ≡ next_value (plan_in s) o → Finished a q s t r
     → plan_in t ≡ next_value (plan_in s) o

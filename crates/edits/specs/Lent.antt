@@ -7,8 +7,7 @@ use Rattle.rules.specs.Image.{read_image}
 use Rattle.rules.specs.Calls.{Call, step}
 use Rattle.rules.specs.Rules.{next, fresh_rule}
 use Rattle.arrays.specs.declared.Plan.{Plan}
-use Rattle.plan.specs.declared.Edited.{Edited}
-use Rattle.plan.specs.Promise.{next_value, Edit, Turn}
+use Rattle.plan.specs.Promise.{next_value}
 use Rattle.plan.specs.View.{view, laid, no_plan}
 use Rattle.slices.specs.Lent.{Slices, has_room, plan_in, storing}
 
@@ -24,14 +23,6 @@ pub record LentEdit (p : Plan) (before after : Slices) (o : Result Graph) (r : �
   pub answer : has_room before ≡ true → r ≡ code o
   pub plan : has_room before ≡ true → view (plan_in after) ≡ next (view (plan_in before)) o
   pub whole : has_room before ≡ true → after ≡ next_slices p before o
-
--- whatever is returned on a plan is the call's: what is asked of a function that changes a plan, by its results
-abbrev pub IsCall : (Plan → Edited → Type 0) → Call → Type 0
-IsCall results call = (p : Plan) (e : Edited) → results p e → Turn p call e
-
--- whatever is returned is a plan made from nothing, by the rules' o
-abbrev pub IsMade : (Edited → Type 0) → Result Graph → Type 0
-IsMade results o = (e : Edited) → results e → (bits : ℕ) × Edit no_plan o bits e
 
 -- a call that makes a plan from nothing: a fresh one, a test plan, or the one that an image holds
 abbrev pub LentFresh : ℕ → Slices → Slices → ℕ → Type 0

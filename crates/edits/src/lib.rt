@@ -3,54 +3,11 @@
 #![tactic(auto)]
 
 ghost use Rattle.arrays.specs.Tables.{transition};
-ghost use Rattle.graph.specs.Graph.{Graph};
-ghost use Rattle.plan.specs.View.{no_plan};
-ghost use Rattle.rules.specs.Refusal.{Result};
-ghost use Rattle.rules.specs.Calls.{Call, mark, team, join, unjoin, replacing};
+ghost use Rattle.rules.specs.Calls.{mark, team, join, unjoin, replacing};
 ghost use Rattle.slices.specs.Lent.{slices};
-ghost use Rattle.edits.specs.Lent.{LentEdit, LentFresh, LentGenerate, LentHeld, LentTurn, IsCall, IsMade};
+ghost use Rattle.edits.specs.Lent.{LentFresh, LentGenerate, LentHeld, LentTurn};
 
-use plan::{Edited, Plan};
 use rules::Format;
-
-// A plan that is made from nothing, stored.
-fn made<F: FnOnce() -> Edited>(
-    counts: &mut [usize],
-    states: &mut [u8],
-    fields: &mut [u16],
-    make: F,
-) -> u32
-    requires { F.IsAlwaysCallable make }
-    ensures { (o : Result Graph) → IsMade (F.post make) o
-        → LentEdit no_plan (slices counts.old states.old fields.old)
-        (slices counts.new states.new fields.new) o result }
-{
-    if !slices::has_room(counts.len(), states.len(), fields.len()) {
-        return 255;
-    }
-    let edited = make();
-    slices::finish(&edited, counts, states, fields)
-}
-
-// The plan that the slices hold, changed and stored.
-fn changed<F: FnOnce(Plan) -> Edited>(
-    counts: &mut [usize],
-    states: &mut [u8],
-    fields: &mut [u16],
-    change: F,
-) -> u32
-    requires callable { F.IsAlwaysCallable change }
-    requires is_call { (call : Call) × IsCall (F.post change) call }
-    ensures { (call : Call) → IsCall (F.post change) call
-        → LentTurn (slices counts.old states.old fields.old)
-        (slices counts.new states.new fields.new) call result }
-{
-    if !slices::has_room(counts.len(), states.len(), fields.len()) {
-        return 255;
-    }
-    let edited = change(slices::load(counts, states, fields));
-    slices::update(&edited, counts, states, fields)
-}
 
 // A fresh plan with n states.
 pub fn fresh(n: usize, counts: &mut [usize], states: &mut [u8], fields: &mut [u16]) -> u32
@@ -58,7 +15,10 @@ pub fn fresh(n: usize, counts: &mut [usize], states: &mut [u8], fields: &mut [u1
         (slices counts.old states.old fields.old)
         (slices counts.new states.new fields.new) result }
 {
-    made(counts, states, fields, || plan::fresh(n))
+    if !slices::has_room(counts.len(), states.len(), fields.len()) {
+        return 255;
+    }
+    slices::finish(plan::fresh(n), counts, states, fields)
 }
 
 // The plan of n states and m transitions that a seed makes.
@@ -74,7 +34,10 @@ pub fn generate(
         (slices counts.old states.old fields.old)
         (slices counts.new states.new fields.new) result }
 {
-    made(counts, states, fields, || generation::generate(seed, n, m))
+    if !slices::has_room(counts.len(), states.len(), fields.len()) {
+        return 255;
+    }
+    slices::finish(generation::generate(seed, n, m), counts, states, fields)
 }
 
 // The plan that an image holds, whatever the slices held before.
@@ -83,7 +46,10 @@ pub fn from_image(octets: &[u8], counts: &mut [usize], states: &mut [u8], fields
         (slices counts.old states.old fields.old)
         (slices counts.new states.new fields.new) result }
 {
-    made(counts, states, fields, || plan::held(octets))
+    if !slices::has_room(counts.len(), states.len(), fields.len()) {
+        return 255;
+    }
+    slices::finish(plan::held(octets), counts, states, fields)
 }
 
 // Makes a state's marks value the value given.
@@ -98,12 +64,12 @@ pub fn mark(
         (slices counts.new states.new fields.new)
         (mark state value) result }
 {
-    changed(
-        counts,
-        states,
-        fields,
-        |plan| plan::mark(plan, state, value),
-    )
+    if !slices::has_room(counts.len(), states.len(), fields.len()) {
+        return 255;
+    }
+    let plan = slices::load(counts, states, fields);
+    let edited = plan::mark(plan, state, value);
+    slices::update(edited, counts, states, fields)
 }
 
 // Makes a state's team the team given.
@@ -118,12 +84,12 @@ pub fn team(
         (slices counts.new states.new fields.new)
         (team state number) result }
 {
-    changed(
-        counts,
-        states,
-        fields,
-        |plan| plan::team(plan, state, number),
-    )
+    if !slices::has_room(counts.len(), states.len(), fields.len()) {
+        return 255;
+    }
+    let plan = slices::load(counts, states, fields);
+    let edited = plan::team(plan, state, number);
+    slices::update(edited, counts, states, fields)
 }
 
 // Puts a transition at the end of the list.
@@ -140,12 +106,12 @@ pub fn join(
         (slices counts.new states.new fields.new)
         (join (transition from to low high)) result }
 {
-    changed(
-        counts,
-        states,
-        fields,
-        |plan| plan::join(plan, from, to, low, high),
-    )
+    if !slices::has_room(counts.len(), states.len(), fields.len()) {
+        return 255;
+    }
+    let plan = slices::load(counts, states, fields);
+    let edited = plan::join(plan, from, to, low, high);
+    slices::update(edited, counts, states, fields)
 }
 
 // Takes a transition out of the list.
@@ -154,7 +120,12 @@ pub fn unjoin(counts: &mut [usize], states: &mut [u8], fields: &mut [u16], numbe
         (slices counts.new states.new fields.new)
         (unjoin number) result }
 {
-    changed(counts, states, fields, |plan| plan::unjoin(plan, number))
+    if !slices::has_room(counts.len(), states.len(), fields.len()) {
+        return 255;
+    }
+    let plan = slices::load(counts, states, fields);
+    let edited = plan::unjoin(plan, number);
+    slices::update(edited, counts, states, fields)
 }
 
 // Reads an image or imports a text, in place of the plan.
@@ -169,10 +140,10 @@ pub fn replace(
         (slices counts.new states.new fields.new)
         (replacing format octets.now) result }
 {
-    changed(
-        counts,
-        states,
-        fields,
-        |plan| plan::replace(plan, format, octets),
-    )
+    if !slices::has_room(counts.len(), states.len(), fields.len()) {
+        return 255;
+    }
+    let plan = slices::load(counts, states, fields);
+    let edited = plan::replace(plan, format, octets);
+    slices::update(edited, counts, states, fields)
 }

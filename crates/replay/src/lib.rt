@@ -30,7 +30,7 @@ pub fn replay(
         return asked;
     }
     let first = plan::fresh(n).plan;
-    slices::store(&first, counts, states, fields);
+    slices::store(first, counts, states, fields);
     runs::in_turn(kinds, arguments, octets, counts, states, fields, answers);
     let plan = slices::load(counts, states, fields);
     let quotations = quotation::all(plan, walks);

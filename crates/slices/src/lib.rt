@@ -6,7 +6,7 @@
 
 ghost use Rattle.std.specs.Prelude.{◌≡◌, ◌+◌, ◌≤◌, length, take, drop};
 ghost use Rattle.std.proofs.Math.Seq.{paste};
-ghost use Rattle.slices.specs.Lent.{Roomy, roomy, lent_plan, plan_in, slices, storing, Finished, SameLater, Updates};
+ghost use Rattle.slices.specs.Lent.{Roomy, roomy, lent_plan, plan_in, slices, storing, Finished, Updates};
 
 use plan::{Edited, Plan};
 
@@ -35,7 +35,8 @@ fn put<T: Copy>(places: &mut [T], at: usize, part: &[T], n: usize)
     places[at..at + n].copy_from_slice(&part[..n]);
 }
 
-// The plan value that three lent slices hold.
+// The plan value that three lent slices hold, in a frame of its own: what its parts are copied through is not on the stack while the plan is changed.
+#[inline(never)]
 pub fn load(counts: &[usize], states: &[u8], fields: &[u16]) -> Plan
     requires { Roomy counts.now states.now fields.now }
     ensures { result ≡ lent_plan counts.now states.now fields.now }
@@ -53,11 +54,11 @@ pub fn load(counts: &[usize], states: &[u8], fields: &[u16]) -> Plan
 }
 
 // Stores a plan value in three lent slices.
-pub fn store(plan: &Plan, counts: &mut [usize], states: &mut [u8], fields: &mut [u16])
+pub fn store(plan: Plan, counts: &mut [usize], states: &mut [u8], fields: &mut [u16])
     requires { Roomy counts.old states.old fields.old }
     ensures { (slices counts.new states.new fields.new
-        ≡ storing plan.now (slices counts.old states.old fields.old))
-        × (plan_in (slices counts.new states.new fields.new) ≡ plan.now) }
+        ≡ storing plan (slices counts.old states.old fields.old))
+        × (plan_in (slices counts.new states.new fields.new) ≡ plan) }
 {
     counts[0] = plan.states;
     counts[1] = plan.transitions;
@@ -70,55 +71,44 @@ pub fn store(plan: &Plan, counts: &mut [usize], states: &mut [u8], fields: &mut 
 }
 
 // Stores the plan of an accepted call, and gives the number of its answer.
-pub fn finish(edited: &Edited, counts: &mut [usize], states: &mut [u8], fields: &mut [u16]) -> u32
+pub fn finish(edited: Edited, counts: &mut [usize], states: &mut [u8], fields: &mut [u16]) -> u32
     requires { Roomy counts.old states.old fields.old }
-    ensures { Finished edited.now.answer edited.now.plan
+    ensures { Finished edited.answer edited.plan
         (slices counts.old states.old fields.old)
         (slices counts.new states.new fields.new) result }
 {
     let answer = edited.answer;
     match answer {
         Ok(()) => {
-            store(&edited.plan, counts, states, fields);
-            256 // with every place of the plan
-        }
-        Err(r) => numbers::number(r),
-    }
-}
-
-// Stores a plan value up to its counts, in three lent slices that have its later places already.
-fn store_front(plan: &Plan, counts: &mut [usize], states: &mut [u8], fields: &mut [u16])
-    requires { Roomy counts.old states.old fields.old × SameLater plan.now (slices counts.old states.old fields.old) }
-    ensures { (slices counts.new states.new fields.new
-        ≡ storing plan.now (slices counts.old states.old fields.old))
-        × (plan_in (slices counts.new states.new fields.new) ≡ plan.now) }
-{
-    let n = plan.states;
-    let m = plan.transitions;
-    counts[0] = n;
-    counts[1] = m;
-    put(states, 0, &plan.marks, n);
-    put(states, 512, &plan.teams, n);
-    put(fields, 0, &plan.from, m);
-    put(fields, 2048, &plan.to, m);
-    put(fields, 4096, &plan.low, m);
-    put(fields, 6144, &plan.high, m);
-}
-
-// The same for a call on the plan that the slices hold. Its plan is lent where it lies: a value of its own would be one more copy.
-pub fn update(edited: &Edited, counts: &mut [usize], states: &mut [u8], fields: &mut [u16]) -> u32
-    requires { Roomy counts.old states.old fields.old
-        × Updates edited.now.answer edited.now.plan (slices counts.old states.old fields.old) }
-    ensures { Finished edited.now.answer edited.now.plan
-        (slices counts.old states.old fields.old)
-        (slices counts.new states.new fields.new) result }
-{
-    let answer = edited.answer;
-    match answer {
-        Ok(()) => {
-            store_front(&edited.plan, counts, states, fields);
+            let plan = edited.plan;
+            store(plan, counts, states, fields);
             256
         }
         Err(r) => numbers::number(r),
     }
+}
+
+// The same for a call on the plan that the slices hold. Its fields are lent where they lie: a plan value of its own would be one more copy.
+pub fn update(edited: Edited, counts: &mut [usize], states: &mut [u8], fields: &mut [u16]) -> u32
+    requires { Roomy counts.old states.old fields.old
+        × Updates edited.answer edited.plan (slices counts.old states.old fields.old) }
+    ensures { Finished edited.answer edited.plan
+        (slices counts.old states.old fields.old)
+        (slices counts.new states.new fields.new) result }
+{
+    let answer = edited.answer;
+    if let Err(r) = answer {
+        return numbers::number(r);
+    }
+    let n = edited.plan.states;
+    let m = edited.plan.transitions;
+    counts[0] = n;
+    counts[1] = m;
+    put(states, 0, &edited.plan.marks, n);
+    put(states, 512, &edited.plan.teams, n);
+    put(fields, 0, &edited.plan.from, m);
+    put(fields, 2048, &edited.plan.to, m);
+    put(fields, 4096, &edited.plan.low, m);
+    put(fields, 6144, &edited.plan.high, m);
+    256
 }

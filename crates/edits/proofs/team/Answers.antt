@@ -1,10 +1,23 @@
--- `edits::team`: the closure makes the call. Assumes nothing.
-use borrow.Author.Rules.{rules}
+-- `edits::team`: slices too short are told so. Otherwise the plan value that they hold is edited and its answer stored, so that the
+-- promise of the plan's own call is the promise on the slices (`turned`, proofs/Edits.antt). Assumes nothing.
+use mathlib.Core.Bool.{true}
+use mathlib.Core.Path.{◌≡◌, sym, ◌∙◌}
 use Rattle.rules.specs.Calls.{team}
+use Rattle.slices.specs.Lent.{slices, has_room}
+use Rattle.slices.proofs.Stores.{has_room_lem}
+use Rattle.edits.proofs.Edits.{turned, same_later}
 use Rattle.edits.proofs.team.Goals as goal
+use Rattle.edits.proofs.team.Goals.{Else-not-has_room}
 
-pub changed-requires-clause-is_call : goal.changed-requires-clause-is_call
-changed-requires-clause-is_call c = let a = c.args in (team a.state a.number, λ p e h. search rules)
+-- past the test the slices have room
+room : (c : Else-not-has_room) → has_room (slices c.args.counts.now c.args.states.now c.args.fields.now) ≡ true
+room c = sym c.has_room.ensures ∙ c.if-not-has_room.false
+
+pub update-requires : goal.update-requires
+update-requires c = let a = c.args in (has_room_lem _ _ _ (room (goal.at.update-requires c).Else-not-has_room), same_later (team a.state a.number) c.load-plan.result (slices a.counts.now a.states.now a.fields.now) c.team-edited.result c.load-plan.ensures c.team-edited.ensures)
 
 pub returns : goal.returns
-returns c = let a = c.args in c.changed.ensures (team a.state a.number) (λ p e h. search rules)
+returns c =
+    let a = c.args in
+    turned (team a.state a.number) c.load-plan.result (slices a.counts.now a.states.now a.fields.now) _ c.team-edited.result c.update.result
+    (room (goal.at.returns c).Else-not-has_room) c.load-plan.ensures c.team-edited.ensures c.update.ensures
