@@ -17,7 +17,8 @@ pub fn has_room(counts: usize, states: usize, fields: usize) -> bool
     (2 <= counts) & ((1024 <= states) & (8192 <= fields))
 }
 
-// The N places of a slice from a place on, as an array.
+// The N places of a slice from a place on, as an array, in a frame of its own: what it is copied through is not on the stack beside the plan.
+#[inline(never)]
 fn part<T: Copy + Default, const N: usize>(places: &[T], at: usize) -> [T; N]
     requires { at + N ≤ length places.now }
     ensures { result ≡ take N (drop at places.now) }
@@ -35,8 +36,7 @@ fn put<T: Copy>(places: &mut [T], at: usize, part: &[T], n: usize)
     places[at..at + n].copy_from_slice(&part[..n]);
 }
 
-// The plan value that three lent slices hold, in a frame of its own: what its parts are copied through is not on the stack while the plan is changed.
-#[inline(never)]
+// The plan value that three lent slices hold.
 pub fn load(counts: &[usize], states: &[u8], fields: &[u16]) -> Plan
     requires { Roomy counts.now states.now fields.now }
     ensures { result ≡ lent_plan counts.now states.now fields.now }
