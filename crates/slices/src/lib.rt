@@ -17,14 +17,31 @@ pub fn has_room(counts: usize, states: usize, fields: usize) -> bool
     (2 <= counts) & ((1024 <= states) & (8192 <= fields))
 }
 
-// The N places of a slice from a place on, as an array, in a frame of its own: what it is copied through is not on the stack beside the plan.
-#[inline(never)]
-fn part<T: Copy + Default, const N: usize>(places: &[T], at: usize) -> [T; N]
-    requires { at + N ≤ length places.now }
-    ensures { result ≡ take N (drop at places.now) }
+// The 512 octets of a slice from a place on, as an array. Written out, as `field_of` is: one generic copy would put a plan value more on the stack.
+fn states_of(places: &[u8], at: usize) -> [u8; 512]
+    requires { at + 512 ≤ length places.now }
+    ensures { result ≡ take 512 (drop at places.now) }
 {
-    let mut out = [T::default(); N];
-    out.copy_from_slice(&places[at..at + N]);
+    let mut out = [0u8; 512];
+    let mut i = 0;
+    while i < 512 {
+        out[i] = places[at + i];
+        i += 1;
+    }
+    out
+}
+
+// The 2,048 numbers of a slice from a place on, as an array.
+fn field_of(places: &[u16], at: usize) -> [u16; 2048]
+    requires { at + 2048 ≤ length places.now }
+    ensures { result ≡ take 2048 (drop at places.now) }
+{
+    let mut out = [0u16; 2048];
+    let mut i = 0;
+    while i < 2048 {
+        out[i] = places[at + i];
+        i += 1;
+    }
     out
 }
 
@@ -44,12 +61,12 @@ pub fn load(counts: &[usize], states: &[u8], fields: &[u16]) -> Plan
     Plan {
         states: counts[0],
         transitions: counts[1],
-        marks: part(states, 0),
-        teams: part(states, 512),
-        from: part(fields, 0),
-        to: part(fields, 2048),
-        low: part(fields, 4096),
-        high: part(fields, 6144),
+        marks: states_of(states, 0),
+        teams: states_of(states, 512),
+        from: field_of(fields, 0),
+        to: field_of(fields, 2048),
+        low: field_of(fields, 4096),
+        high: field_of(fields, 6144),
     }
 }
 

@@ -9,10 +9,10 @@ returns c =
     λ i. record {
       states = get_or a.counts.now 0 0;
       transitions = get_or a.counts.now 1 0;
-      marks = c.part.ensures i;
-      teams = c.part-2.ensures i;
-      from = c.part-3.ensures i;
-      to = c.part-4.ensures i;
-      low = c.part-5.ensures i;
-      high = c.part-6.ensures i;
+      marks = c.states_of.ensures i;
+      teams = c.states_of-2.ensures i;
+      from = c.field_of.ensures i;
+      to = c.field_of-2.ensures i;
+      low = c.field_of-3.ensures i;
+      high = c.field_of-4.ensures i;
     }
