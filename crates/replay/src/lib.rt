@@ -1,8 +1,26 @@
 // A list of calls, lent as slices of numbers: made in turn from a fresh plan on the plan that three more lent slices hold, and the last plan quoted.
 #![tactic(auto)]
 
-ghost use Rattle.slices.specs.Lent.{slices};
+ghost use Rattle.std.specs.Prelude.{◌≡◌};
+ghost use Rattle.plan.specs.declared.Edited.{Edited};
+ghost use Rattle.plan.specs.Promise.{Edit};
+ghost use Rattle.plan.specs.View.{no_plan};
+ghost use Rattle.rules.specs.Rules.{fresh_rule};
+ghost use Rattle.slices.specs.Lent.{Roomy, plan_in, slices, storing};
 ghost use Rattle.replay.specs.Replayed.{LentReplay, places};
+
+// Stores a fresh plan of n states, in a frame of its own: it is not on the stack while the calls are made.
+#[inline(never)]
+fn begin(n: usize, counts: &mut [usize], states: &mut [u8], fields: &mut [u16])
+    requires { Roomy counts.old states.old fields.old }
+    ensures { (e : Edited) × Edit no_plan (fresh_rule n) 0 e
+        × ((slices counts.new states.new fields.new
+        ≡ storing e.plan (slices counts.old states.old fields.old))
+        × (plan_in (slices counts.new states.new fields.new) ≡ e.plan)) }
+{
+    let first = plan::fresh(n).plan;
+    slices::store(first, counts, states, fields);
+}
 
 // Makes a list of calls in turn from a fresh plan of n states, stores the plan after it, and quotes its four figures. A call is a kind (0 mark, 1 join,
 // 2 unjoin, 3 read, 4 import, 5 team) and four arguments; those of a read or an import are the start and the end of its octets. Each call has a place for its
@@ -29,8 +47,7 @@ pub fn replay(
     if asked < 256 {
         return asked;
     }
-    let first = plan::fresh(n).plan;
-    slices::store(first, counts, states, fields);
+    begin(n, counts, states, fields);
     runs::in_turn(kinds, arguments, octets, counts, states, fields, answers);
     let plan = slices::load(counts, states, fields);
     let quotations = quotation::all(plan, walks);

@@ -30,19 +30,19 @@ pub in_turn-requires : goal.in_turn-requires
 in_turn-requires c =
     let a = c.args in (
       callable a.n a.kinds.now a.arguments.now a.octets.now a.answers.now (slices a.counts.now a.states.now a.fields.now) a.walks.now a.out.now (ok (goal.at.in_turn-requires c).Else-asked-lt256).0 (ok (goal.at.in_turn-requires c).Else-asked-lt256).1 (ok (goal.at.in_turn-requires c).Else-asked-lt256).2,
-      still_roomy a.counts.now a.states.now a.fields.now _ _ _ (has_room_lem a.counts.now a.states.now a.fields.now (ok (goal.at.in_turn-requires c).Else-asked-lt256).0) c.store.auto.counts c.store.auto.states c.store.auto.fields,
+      still_roomy a.counts.now a.states.now a.fields.now _ _ _ (has_room_lem a.counts.now a.states.now a.fields.now (ok (goal.at.in_turn-requires c).Else-asked-lt256).0) c.begin.auto.counts c.begin.auto.states c.begin.auto.fields,
     )
 
 pub load-plan-requires : goal.load-plan-requires
 load-plan-requires c =
     let a = c.args in
-    still_roomy a.counts.now a.states.now a.fields.now _ _ _ (has_room_lem a.counts.now a.states.now a.fields.now (ok (goal.at.load-plan-requires c).Else-asked-lt256).0) (c.in_turn.auto.counts ∙ c.store.auto.counts) (c.in_turn.auto.states ∙ c.store.auto.states) (c.in_turn.auto.fields ∙ c.store.auto.fields)
+    still_roomy a.counts.now a.states.now a.fields.now _ _ _ (has_room_lem a.counts.now a.states.now a.fields.now (ok (goal.at.load-plan-requires c).Else-asked-lt256).0) (c.in_turn.auto.counts ∙ c.begin.auto.counts) (c.in_turn.auto.states ∙ c.begin.auto.states) (c.in_turn.auto.fields ∙ c.begin.auto.fields)
 
 pub four-requires : goal.four-requires
 four-requires c =
     let a = c.args in (
       replay_small a.n a.kinds.now a.arguments.now a.octets.now a.answers.now (slices a.counts.now a.states.now a.fields.now) a.walks.now a.out.now (ok (goal.at.four-requires c).Else-asked-lt256).0 (ok (goal.at.four-requires c).Else-asked-lt256).1 (ok (goal.at.four-requires c).Else-asked-lt256).2
-          c.fresh.result c.fresh.ensures _ c.store.ensures _ _ c.in_turn.ensures c.load-plan.result c.load-plan.ensures _ c.all-quotations.result c.all-quotations.ensures,
+          c.begin.ensures.0 c.begin.ensures.1 _ c.begin.ensures.2 _ _ c.in_turn.ensures c.load-plan.result c.load-plan.ensures _ c.all-quotations.result c.all-quotations.ensures,
       replay_fits a.n a.kinds.now a.arguments.now a.octets.now a.answers.now (slices a.counts.now a.states.now a.fields.now) a.walks.now a.out.now (ok (goal.at.four-requires c).Else-asked-lt256).0 (ok (goal.at.four-requires c).Else-asked-lt256).1 (ok (goal.at.four-requires c).Else-asked-lt256).2 c.all-quotations.result,
     )
 
@@ -50,4 +50,4 @@ pub returns : goal.returns
 returns c =
     let a = c.args in
     replay_made a.n a.kinds.now a.arguments.now a.octets.now a.answers.now (slices a.counts.now a.states.now a.fields.now) a.walks.now a.out.now (ok (goal.at.returns c).Else-asked-lt256).0 (ok (goal.at.returns c).Else-asked-lt256).1 (ok (goal.at.returns c).Else-asked-lt256).2
-    c.fresh.result c.fresh.ensures _ c.store.ensures _ _ c.in_turn.ensures c.load-plan.result c.load-plan.ensures _ c.all-quotations.result _ c.four.result c.all-quotations.ensures c.four.ensures
+    c.begin.ensures.0 c.begin.ensures.1 _ c.begin.ensures.2 _ _ c.in_turn.ensures c.load-plan.result c.load-plan.ensures _ c.all-quotations.result _ c.four.result c.all-quotations.ensures c.four.ensures
