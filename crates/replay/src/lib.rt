@@ -4,10 +4,13 @@
 ghost use Rattle.std.specs.Prelude.{◌≡◌};
 ghost use Rattle.plan.specs.declared.Edited.{Edited};
 ghost use Rattle.plan.specs.Promise.{Edit};
-ghost use Rattle.plan.specs.View.{no_plan};
+ghost use Rattle.plan.specs.View.{no_plan, view};
+ghost use Rattle.rules.specs.Quotations.{QuotesAll};
 ghost use Rattle.rules.specs.Rules.{fresh_rule};
-ghost use Rattle.slices.specs.Lent.{Roomy, plan_in, slices, storing};
+ghost use Rattle.slices.specs.Lent.{Roomy, lent_plan, plan_in, slices, storing};
 ghost use Rattle.replay.specs.Replayed.{LentReplay, places};
+
+use rules::{FourQuotes, Refusal};
 
 // Stores a fresh plan of n states, in a frame of its own: it is not on the stack while the calls are made.
 #[inline(never)]
@@ -20,6 +23,21 @@ fn begin(n: usize, counts: &mut [usize], states: &mut [u8], fields: &mut [u16])
 {
     let first = plan::fresh(n).plan;
     slices::store(first, counts, states, fields);
+}
+
+// The four figures of the plan that lent slices hold, in a frame of its own for the same reason.
+#[inline(never)]
+fn quoted(
+    counts: &[usize],
+    states: &[u8],
+    fields: &[u16],
+    walks: &mut [u16],
+) -> Result<FourQuotes, Refusal>
+    requires { Roomy counts.now states.now fields.now }
+    ensures { QuotesAll (view (lent_plan counts.now states.now fields.now)) walks.old walks.new result }
+{
+    let plan = slices::load(counts, states, fields);
+    quotation::all(plan, walks)
 }
 
 // Makes a list of calls in turn from a fresh plan of n states, stores the plan after it, and quotes its four figures. A call is a kind (0 mark, 1 join,
@@ -49,7 +67,6 @@ pub fn replay(
     }
     begin(n, counts, states, fields);
     runs::in_turn(kinds, arguments, octets, counts, states, fields, answers);
-    let plan = slices::load(counts, states, fields);
-    let quotations = quotation::all(plan, walks);
+    let quotations = quoted(counts, states, fields, walks);
     answers::four(quotations, out)
 }
