@@ -8,7 +8,7 @@ use Prim.Native.Nat.{ℕ}
 use lib.ListN.{length, drop, length-map}
 use lib.Seq.{drop_at}
 use Rattle.graph.specs.Graph.{Graph, State, Transition, states, count}
-use Rattle.rules.specs.Answer.{Accepted, Answer}
+use Rattle.rules.specs.Answer.{Answer}
 use Rattle.std.proofs.Common.{Ok, Err}
 use Rattle.rules.specs.Calls.{Call, step}
 use Rattle.rules.specs.Refusal.{Result, accepted, refused, answer_of, said, code}
