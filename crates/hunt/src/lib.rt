@@ -22,24 +22,27 @@ pub fn hunt(
     ensures { (m : ℕ) (from : List ℕ) → Entered (arrays n m marks.now from to.now) out.now.head out.now.link rank.now via.now
         → Hunted (arrays n m marks.now from to.now) rank.now result }
 {
+    let mut dead = None;
     'states: for s in 0..n {
         if 0 < rank[s] {
             let mut t = usize::from(out.head[s]);
             if t == NONE {
                 if via[s] == NONE as u16 {
-                    return Some(s);
+                    dead = Some(s);
+                    break 'states;
                 }
             }
             'transitions: while t < NONE {
                 let v = usize::from(to[t]);
                 if out.head[v] == NONE as u16 {
                     if !is_final(marks[v]) {
-                        return Some(v);
+                        dead = Some(v);
+                        break 'states;
                     }
                 }
                 t = usize::from(out.link[t]);
             }
         }
     }
-    None
+    dead
 }
