@@ -105,7 +105,9 @@ pub fn finish(edited: Edited, counts: &mut [usize], states: &mut [u8], fields: &
     }
 }
 
-// The same for a call on the plan that the slices hold. Its fields are lent where they lie: a plan value of its own would be one more copy.
+// The same for a call on the plan that the slices hold. Its fields are lent where they lie: a plan value of its own would be one more copy. It is put into its
+// callers: as a function of its own it would have one more on the stack.
+#[inline(always)]
 pub fn update(edited: Edited, counts: &mut [usize], states: &mut [u8], fields: &mut [u16]) -> u32
     requires { Roomy counts.old states.old fields.old
         × Updates edited.answer edited.plan (slices counts.old states.old fields.old) }
