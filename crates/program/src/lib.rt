@@ -36,7 +36,7 @@ pub fn fault(rt: &HostRuntime, line: &[u8]) -> ExitCode {
 }
 
 // Reads standard input until the places are full, the input ends or a read fails, and says how many octets it put at their front.
-fn read_full(rt: &HostRuntime, octets: &mut [u8]) -> usize
+pub fn read_full(rt: &HostRuntime, octets: &mut [u8]) -> usize
     ensures { result ≤ length octets.new }
 {
     let mut input = rt.stdin();
@@ -53,7 +53,7 @@ fn read_full(rt: &HostRuntime, octets: &mut [u8]) -> usize
 
 // Whether standard input, of which n octets were read, holds that many or is known to hold enough. After a read that failed it is not at its end: the
 // next one fails too, or finds more.
-fn is_read(rt: &HostRuntime, n: usize, enough: usize) -> bool {
+pub fn is_read(rt: &HostRuntime, n: usize, enough: usize) -> bool {
     if n >= enough {
         return true;
     }

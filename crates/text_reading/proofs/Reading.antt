@@ -1,11 +1,12 @@
 -- A form, read piece by piece from a place: where the form is at its end nothing more is read (`form_end`); a word at its front is passed (`form_word`); a number at its front stands
--- before those that follow (`form_number`). Off the form nothing follows. Last, what callers cite: each number of a form that was read is the one told, but for where it was cut off
+-- before those that follow (`form_number`). Off the form nothing follows: neither behind a piece that is off it (`form_word-off`, `form_number-off`), nor where what stands behind
+-- the piece is (`form_word-rest`, `form_number-rest`). What is read needs no place in the text (`form_end-read`, `form_word-read`, `form_number-read`). Last, what callers cite: each number of a form that was read is the one told, but for where it was cut off
 -- (`number_cut`). Assumes nothing.
 use Prim.Native.Nat.{ℕ, zero, suc, ◌≤◌}
 use mathlib.Core.List.{List, [], ◌∷◌, map}
 use mathlib.Core.Path.{◌≡◌, refl, sym, ap, ◌∙◌}
-use lib.ListN.{length, get_or}
-use Rattle.aldebaran.specs.Form.{Piece, word, number, Reading, off, and_then, read_form}
+use lib.ListN.{length, get_or, drop}
+use Rattle.aldebaran.specs.Form.{Piece, word, number, Reading, off, on, and_then, read_form}
 use Rattle.scan.specs.declared.Taken.{Taken}
 use Rattle.scan.specs.Places.{word_then, number_then, cut, Passed, Tells}
 use Rattle.text_reading.specs.Forms.{form_then, TellsForm}
@@ -38,6 +39,29 @@ module _ (text : List ℕ) where
   pub form_number-off : (at : ℕ) (form : List Piece) → number_then text at ≡ off → form_then text at (number ∷ form) ≡ off
   unfolding and_then read_form
   form_number-off at form e = rw e refl
+
+  pub form_end-read : (at : ℕ) → form_then text at [] ≡ on [] (drop at text)
+  unfolding read_form
+  form_end-read at = refl
+
+  pub form_word-read : (at k : ℕ) (w : List ℕ) (form : List Piece) → word_then text at w ≡ on [] (drop k text)
+      → form_then text at (word w ∷ form) ≡ form_then text k form
+  unfolding and_then read_form
+  form_word-read at k w form e = rw e refl
+
+  pub form_number-read : (at k v : ℕ) (form : List Piece) → number_then text at ≡ on v (drop k text)
+      → form_then text at (number ∷ form) ≡ and_then (form_then text k form) (λ vs rest. on (v ∷ vs) rest)
+  unfolding and_then read_form
+  form_number-read at k v form e = rw e refl
+
+  pub form_word-rest : (at k : ℕ) (w : List ℕ) (form : List Piece) → Passed text (word_then text at w) k
+      → form_then text k form ≡ off → form_then text at (word w ∷ form) ≡ off
+  form_word-rest at k w form e r = form_word-read at k w form e.rest ∙ r
+
+  pub form_number-rest : (at : ℕ) (r : Taken) (form : List Piece) → Tells text (number_then text at) r
+      → form_then text r.next form ≡ off → form_then text at (number ∷ form) ≡ off
+  unfolding and_then
+  form_number-rest at r form e o = form_number-read at r.next e.number form e.told ∙ rw o refl
 
 -- ---- what was read
 
