@@ -84,14 +84,13 @@ pub fn reach(n: usize, marks: &[u8; 512], to: &[u16; 2048], out: &Chain) -> Sear
         order: [0; 512],
         via: [0; 512],
     };
-    let found = explore(n, marks, to, out, &mut table);
-    if let Reach::Ends(_) = found {
-        if let Some(dead) = hunt::hunt(n, marks, to, out, &table.rank, &table.via) {
-            return Searched {
-                found: Reach::DeadEnd(dead),
-                table,
-            };
-        }
-    }
+    let explored = explore(n, marks, to, out, &mut table);
+    let found = match explored {
+        Reach::Ends(left) => match hunt::hunt(n, marks, to, out, &table.rank, &table.via) {
+            Some(dead) => Reach::DeadEnd(dead),
+            None => Reach::Ends(left),
+        },
+        other => other,
+    };
     Searched { found, table }
 }

@@ -1,5 +1,5 @@
--- `reach::explore::descend` meets its contract. The loop's invariant: in whatever graph the search was underway c.args.table.now the loop it still is, and what was entered
--- c.args.table.now the loop stays so. The measure is the work that is left. Assumes nothing.
+-- `reach::explore::descend` meets its contract. The loop's invariant: in whatever graph the search was underway before the loop it still is, and what was entered
+-- before the loop stays so. The measure is the work that is left. Assumes nothing.
 use Prim.Native.Nat.{ℕ, ◌<◌}
 use mathlib.Core.List.{List}
 use mathlib.Core.Path.{◌≡◌}
