@@ -1,4 +1,4 @@
--- From what the search left c.args.searched.now.table to the greatest figure, where it is no number (values' `best-quoted` has the numbers).
+-- From what the search left behind to the greatest figure, where it is no number (values' `best-quoted` has the numbers).
 --
 -- 1. A loop: the states on the stack are the first states of a walk, whose last transition leads back to one of them (`loop-shown`).
 -- 2. A rank that falls, from all starts (values' `falling`): no walk goes on forever. Up the tree the rank rises (`rising`), so a state that was entered

@@ -1,2 +1,2 @@
--- From what the search left c.args.searched.now.table to the graph's greatest figure.
+-- From what the search left behind to the graph's greatest figure.
 pub mod GreatestFigure

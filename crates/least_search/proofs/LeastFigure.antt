@@ -2,7 +2,7 @@
 --
 -- 1. Where the best first step costs B: a route from s costs at least the key of s, or at least B (`route-bound` of graph's certificates), so a route
 --    that begins with a step from a start costs at least B. Within the states whose key is at most B some transition accounts for the key exactly, and each that does leads
---    to a lower key: so a route can be read off c.args.searched.now.table the step (`leading`), and costs B with it. An unfinished start is none of the states c.args.searched.now.table: its key would be below
+--    to a lower key: so a route can be read off behind the step (`leading`), and costs B with it. An unfinished start is none of the states behind: its key would be below
 --    B, and so would what some step out of it costs (`higher`).
 -- 2. Where no first step leads to a key: from each state with a key a route can be followed that visits no state twice and costs the key, so the key is far
 --    below `far` (`key_bound`); so a state with a transition to one with a key has a key, and no start leads to an answer (`no-route`).
@@ -96,7 +96,7 @@ module _ {A : Arrays} {weight close key : List ℕ} (keyed : Keyed A weight clos
       within = λ u. le-leb (at key (at A.to t)) B (omega (arith, found.2));
     }
 
-    -- an unfinished start with a key up to that of the state c.args.searched.now.table would be a better beginning
+    -- an unfinished start with a key up to that of the state behind would be a better beginning
     higher : UnfinishedIn A.marks (at A.from t) → UnfinishedIn A.marks (at A.to t) → at key (at A.from t) ≤ at key (at A.to t) → ⊥
     higher u v l =
         let s = at A.from t in

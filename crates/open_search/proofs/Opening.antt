@@ -38,8 +38,6 @@ use Rattle.open_search.specs.Open.{NoneOpen, Ended}
 
 -- ---- 1
 
--- ---- 1
-
 -- where the search came to its end, all that it entered was left
 pub ended_ranked : (A : Arrays) (a : Table) (found : Reach) → Reached A a found → Ended found → (done : ℕ) × Ranked A a done
 ended_ranked A a NoStart reached ended = absurd ended
